@@ -1,0 +1,28 @@
+-- A lane of 32 bits is put as two of 16.
+use mathlib.Core.Path.{_≡_, _∙_, sym, ap}
+use mathlib.Core.List.{List}
+use Prim.Native.Nat.{ℕ, _+_, _*_, _/_, _%_, _^_}
+use native.Mathlib.Omega.{arith}
+use borrow.Author.Needs.{needs}
+use lib.ListN.{length}
+use Rattle.lane.specs.Inner.Put.{put}
+use Rattle.lane.proofs.Build.{put-join}
+use Rattle.lane.proofs.vector.put32.Statement.{statement}
+use Rattle.lane.proofs.vector.put32.Tie as tie
+
+returns : tie.Need-returns
+returns c =
+    let s = c .before .before .before .before in
+    let long = s .pre .1 .long in
+    record {
+      sixteen = c .put162 .ensures .sixteen;
+      same =
+          c .put162 .ensures .same ∙ ap (λ (v : List ℕ). put 2 v (2 * s .args .i + 1) (s .args .x / 2 ^ 16)) (c .before .before .put16 .ensures .same)
+          ∙ sym (put-join 2 (s .args .v .now) (s .args .i) (s .args .x) (omega arith));
+    }
+
+pub put32-spec : {M : Type 1} → statement M
+put32-spec =
+    tie.close
+    (tie.spec (λ c. search needs) (λ c. search needs) (λ c κs. search needs) (λ c. search needs) (λ c. search needs)
+    (λ c. search needs) (λ c κs. search needs) returns)

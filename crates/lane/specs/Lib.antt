@@ -1,0 +1,6 @@
+pub mod Shape
+pub mod Vector
+pub mod Scalar
+pub mod Op
+pub mod Answer
+pub mod Inner

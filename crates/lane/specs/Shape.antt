@@ -1,0 +1,46 @@
+-- The four integer shapes (01, "Values and shapes"; 000, "Modulo integer interpretations"): a shape is known by its lane's width.
+use Prim.Native.Nat.{ℕ, _-_, _/_, _^_}
+use lib.IntN.{ℤ, pos, negsuc}
+use mir.Syntax.{Width, w8, w16, w32, w64, w128}
+use mir.Val.{bits}
+
+abbrev pub i8x16 : Width
+i8x16 = w8
+
+abbrev pub i16x8 : Width
+i16x8 = w16
+
+abbrev pub i32x4 : Width
+i32x4 = w32
+
+abbrev pub i64x2 : Width
+i64x2 = w64
+
+abbrev pub lanes : Width → ℕ
+lanes w = 128 / bits w
+
+-- -2^(w-1), 2^(w-1) - 1 and 2^w - 1
+abbrev pub least : Width → ℤ
+least w = negsuc (2 ^ (bits w - 1) - 1)
+
+abbrev pub largest : Width → ℤ
+largest w = pos (2 ^ (bits w - 1) - 1)
+
+abbrev pub allOnes : Width → ℕ
+allOnes w = 2 ^ bits w - 1
+
+-- the shape whose lanes have half the width
+abbrev pub half : Width → Width
+half w8 = w8
+half w16 = w8
+half w32 = w16
+half w64 = w32
+half w128 = w64
+
+-- and twice the width
+abbrev pub twice : Width → Width
+twice w8 = w16
+twice w16 = w32
+twice w32 = w64
+twice w64 = w128
+twice w128 = w128
