@@ -62,10 +62,10 @@ iaddsat s w x y = sat s w (value s w x +ℤ value s w y)
 unfoldable pub isubsat : Sign → Width → ℕ → ℕ → ℕ
 isubsat s w x y = sat s w (value s w x -ℤ value s w y)
 
-unfoldable pub imin : Sign → Width → ℕ → ℕ → ℕ
+abbrev pub imin : Sign → Width → ℕ → ℕ → ℕ
 imin s w x y = cond (ltZ (value s w x) (value s w y)) x y
 
-unfoldable pub imax : Sign → Width → ℕ → ℕ → ℕ
+abbrev pub imax : Sign → Width → ℕ → ℕ → ℕ
 imax s w x y = cond (ltZ (value s w x) (value s w y)) y x
 
 abbrev pub iavgr : ℕ → ℕ → ℕ
@@ -96,10 +96,10 @@ ieq w x y = mask w (eqb x y)
 abbrev pub ine : Width → ℕ → ℕ → ℕ
 ine w x y = mask w (not (eqb x y))
 
-unfoldable pub ilt : Sign → Width → ℕ → ℕ → ℕ
+abbrev pub ilt : Sign → Width → ℕ → ℕ → ℕ
 ilt s w x y = mask w (ltZ (value s w x) (value s w y))
 
-unfoldable pub ile : Sign → Width → ℕ → ℕ → ℕ
+abbrev pub ile : Sign → Width → ℕ → ℕ → ℕ
 ile s w x y = mask w (leZ (value s w x) (value s w y))
 
 -- ---- between two widths; narrowing reads its input as signed for both endings
