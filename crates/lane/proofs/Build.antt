@@ -7,7 +7,7 @@ use native.Mathlib.Nat.{mul-comm, mul-assoc, zero-mul, suc-mul, mul-suc, mul-add
 use native.Mathlib.Numerals.{add-one}
 use native.Mathlib.Omega.{arith}
 use lib.Arith.{digits-div, digits-lt}
-use lib.ListN.{length, take, drop, getD, set, length-append, length-take, length-drop, length-set}
+use lib.ListN.{replicate, length, take, drop, getD, set, length-append, length-take, length-drop, length-set}
 use lib.Seq.{take-add, drop-drop, length-take-le, take-at, drop-at, take-all, set-split, getD-set-same, getD-set-other}
 use lib.Pow.{pow-pos, pow-add}
 use mir.Syntax.{Width, w8}
@@ -77,6 +77,14 @@ bytes-set (b ∷ v) (suc i) x f h (suc k) = bytes-set v i x f (λ j. h (suc j)) 
 
 pub sixteen-set : (v : List ℕ) (i x : ℕ) → x < 2 ^ 8 → Sixteen v → Sixteen (set v i x)
 sixteen-set v i x f s = record { long = length-set v i x ∙ s .long; bytes = bytes-set v i x f (s .bytes) }
+
+pub sixteen-zeros : Sixteen (replicate 16 0)
+sixteen-zeros = record { long = refl; bytes = zeros 16 }
+  where
+    zeros : (n : ℕ) → Bytes (replicate n 0)
+    zeros zero k = record { fits = zero-lt-suc 255 }
+    zeros (suc n) zero = record { fits = zero-lt-suc 255 }
+    zeros (suc n) (suc k) = zeros n k
 
 -- at one byte putting a lane is a store
 pub put-byte : (v : List ℕ) (n x : ℕ) → x < 2 ^ 8 → n < length v → put 1 v n x ≡ set v n x

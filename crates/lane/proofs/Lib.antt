@@ -5,3 +5,4 @@ pub mod Wrap
 pub mod Twos
 pub mod Saturate
 pub mod Product
+pub mod Told

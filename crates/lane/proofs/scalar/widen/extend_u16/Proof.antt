@@ -1,0 +1,13 @@
+-- A lane of 16 bits fits 32.
+use borrow.Author.Needs.{needs}
+use native.Mathlib.Omega.{arith}
+use Rattle.lane.specs.Scalar.{iextend}
+use Rattle.lane.proofs.scalar.widen.extend_u16.Statement.{statement}
+use Rattle.lane.proofs.scalar.widen.extend_u16.Tie as tie
+
+returns : tie.Need-returns
+unfolding iextend
+returns c = omega arith
+
+pub extend-u16-spec : {M : Type 1} → statement M
+extend-u16-spec = tie.close (tie.spec returns)

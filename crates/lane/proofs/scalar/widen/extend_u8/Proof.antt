@@ -1,0 +1,13 @@
+-- A lane of 8 bits fits 16.
+use borrow.Author.Needs.{needs}
+use native.Mathlib.Omega.{arith}
+use Rattle.lane.specs.Scalar.{iextend}
+use Rattle.lane.proofs.scalar.widen.extend_u8.Statement.{statement}
+use Rattle.lane.proofs.scalar.widen.extend_u8.Tie as tie
+
+returns : tie.Need-returns
+unfolding iextend
+returns c = omega arith
+
+pub extend-u8-spec : {M : Type 1} → statement M
+extend-u8-spec = tie.close (tie.spec returns)

@@ -1,0 +1,22 @@
+-- The bits of the exact product.
+use borrow.Author.Needs.{needs}
+use mathlib.Core.Path.{_∙_, ap, sym, subst}
+use Prim.Native.Nat.{_^_, _<_}
+use mir.Syntax.{w8, w16}
+use lib.IntN.{ℤ}
+use lib.Signed.{mag}
+use mir.Val.{ofZ, hbits}
+use Rattle.lane.specs.Scalar.{wrap, iextmul}
+use Rattle.lane.proofs.Twos.{crossed}
+use Rattle.lane.proofs.Wrap.{wrap-held}
+use Rattle.lane.proofs.scalar.widen.extmul_s8.Statement.{statement}
+use Rattle.lane.proofs.scalar.widen.extmul_s8.Tie as tie
+
+returns : tie.Need-returns
+unfolding iextmul
+returns c =
+    let s = c .before .product-s8 in
+    c .bits16 .ensures ∙ ap (ofZ w16) (crossed w16 (s .result) (s .ok)) ∙ sym (wrap-held w16 (s .result) (s .ok)) ∙ ap (wrap w16) (s .ensures)
+
+pub extmul-s8-spec : {M : Type 1} → statement M
+extmul-s8-spec = tie.close (tie.spec (λ c κs. search needs) (λ c κs. search needs) returns)
