@@ -6,7 +6,7 @@ use native.Mathlib.Omega.{arith}
 use borrow.Author.Needs.{needs}
 use lib.ListN.{length}
 use Rattle.lane.specs.Inner.Put.{put}
-use Rattle.lane.proofs.Build.{put-join}
+use Rattle.lane.proofs.Laws.Build.{put-join}
 use Rattle.lane.proofs.vector.put64.Statement.{statement}
 use Rattle.lane.proofs.vector.put64.Tie as tie
 

@@ -2,7 +2,7 @@
 use mathlib.Core.Path.{sym}
 use native.Mathlib.Omega.{arith}
 use borrow.Author.Needs.{needs}
-use Rattle.lane.proofs.Build.{put-byte, sixteen-set}
+use Rattle.lane.proofs.Laws.Build.{put-byte, sixteen-set}
 use Rattle.lane.proofs.vector.put8.Statement.{statement}
 use Rattle.lane.proofs.vector.put8.Tie as tie
 

@@ -7,7 +7,7 @@ use lib.ListN.{List·getD-eq-default}
 use mir.Syntax.{w16}
 use Rattle.lane.specs.Scalar.{mask, iq15mulrsat}
 use Rattle.lane.specs.Inner.Scalars.{always, ordered, saturated, scalar16}
-use Rattle.lane.proofs.Told.{told, past}
+use Rattle.lane.proofs.Laws.Told.{told, past}
 use Rattle.lane.proofs.lanes.lanewise.scalar16.Statement.{statement}
 use Rattle.lane.proofs.lanes.lanewise.scalar16.Tie as tie
 

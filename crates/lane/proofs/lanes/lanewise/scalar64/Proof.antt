@@ -5,7 +5,7 @@ use lib.ListN.{List·getD-eq-default}
 use mir.Syntax.{w64}
 use Rattle.lane.specs.Scalar.{mask}
 use Rattle.lane.specs.Inner.Scalars.{always, scalar64}
-use Rattle.lane.proofs.Told.{told, past}
+use Rattle.lane.proofs.Laws.Told.{told, past}
 use Rattle.lane.proofs.lanes.lanewise.scalar64.Statement.{statement}
 use Rattle.lane.proofs.lanes.lanewise.scalar64.Tie as tie
 

@@ -3,7 +3,7 @@ use borrow.Author.Needs.{needs}
 use mathlib.Core.Path.{sym}
 use mir.Syntax.{w8}
 use lib.Signed.{leZ}
-use Rattle.lane.proofs.Twos.{test-is}
+use Rattle.lane.proofs.Laws.Twos.{test-is}
 use Rattle.lane.proofs.scalar.compare.at_most_s8.Statement.{statement}
 use Rattle.lane.proofs.scalar.compare.at_most_s8.Tie as tie
 

@@ -3,7 +3,7 @@ use borrow.Author.Needs.{needs}
 use mathlib.Core.Path.{sym}
 use mir.Syntax.{w64}
 use lib.Signed.{ltZ}
-use Rattle.lane.proofs.Twos.{test-is}
+use Rattle.lane.proofs.Laws.Twos.{test-is}
 use Rattle.lane.proofs.scalar.compare.less_s64.Statement.{statement}
 use Rattle.lane.proofs.scalar.compare.less_s64.Tie as tie
 

@@ -4,7 +4,7 @@ use native.Mathlib.Omega.{arith}
 use mir.Syntax.{w8}
 use Prim.Native.Nat.{_+_}
 use Rattle.lane.specs.Scalar.{iaddsat}
-use Rattle.lane.proofs.Saturate.{sat-nat, sat-over}
+use Rattle.lane.proofs.Laws.Saturate.{sat-nat, sat-over}
 use Rattle.lane.proofs.scalar.saturating.add_sat_u8.Statement.{statement}
 use Rattle.lane.proofs.scalar.saturating.add_sat_u8.Tie as tie
 

@@ -4,7 +4,7 @@ use mathlib.Core.Path.{_∙_}
 use mir.Syntax.{w8, w16}
 use mir.Val.{toZ, ofZ}
 use Rattle.lane.specs.Shape.{least, largest}
-use Rattle.lane.proofs.Twos.{crossed, clamp-low, clamp-high, clamp-mid, in-range}
+use Rattle.lane.proofs.Laws.Twos.{crossed, clamp-low, clamp-high, clamp-mid, in-range}
 use Rattle.lane.proofs.scalar.saturating.clamp8.Statement.{statement}
 use Rattle.lane.proofs.scalar.saturating.clamp8.Tie as tie
 

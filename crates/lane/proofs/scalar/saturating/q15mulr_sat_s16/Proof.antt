@@ -8,7 +8,7 @@ use mir.Syntax.{w16, w32}
 use mir.Val.{toZ, ofZ}
 use mir.ValLaws.{toZ-fits}
 use Rattle.lane.specs.Scalar.{S, value, sat, iq15mulrsat}
-use Rattle.lane.proofs.Twos.{crossed, shr-is, round-fits}
+use Rattle.lane.proofs.Laws.Twos.{crossed, shr-is, round-fits}
 use Rattle.lane.proofs.scalar.saturating.q15mulr_sat_s16.Statement.{statement}
 use Rattle.lane.proofs.scalar.saturating.q15mulr_sat_s16.Tie as tie
 

@@ -5,8 +5,8 @@ use mir.Syntax.{w16, w32}
 use mir.Val.{ofZ}
 use Rattle.lane.specs.Shape.{least, largest}
 use Rattle.lane.specs.Scalar.{clamp}
-use Rattle.lane.proofs.Twos.{crossed}
-use Rattle.lane.proofs.Saturate.{sat-held}
+use Rattle.lane.proofs.Laws.Twos.{crossed}
+use Rattle.lane.proofs.Laws.Saturate.{sat-held}
 use Rattle.lane.proofs.scalar.saturating.sat_s16.Statement.{statement}
 use Rattle.lane.proofs.scalar.saturating.sat_s16.Tie as tie
 

@@ -6,8 +6,8 @@ use lib.IntN.{pos}
 use mir.Val.{toZ, ofZ}
 use Rattle.lane.specs.Shape.{allOnes}
 use Rattle.lane.specs.Scalar.{wrap, sat}
-use Rattle.lane.proofs.Twos.{clamp-low, clamp-high, clamp-mid, in-range-u}
-use Rattle.lane.proofs.Saturate.{wrap-within}
+use Rattle.lane.proofs.Laws.Twos.{clamp-low, clamp-high, clamp-mid, in-range-u}
+use Rattle.lane.proofs.Laws.Saturate.{wrap-within}
 use Rattle.lane.proofs.scalar.saturating.sat_u8.Statement.{statement}
 use Rattle.lane.proofs.scalar.saturating.sat_u8.Tie as tie
 

@@ -3,7 +3,7 @@ use borrow.Author.Needs.{needs}
 use native.Mathlib.Omega.{arith}
 use mir.Syntax.{w8}
 use Rattle.lane.specs.Scalar.{isubsat}
-use Rattle.lane.proofs.Saturate.{sat-difference, sat-below}
+use Rattle.lane.proofs.Laws.Saturate.{sat-difference, sat-below}
 use Rattle.lane.proofs.scalar.saturating.sub_sat_u8.Statement.{statement}
 use Rattle.lane.proofs.scalar.saturating.sub_sat_u8.Tie as tie
 

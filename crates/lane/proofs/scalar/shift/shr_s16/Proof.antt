@@ -9,8 +9,8 @@ use mir.ValLaws.{toZ-fits}
 use lib.IntN.{ℤ}
 use lib.Signed.{shrZ, mag-shr}
 use Rattle.lane.specs.Scalar.{S, value, ishr}
-use Rattle.lane.proofs.Twos.{shr-is}
-use Rattle.lane.proofs.Wrap.{wrap-held}
+use Rattle.lane.proofs.Laws.Twos.{shr-is}
+use Rattle.lane.proofs.Laws.Wrap.{wrap-held}
 use Rattle.lane.proofs.scalar.shift.shr_s16.Statement.{statement}
 use Rattle.lane.proofs.scalar.shift.shr_s16.Tie as tie
 

@@ -3,7 +3,7 @@ use mathlib.Core.Path.{_∙_, ap}
 use mir.Syntax.{w64}
 use mir.Val.{toZ, ofZ}
 use mir.ValLaws.{toZ-ofZ}
-use Rattle.lane.proofs.Twos.{held, flip-sfits, bits-cast, bits-neg, bits-cast-pos, bits-pos}
+use Rattle.lane.proofs.Laws.Twos.{held, flip-sfits, bits-cast, bits-neg, bits-cast-pos, bits-pos}
 use Rattle.lane.proofs.scalar.sign.bits64.Statement.{statement}
 use Rattle.lane.proofs.scalar.sign.bits64.Tie as tie
 

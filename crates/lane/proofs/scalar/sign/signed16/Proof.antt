@@ -1,7 +1,7 @@
 -- The bits of a lane of 16, read as signed.
 use borrow.Author.Needs.{needs}
 use mir.Syntax.{w16}
-use Rattle.lane.proofs.Twos.{signed-fits, signed-high}
+use Rattle.lane.proofs.Laws.Twos.{signed-fits, signed-high}
 use Rattle.lane.proofs.scalar.sign.signed16.Statement.{statement}
 use Rattle.lane.proofs.scalar.sign.signed16.Tie as tie
 

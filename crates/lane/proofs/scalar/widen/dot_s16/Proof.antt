@@ -5,7 +5,7 @@ use mathlib.Core.Path.{_∙_, ap₂, sym}
 use mir.Syntax.{w16, w32}
 use lib.IntN.{_*ℤ_}
 use Rattle.lane.specs.Scalar.{S, value, iextmul, idot}
-use Rattle.lane.proofs.Wrap.{wrap-add}
+use Rattle.lane.proofs.Laws.Wrap.{wrap-add}
 use Rattle.lane.proofs.scalar.widen.dot_s16.Statement.{statement}
 use Rattle.lane.proofs.scalar.widen.dot_s16.Tie as tie
 

@@ -4,8 +4,8 @@ use mathlib.Core.Path.{_∙_, ap, sym}
 use mir.Syntax.{w16, w32}
 use mir.Val.{ofZ}
 use Rattle.lane.specs.Scalar.{wrap, iextadd}
-use Rattle.lane.proofs.Twos.{crossed}
-use Rattle.lane.proofs.Wrap.{wrap-held}
+use Rattle.lane.proofs.Laws.Twos.{crossed}
+use Rattle.lane.proofs.Laws.Wrap.{wrap-held}
 use Rattle.lane.proofs.scalar.widen.extadd_s16.Statement.{statement}
 use Rattle.lane.proofs.scalar.widen.extadd_s16.Tie as tie
 

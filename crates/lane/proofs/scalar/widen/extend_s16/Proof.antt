@@ -5,8 +5,8 @@ use mir.Syntax.{w16, w32}
 use mir.Val.{ofZ}
 use mir.ValLaws.{toZ-fits}
 use Rattle.lane.specs.Scalar.{S, value, iextend}
-use Rattle.lane.proofs.Twos.{cast-fits, cast-is, widen-fits}
-use Rattle.lane.proofs.Wrap.{wrap-held}
+use Rattle.lane.proofs.Laws.Twos.{cast-fits, cast-is, widen-fits}
+use Rattle.lane.proofs.Laws.Wrap.{wrap-held}
 use Rattle.lane.proofs.scalar.widen.extend_s16.Statement.{statement}
 use Rattle.lane.proofs.scalar.widen.extend_s16.Tie as tie
 

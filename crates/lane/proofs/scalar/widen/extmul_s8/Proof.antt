@@ -7,8 +7,8 @@ use lib.IntN.{ℤ}
 use lib.Signed.{mag}
 use mir.Val.{ofZ, hbits}
 use Rattle.lane.specs.Scalar.{wrap, iextmul}
-use Rattle.lane.proofs.Twos.{crossed}
-use Rattle.lane.proofs.Wrap.{wrap-held}
+use Rattle.lane.proofs.Laws.Twos.{crossed}
+use Rattle.lane.proofs.Laws.Wrap.{wrap-held}
 use Rattle.lane.proofs.scalar.widen.extmul_s8.Statement.{statement}
 use Rattle.lane.proofs.scalar.widen.extmul_s8.Tie as tie
 

@@ -3,7 +3,7 @@ use borrow.Author.Needs.{needs}
 use native.Mathlib.Nat.{mod-eq-of-lt}
 use mathlib.Core.Path.{sym}
 use Rattle.lane.specs.Scalar.{iextmul}
-use Rattle.lane.proofs.Product.{below}
+use Rattle.lane.proofs.Laws.Product.{below}
 use Rattle.lane.proofs.scalar.widen.extmul_u8.Statement.{statement}
 use Rattle.lane.proofs.scalar.widen.extmul_u8.Tie as tie
 

@@ -3,7 +3,7 @@ use borrow.Author.Needs.{needs}
 use mathlib.Core.Path.{_∙_, ap}
 use mir.Syntax.{w8, w16}
 use Rattle.lane.specs.Scalar.{U, sat, inarrow}
-use Rattle.lane.proofs.Twos.{crossed}
+use Rattle.lane.proofs.Laws.Twos.{crossed}
 use Rattle.lane.proofs.scalar.widen.narrow_u8.Statement.{statement}
 use Rattle.lane.proofs.scalar.widen.narrow_u8.Tie as tie
 

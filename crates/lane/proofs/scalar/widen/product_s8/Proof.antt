@@ -3,7 +3,7 @@ use borrow.Author.Needs.{needs}
 use mathlib.Core.Path.{_∙_, ap₂}
 use mir.Syntax.{w8, w16}
 use lib.IntN.{_*ℤ_}
-use Rattle.lane.proofs.Twos.{cast-fits, on-fits, on-is, product-fits}
+use Rattle.lane.proofs.Laws.Twos.{cast-fits, on-fits, on-is, product-fits}
 use Rattle.lane.proofs.scalar.widen.product_s8.Statement.{statement}
 use Rattle.lane.proofs.scalar.widen.product_s8.Tie as tie
 

@@ -5,8 +5,8 @@ use mir.Syntax.{w16}
 use lib.IntN.{ℤ, pos}
 use lib.Signed.{ltZ}
 use Rattle.lane.specs.Scalar.{iabs}
-use Rattle.lane.proofs.Twos.{crossed, abs-neg, abs-pos, abs-held}
-use Rattle.lane.proofs.Wrap.{wrap-nat, wrap-neg}
+use Rattle.lane.proofs.Laws.Twos.{crossed, abs-neg, abs-pos, abs-held}
+use Rattle.lane.proofs.Laws.Wrap.{wrap-nat, wrap-neg}
 use Rattle.lane.proofs.scalar.wrapping.abs16.Statement.{statement}
 use Rattle.lane.proofs.scalar.wrapping.abs16.Tie as tie
 

@@ -1,6 +1,6 @@
 -- A product of two lanes of 16 bits fits 32.
 use borrow.Author.Needs.{needs}
-use Rattle.lane.proofs.Product.{below}
+use Rattle.lane.proofs.Laws.Product.{below}
 use Rattle.lane.proofs.scalar.wrapping.mul16.Statement.{statement}
 use Rattle.lane.proofs.scalar.wrapping.mul16.Tie as tie
 

@@ -1,6 +1,6 @@
 -- A product of two lanes of 32 bits fits 64.
 use borrow.Author.Needs.{needs}
-use Rattle.lane.proofs.Product.{below}
+use Rattle.lane.proofs.Laws.Product.{below}
 use Rattle.lane.proofs.scalar.wrapping.mul32.Statement.{statement}
 use Rattle.lane.proofs.scalar.wrapping.mul32.Tie as tie
 

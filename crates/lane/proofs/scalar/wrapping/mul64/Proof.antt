@@ -3,7 +3,7 @@ use borrow.Author.Needs.{needs}
 use Prim.Native.Nat.{ℕ, _+_, _*_, _%_, _^_}
 use mathlib.Core.Path.{_∙_, ap}
 use native.Mathlib.Omega.{arith}
-use Rattle.lane.proofs.Product.{below, mul-halves}
+use Rattle.lane.proofs.Laws.Product.{below, mul-halves}
 use Rattle.lane.proofs.scalar.wrapping.mul64.Statement.{statement}
 use Rattle.lane.proofs.scalar.wrapping.mul64.Tie as tie
 

@@ -4,8 +4,8 @@ use mathlib.Core.Path.{_≡_, _∙_, ap, sym}
 use mir.Syntax.{w32}
 use mir.Val.{ofZ}
 use mir.ValLaws.{ofZ-toZ}
-use Rattle.lane.proofs.Twos.{neg-fits, neg-held, neg-least}
-use Rattle.lane.proofs.Wrap.{wrap-neg}
+use Rattle.lane.proofs.Laws.Twos.{neg-fits, neg-held, neg-least}
+use Rattle.lane.proofs.Laws.Wrap.{wrap-neg}
 use Rattle.lane.proofs.scalar.wrapping.neg32.Statement.{statement}
 use Rattle.lane.proofs.scalar.wrapping.neg32.Tie as tie
 

@@ -4,7 +4,7 @@ use mathlib.Core.Path.{sym}
 use native.Mathlib.Omega.{arith}
 use mir.Syntax.{w32}
 use Rattle.lane.specs.Scalar.{isub}
-use Rattle.lane.proofs.Wrap.{wrap-minus}
+use Rattle.lane.proofs.Laws.Wrap.{wrap-minus}
 use Rattle.lane.proofs.scalar.wrapping.sub32.Statement.{statement}
 use Rattle.lane.proofs.scalar.wrapping.sub32.Tie as tie
 

@@ -6,7 +6,7 @@ use native.Mathlib.Nat.{add-mod-mod}
 use native.Mathlib.Omega.{arith}
 use mir.Syntax.{w64}
 use Rattle.lane.specs.Scalar.{isub}
-use Rattle.lane.proofs.Wrap.{wrap-minus}
+use Rattle.lane.proofs.Laws.Wrap.{wrap-minus}
 use Rattle.lane.proofs.scalar.wrapping.sub64.Statement.{statement}
 use Rattle.lane.proofs.scalar.wrapping.sub64.Tie as tie
 

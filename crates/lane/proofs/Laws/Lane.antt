@@ -11,7 +11,7 @@ use mir.Syntax.{Width, w8}
 use mir.Val.{bits}
 use Rattle.lane.specs.Shape.{lanes}
 use Rattle.lane.specs.Vector.{number, lane, Sixteen}
-use Rattle.lane.proofs.Number.{Bytes, head-byte, tail-bytes, number-append, number-lt, field-low, field-high, field-lt}
+use Rattle.lane.proofs.Laws.Number.{Bytes, head-byte, tail-bytes, number-append, number-lt, field-low, field-high, field-lt}
 
 pub lane-lt : (w : Width) (v : List ℕ) (n : ℕ) → lane w v n < 2 ^ bits w
 unfolding lane

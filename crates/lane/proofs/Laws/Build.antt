@@ -15,7 +15,7 @@ use mir.Val.{bits, bytes, Fits}
 use Rattle.lane.specs.Shape.{lanes}
 use Rattle.lane.specs.Vector.{number, le, lane, build, vec, Sixteen}
 use Rattle.lane.specs.Inner.Put.{put}
-use Rattle.lane.proofs.Number.{Bytes, length-le, number-append, number-le, le-number, le-split, le-mod, fieldOf, field-low}
+use Rattle.lane.proofs.Laws.Number.{Bytes, length-le, number-append, number-le, le-number, le-split, le-mod, fieldOf, field-low}
 
 pub length-build : (k n : ℕ) (g : ℕ → ℕ) → length (build k n g) ≡ n * k
 unfolding build

@@ -15,7 +15,7 @@ use mir.Val.{bits, hbits, Fits, SFits, toZ, ofZ}
 use mir.ValLaws.{pow-bits, toZ-pos, toZ-neg, toZ-ofZ, toZ-fits, half-full}
 use Rattle.lane.specs.Shape.{least, largest, allOnes}
 use Rattle.lane.specs.Scalar.{clamp}
-use Rattle.lane.proofs.Wrap.{sub-cases, negBits}
+use Rattle.lane.proofs.Laws.Wrap.{sub-cases, negBits}
 
 -- -1 - z turns each bit over
 pub flip-pos : (n : ℕ) → negsuc 0 -ℤ pos n ≡ negsuc n

@@ -13,7 +13,7 @@ use mir.Syntax.{Width}
 use mir.Val.{bits, hbits, Fits, ofZ}
 use Rattle.lane.specs.Shape.{least, largest, allOnes}
 use Rattle.lane.specs.Scalar.{S, U, wrap, clamp, sat}
-use Rattle.lane.proofs.Wrap.{wrap-held, sub-cases}
+use Rattle.lane.proofs.Laws.Wrap.{wrap-held, sub-cases}
 
 pub sat-held : (w : Width) (r z : ℤ) → mag r < 2 ^ hbits w → r ≡ clamp (least w) (largest w) z → ofZ w r ≡ sat S w z
 unfolding sat

@@ -1,0 +1,9 @@
+-- What the proofs of this crate share, and what a caller may use.
+pub mod Number
+pub mod Lane
+pub mod Build
+pub mod Wrap
+pub mod Twos
+pub mod Saturate
+pub mod Product
+pub mod Told
