@@ -88,13 +88,17 @@ pub data Op : Type 0 where
 
 -- ---- what they do
 
+-- the first lane of a half, of as many lanes as the wider shape has
+abbrev pub from : Half → Width → ℕ
+from Low w = 0
+from High w = lanes w
+
 abbrev pub unary : Unop → List ℕ → List ℕ
 unary Not a = le 16 (2 ^ 128 - 1 - number a)
 unary (Abs w) a = lanewise1 w (iabs w) a
 unary (Neg w) a = lanewise1 w (ineg w) a
 unary Popcnt a = lanewise1 i8x16 ipopcnt a
-unary (Extend Low s w) a = vec w (λ n. iextend s (half w) w (lane (half w) a n))
-unary (Extend High s w) a = vec w (λ n. iextend s (half w) w (lane (half w) a (lanes w + n)))
+unary (Extend h s w) a = vec w (λ n. iextend s (half w) w (lane (half w) a (from h w + n)))
 unary (ExtaddPairwise s w) a = vec w (λ n. iextadd s (half w) w (lane (half w) a (2 * n)) (lane (half w) a (2 * n + 1)))
 
 -- lane i of v, and 0 where there is none
@@ -126,8 +130,7 @@ binary Q15mulrSatS a b = lanewise2 i16x8 (iq15mulrsat i16x8) a b
 binary DotS a b =
     vec i32x4 (λ n. idot i16x8 i32x4 (lane i16x8 a (2 * n)) (lane i16x8 b (2 * n)) (lane i16x8 a (2 * n + 1)) (lane i16x8 b (2 * n + 1)))
 binary (Narrow s w) a b = vec w (λ n. inarrow s (twice w) w (lane (twice w) (a ++ b) n))
-binary (Extmul Low s w) a b = vec w (λ n. iextmul s (half w) w (lane (half w) a n) (lane (half w) b n))
-binary (Extmul High s w) a b = vec w (λ n. iextmul s (half w) w (lane (half w) a (lanes w + n)) (lane (half w) b (lanes w + n)))
+binary (Extmul h s w) a b = vec w (λ n. iextmul s (half w) w (lane (half w) a (from h w + n)) (lane (half w) b (from h w + n)))
 
 -- the bits of a where c has a one, those of b where it has none
 abbrev pub bitselect : List ℕ → List ℕ → List ℕ → List ℕ

@@ -1,2 +1,7 @@
 // All lanes: the loops that the operations of a shape share.
 pub(crate) mod lanewise;
+pub(crate) mod narrowing;
+pub(crate) mod pairing;
+pub(crate) mod shifting;
+pub(crate) mod splatting;
+pub(crate) mod widening;

@@ -1,5 +1,7 @@
 // The numbers by which a loop over lanes is told its operation. A number, not an enum: it goes by value, so that each
 // operation's loop is compiled for itself.
+
+// ---- lane by lane
 pub(crate) const ABS: u8 = 0;
 
 pub(crate) const NEG: u8 = 1;
@@ -52,3 +54,35 @@ pub(crate) const Q15MULR_SAT_S: u8 = 23;
 
 // What is left: mul at 16, 32 and 64 bits, popcnt at 8.
 pub(crate) const LAST: u8 = 24;
+
+// ---- shifts
+pub(crate) const SHL: u8 = 0;
+
+pub(crate) const SHR_S: u8 = 1;
+
+pub(crate) const SHR_U: u8 = 2;
+
+// ---- to twice the width
+pub(crate) const EXTEND_S: u8 = 0;
+
+pub(crate) const EXTEND_U: u8 = 1;
+
+pub(crate) const EXTMUL_S: u8 = 2;
+
+pub(crate) const EXTMUL_U: u8 = 3;
+
+// ---- sums of pairs, and narrowing: by their endings
+pub(crate) const SIGNED: u8 = 0;
+
+pub(crate) const UNSIGNED: u8 = 1;
+
+// ---- bitwise
+pub(crate) const AND: u8 = 0;
+
+pub(crate) const ANDNOT: u8 = 1;
+
+pub(crate) const OR: u8 = 2;
+
+pub(crate) const XOR: u8 = 3;
+
+pub(crate) const NOT: u8 = 4;

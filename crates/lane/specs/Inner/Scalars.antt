@@ -1,9 +1,10 @@
 -- Inner: which operation of a lane a number names (src/op.rt).
-use Prim.Native.Nat.{ℕ}
+use Prim.Native.Nat.{ℕ, _-_}
+use lib.Bits.{bitAnd, bitOr, bitXor}
 use mathlib.Core.List.{List, [], _∷_, _++_}
 use lib.ListN.{getD}
 use mir.Syntax.{Width, w8, w16, w32, w64}
-use Rattle.lane.specs.Scalar.{S, U, iadd, isub, imul, ineg, iabs, iaddsat, isubsat, imin, imax, iavgr, iq15mulrsat, ipopcnt, ieq, ine, ilt, ile}
+use Rattle.lane.specs.Scalar.{S, U, iadd, isub, imul, ineg, iabs, iaddsat, isubsat, imin, imax, iavgr, iq15mulrsat, ipopcnt, ieq, ine, ilt, ile, ishl, ishr, iextend, iextmul, iextadd, inarrow}
 
 -- at every width
 abbrev pub always : Width → ℕ → ℕ → List ℕ
@@ -29,3 +30,21 @@ scalar32 n x y = getD (always w32 x y ++ ordered w32 x y) n (imul w32 x y)
 
 abbrev pub scalar64 : ℕ → ℕ → ℕ → ℕ
 scalar64 n x y = getD (always w64 x y) n (imul w64 x y)
+
+-- a shift by n
+abbrev pub shifted : Width → ℕ → ℕ → ℕ → ℕ
+shifted w op n x = getD (ishl w n x ∷ ishr S w n x ∷ []) op (ishr U w n x)
+
+-- from a lane of w to one of w′
+abbrev pub widened : Width → Width → ℕ → ℕ → ℕ → ℕ
+widened w w′ op x y = getD (iextend S w w′ x ∷ iextend U w w′ x ∷ iextmul S w w′ x y ∷ []) op (iextmul U w w′ x y)
+
+abbrev pub paired : Width → Width → ℕ → ℕ → ℕ → ℕ
+paired w w′ op x y = getD (iextadd S w w′ x y ∷ []) op (iextadd U w w′ x y)
+
+abbrev pub narrowed : Width → Width → ℕ → ℕ → ℕ
+narrowed w w′ op x = getD (inarrow S w w′ x ∷ []) op (inarrow U w w′ x)
+
+-- of two numbers below m + 1, a power of two
+abbrev pub bitwise : ℕ → ℕ → ℕ → ℕ → ℕ
+bitwise m op x y = getD (bitAnd x y ∷ bitAnd x (m - y) ∷ bitOr x y ∷ bitXor x y ∷ []) op (m - x)

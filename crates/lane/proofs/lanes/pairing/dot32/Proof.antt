@@ -1,0 +1,41 @@
+-- The first i lanes are done.
+use Prim.Native.Nat.{ℕ, _≤_, _-_, _+_, _*_}
+use mathlib.Core.Path.{refl, _∙_, ap₂}
+use native.Mathlib.Omega.{arith}
+use borrow.Author.Needs.{needs}
+use mir.Syntax.{w16, w32}
+use Rattle.lane.specs.Vector.{lane}
+use Rattle.lane.specs.Scalar.{idot}
+use Rattle.lane.proofs.Laws.Build.{Built, built-none, built-more, built-all, sixteen-zeros}
+use Rattle.lane.proofs.lanes.pairing.dot32.Statement.{statement}
+use Rattle.lane.proofs.lanes.pairing.dot32.Tie as tie
+
+abbrev Inv-loop : tie.InvT-loop
+Inv-loop a b r₀ i₀ r i =
+    (i ≤ 4) × Built 4 i (λ n. idot w16 w32 (lane w16 (a .bytes) (2 * n)) (lane w16 (b .bytes) (2 * n)) (lane w16 (a .bytes) (2 * n + 1)) (lane w16 (b .bytes) (2 * n + 1))) (r .bytes)
+
+abbrev μ-loop : tie.MeasureT-loop
+μ-loop a b r₀ i₀ r i = 4 - i
+
+loop-holds : tie.Need-loop-holds Inv-loop μ-loop
+loop-holds c = (omega arith, built-none 4 _ _ sixteen-zeros)
+
+loop-again : tie.Need-loop-again Inv-loop μ-loop
+loop-again c =
+    let l = c .before .before .before .before .before .before .before .before .before .before .before .before .before .before .before .before .loop in (
+      omega arith,
+      built-more 4 (l .i) _ (l .r .bytes) _ (c .before .dot-s16 .result) (omega arith) (l .inv .1)
+          (c .before .dot-s16 .ensures
+          ∙ ap₂ (λ (x y : ℕ). idot w16 w32 x y (c .before .before .before .before .before .before .get163 .result) (c .before .before .before .get164 .result)) (c .before .before .before .before .before .before .before .before .before .before .before .before .get16 .ensures) (c .before .before .before .before .before .before .before .before .before .get162 .ensures)
+          ∙ ap₂ (idot w16 w32 (lane w16 (c .before .before .before .before .before .before .before .before .before .before .before .before .before .before .before .before .before .args .t1 .bytes) (2 * l .i)) (lane w16 (c .before .before .before .before .before .before .before .before .before .before .before .before .before .before .before .before .before .args .t2 .bytes) (2 * l .i))) (c .before .before .before .before .before .before .get163 .ensures) (c .before .before .before .get164 .ensures))
+          (c .put32 .ensures .sixteen) (c .put32 .ensures .same),
+    )
+
+returns : tie.Need-returns Inv-loop μ-loop
+returns c = built-all 4 _ 4 _ _ (c .before .loop .inv .0) (omega arith) refl (c .before .loop .inv .1)
+
+pub dot32-spec : {M : Type 1} → statement M
+dot32-spec =
+    tie.close
+    (tie.spec Inv-loop μ-loop loop-holds (λ c. omega arith) (λ c κs. search needs) (λ c κs. search needs) (λ c. omega arith) (λ c κs. search needs)
+    (λ c. omega arith) (λ c κs. search needs) (λ c κs. search needs) (λ c κs. search needs) (λ c. omega arith) (λ c. omega arith) loop-again returns)

@@ -1,0 +1,37 @@
+-- The first i lanes are done.
+use Prim.Native.Nat.{ℕ, _≤_, _-_}
+use mathlib.Core.Path.{refl, _∙_, ap}
+use native.Mathlib.Omega.{arith}
+use borrow.Author.Needs.{needs}
+use mir.Syntax.{w32}
+use Rattle.lane.specs.Vector.{lane}
+use Rattle.lane.specs.Inner.Scalars.{shifted}
+use Rattle.lane.proofs.Laws.Build.{Built, built-none, built-more, built-all, sixteen-zeros}
+use Rattle.lane.proofs.lanes.shifting.shift32.Statement.{statement}
+use Rattle.lane.proofs.lanes.shifting.shift32.Tie as tie
+
+abbrev Inv-loop : tie.InvT-loop
+Inv-loop op n a r₀ i₀ r i = (i ≤ 4) × Built 4 i (λ j. shifted w32 op n (lane w32 (a .bytes) j)) (r .bytes)
+
+abbrev μ-loop : tie.MeasureT-loop
+μ-loop op n a r₀ i₀ r i = 4 - i
+
+loop-holds : tie.Need-loop-holds Inv-loop μ-loop
+loop-holds c = (omega arith, built-none 4 _ _ sixteen-zeros)
+
+loop-again : tie.Need-loop-again Inv-loop μ-loop
+loop-again c =
+    let l = c .before .before .before .before .before .before .before .loop in let s = c .before .before .before .before .before .before .before .before in (
+      omega arith,
+      built-more 4 (l .i) _ (l .r .bytes) _ (c .before .shifted32 .result) (omega arith) (l .inv .1)
+          (c .before .shifted32 .ensures ∙ ap (shifted w32 (s .args .op) (s .args .n)) (c .before .before .get32 .ensures)) (c .put32 .ensures .sixteen) (c .put32 .ensures .same),
+    )
+
+returns : tie.Need-returns Inv-loop μ-loop
+returns c = built-all 4 _ 4 _ _ (c .before .loop .inv .0) (omega arith) refl (c .before .loop .inv .1)
+
+pub shift32-spec : {M : Type 1} → statement M
+shift32-spec =
+    tie.close
+    (tie.spec Inv-loop μ-loop loop-holds (λ c κs. search needs) (λ c κs. search needs) (λ c κs. search needs)
+    (λ c. omega arith) (λ c. omega arith) loop-again returns)
