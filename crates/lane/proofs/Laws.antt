@@ -7,3 +7,7 @@ pub mod Twos
 pub mod Saturate
 pub mod Product
 pub mod Told
+pub mod Bitwise
+pub mod Scan
+pub mod Replace
+pub mod Any

@@ -170,7 +170,7 @@ unpack w64 = w64
 unpack w128 = w128
 
 abbrev pub extracted : Sign → Width → List ℕ → ℕ → ℕ
-extracted s w a i = wrap (unpack w) (value s w (lane w a i))
+extracted s w a i = iextend s w (unpack w) (lane w a i)
 
 abbrev pub replaced : Width → List ℕ → ℕ → ℕ → List ℕ
 replaced w a i x = vec w (λ n. cond (eqb n i) (wrap w (pos x)) (lane w a n))
@@ -181,15 +181,15 @@ shuffled a b s = vec i8x16 (λ n. lane i8x16 (a ++ b) (lane i8x16 s n))
 
 -- ---- what loads and stores do: m is the bytes that were read, with zeros up to sixteen
 
-abbrev pub loaded : Loadop → List ℕ → List ℕ
-loaded Whole m = m
-loaded (Widen s w) m = unary (Extend Low s w) m
-loaded (Repeat w) m = vec w (λ n. lane w m 0)
-loaded (ZeroPad w) m = vec w (λ n. cond (eqb n 0) (lane w m 0) 0)
-
-abbrev pub laneIn : Width → List ℕ → List ℕ → ℕ → List ℕ
-laneIn w m a i = replaced w a i (lane w m 0)
-
 -- lane i by itself, with zeros up to sixteen bytes
 abbrev pub laneOut : Width → List ℕ → ℕ → List ℕ
 laneOut w a i = vec w (λ n. cond (eqb n 0) (lane w a i) 0)
+
+abbrev pub loaded : Loadop → List ℕ → List ℕ
+loaded Whole m = m
+loaded (Widen s w) m = unary (Extend Low s w) m
+loaded (Repeat w) m = splat w (lane w m 0)
+loaded (ZeroPad w) m = laneOut w m 0
+
+abbrev pub laneIn : Width → List ℕ → List ℕ → ℕ → List ℕ
+laneIn w m a i = replaced w a i (lane w m 0)

@@ -66,6 +66,11 @@ build-fields k (suc m) x =
     ap₂ (λ (a b : List ℕ). a ++ b) (build-fields k m x) (le-mod k (x / 2 ^ (8 * k * m)) ∙ ap (λ (j : ℕ). le k (x / 2 ^ j)) (omega (arith, mul-assoc 8 k m, mul-comm m k)))
     ∙ sym (le-split (m * k) k x) ∙ ap (λ (j : ℕ). le j x) (sym (suc-mul m k))
 
+-- sixteen bytes are those of their m lanes
+pub in-lanes : (k m : ℕ) (v : List ℕ) → m * k ≡ 16 → Sixteen v → v ≡ build k m (fieldOf (8 * k) (number v))
+in-lanes k m v e s =
+    sym (build-fields k m (number v) ∙ ap (λ (j : ℕ). le j (number v)) (e ∙ sym (s .long)) ∙ le-number v (s .bytes))
+
 -- ---- writing lane by lane
 
 bytes-set : (v : List ℕ) (i x : ℕ) → x < 2 ^ 8 → Bytes v → Bytes (set v i x)

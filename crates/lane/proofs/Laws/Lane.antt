@@ -2,10 +2,10 @@
 use mathlib.Core.Path.{_≡_, refl, sym, ap, ap₂, _∙_, subst}
 use mathlib.Core.List.{List, [], _∷_, _++_}
 use Prim.Native.Nat.{ℕ, zero, suc, _+_, _*_, _-_, _/_, _%_, _^_, _≤_, _<_}
-use native.Mathlib.Nat.{add-comm, mul-add, mul-suc, mul-zero, div-one, zero-lt-suc, mod-eq-of-lt, zero-div, add-sub-of-le}
+use native.Mathlib.Nat.{add-comm, mul-add, mul-suc, mul-zero, div-one, zero-lt-suc, mod-eq-of-lt, zero-div, zero-mod, add-sub-of-le}
 use native.Mathlib.Omega.{arith}
 use lib.Arith.{digits-div, digits-mod}
-use lib.ListN.{length, getD}
+use lib.ListN.{replicate, length, getD}
 use lib.Pow.{shr-shr}
 use mir.Syntax.{Width, w8}
 use mir.Val.{bits}
@@ -41,3 +41,7 @@ lane-second w m a b n h e l =
   where
     at : bits w * n ≡ 8 * length a + bits w * (n - m)
     at = ap (λ (j : ℕ). bits w * j) (sym (add-sub-of-le l)) ∙ mul-add (bits w) m (n - m) ∙ ap (λ (j : ℕ). j + bits w * (n - m)) e
+
+pub lane-zeros : (w : Width) (n : ℕ) → lane w (replicate 16 0) n ≡ 0
+unfolding lane
+lane-zeros w n = ap (λ (x : ℕ). x % 2 ^ bits w) (zero-div (2 ^ (bits w * n))) ∙ zero-mod (2 ^ bits w)

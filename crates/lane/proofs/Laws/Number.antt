@@ -68,13 +68,31 @@ le-split (suc k) j x =
     deeper = shr-shr x 8 (8 * k) ∙ ap (λ (m : ℕ). x / 2 ^ m) (add-comm 8 (8 * k) ∙ sym (mul-suc 8 k))
 
 -- bits above the k bytes do not matter
+pub bytes-le : (k x : ℕ) → Bytes (le k x)
+bytes-le zero x i = record { fits = zero-lt-suc 255 }
+bytes-le (suc k) x zero = record { fits = mod-lt x (zero-lt-suc 255) }
+bytes-le (suc k) x (suc i) = bytes-le k (x / 2 ^ 8) i
+
 pub le-mod : (k x : ℕ) → le k (x % 2 ^ (8 * k)) ≡ le k x
-le-mod k x = ap (le k) (sym (number-le k x)) ∙ subst (λ (m : ℕ). le m (number (le k x)) ≡ le k x) (length-le k x) (le-number (le k x) (le-bytes k x))
-  where
-    le-bytes : (k x : ℕ) → Bytes (le k x)
-    le-bytes zero x i = record { fits = zero-lt-suc 255 }
-    le-bytes (suc k) x zero = record { fits = mod-lt x (zero-lt-suc 255) }
-    le-bytes (suc k) x (suc i) = le-bytes k (x / 2 ^ 8) i
+le-mod k x = ap (le k) (sym (number-le k x)) ∙ subst (λ (m : ℕ). le m (number (le k x)) ≡ le k x) (length-le k x) (le-number (le k x) (bytes-le k x))
+
+-- ---- bytes of parts
+
+pub bytes-append : (xs ys : List ℕ) → Bytes xs → Bytes ys → Bytes (xs ++ ys)
+bytes-append [] ys h g k = g k
+bytes-append (x ∷ xs) ys h g zero = h 0
+bytes-append (x ∷ xs) ys h g (suc k) = bytes-append xs ys (tail-bytes x xs h) g k
+
+pub bytes-take : (n : ℕ) (v : List ℕ) → Bytes v → Bytes (take n v)
+bytes-take zero v h k = record { fits = zero-lt-suc 255 }
+bytes-take (suc n) [] h k = h k
+bytes-take (suc n) (b ∷ v) h zero = h 0
+bytes-take (suc n) (b ∷ v) h (suc k) = bytes-take n v (tail-bytes b v h) k
+
+pub bytes-drop : (n : ℕ) (v : List ℕ) → Bytes v → Bytes (drop n v)
+bytes-drop zero v h = h
+bytes-drop (suc n) [] h = h
+bytes-drop (suc n) (b ∷ v) h = bytes-drop n v (tail-bytes b v h)
 
 -- ---- field n of k bits
 

@@ -45,7 +45,7 @@ flip-sfits {w} {z} h = record { sfits = subst (λ (m : ℕ). m < 2 ^ hbits w) (s
 high-not : (w : Width) (x : ℕ) → 2 ^ hbits w ≤ x → (2 ^ bits w - 1) - x < 2 ^ hbits w
 high-not w x h = omega (arith, pow-bits w, pow-pos (hbits w))
 
-high-is : (w : Width) (x : ℕ) → 2 ^ hbits w ≤ x → x < 2 ^ bits w → toZ w x ≡ negsuc ((2 ^ bits w - 1) - x)
+pub high-is : (w : Width) (x : ℕ) → 2 ^ hbits w ≤ x → x < 2 ^ bits w → toZ w x ≡ negsuc ((2 ^ bits w - 1) - x)
 high-is w x h f =
     ap (toZ w) e ∙ toZ-neg w ((2 ^ bits w - 1) - x) (high-not w x h)
   where

@@ -7,17 +7,17 @@ ghost use Rattle.lane.specs.Vector.{lane, vec, Sixteen};
 ghost use Rattle.lane.specs.Inner.Scalars.{narrowed};
 use crate::V128;
 use crate::op;
-use crate::scalar::widen::narrow_s16;
 use crate::scalar::widen::narrow_s8;
-use crate::scalar::widen::narrow_u16;
+use crate::scalar::widen::narrow_s16;
 use crate::scalar::widen::narrow_u8;
+use crate::scalar::widen::narrow_u16;
+use crate::shape::I8x16;
 use crate::shape::I16x8;
 use crate::shape::I32x4;
-use crate::shape::I8x16;
 use crate::vector::get16;
 use crate::vector::get32;
-use crate::vector::put16;
 use crate::vector::put8;
+use crate::vector::put16;
 
 fn narrowed8(op: u8, x: u16) -> u8
     ensures { λ r. ⌜ r ≡ narrowed w16 w8 op x ⌝ }
@@ -46,7 +46,11 @@ pub(crate) fn narrow8(op: u8, a: V128, b: V128) -> V128
     let mut r = V128 { bytes: [0u8; 16] };
     let mut i = 0;
     while i < I8x16::LANES {
-        put8(&mut r.bytes, i, narrowed8(op, either16(&a.bytes, &b.bytes, i)));
+        put8(
+            &mut r.bytes,
+            i,
+            narrowed8(op, either16(&a.bytes, &b.bytes, i)),
+        );
         i += 1;
     }
     r
@@ -79,7 +83,11 @@ pub(crate) fn narrow16(op: u8, a: V128, b: V128) -> V128
     let mut r = V128 { bytes: [0u8; 16] };
     let mut i = 0;
     while i < I16x8::LANES {
-        put16(&mut r.bytes, i, narrowed16(op, either32(&a.bytes, &b.bytes, i)));
+        put16(
+            &mut r.bytes,
+            i,
+            narrowed16(op, either32(&a.bytes, &b.bytes, i)),
+        );
         i += 1;
     }
     r

@@ -8,14 +8,14 @@ ghost use Rattle.lane.specs.Inner.Scalars.{paired};
 use crate::V128;
 use crate::op;
 use crate::scalar::widen::dot_s16;
-use crate::scalar::widen::extadd_s16;
 use crate::scalar::widen::extadd_s8;
-use crate::scalar::widen::extadd_u16;
+use crate::scalar::widen::extadd_s16;
 use crate::scalar::widen::extadd_u8;
+use crate::scalar::widen::extadd_u16;
 use crate::shape::I16x8;
 use crate::shape::I32x4;
-use crate::vector::get16;
 use crate::vector::get8;
+use crate::vector::get16;
 use crate::vector::put16;
 use crate::vector::put32;
 
@@ -35,7 +35,11 @@ pub(crate) fn pairs16(op: u8, a: V128) -> V128
     let mut i = 0;
     while i < I16x8::LANES {
         let j = 2 * i;
-        put16(&mut r.bytes, i, paired16(op, get8(&a.bytes, j), get8(&a.bytes, j + 1)));
+        put16(
+            &mut r.bytes,
+            i,
+            paired16(op, get8(&a.bytes, j), get8(&a.bytes, j + 1)),
+        );
         i += 1;
     }
     r
@@ -57,7 +61,11 @@ pub(crate) fn pairs32(op: u8, a: V128) -> V128
     let mut i = 0;
     while i < I32x4::LANES {
         let j = 2 * i;
-        put32(&mut r.bytes, i, paired32(op, get16(&a.bytes, j), get16(&a.bytes, j + 1)));
+        put32(
+            &mut r.bytes,
+            i,
+            paired32(op, get16(&a.bytes, j), get16(&a.bytes, j + 1)),
+        );
         i += 1;
     }
     r

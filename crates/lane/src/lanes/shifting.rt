@@ -5,30 +5,30 @@ ghost use Rattle.lane.specs.Vector.{lanewise1};
 ghost use Rattle.lane.specs.Inner.Scalars.{shifted};
 use crate::V128;
 use crate::op;
+use crate::scalar::shift::shl8;
 use crate::scalar::shift::shl16;
 use crate::scalar::shift::shl32;
 use crate::scalar::shift::shl64;
-use crate::scalar::shift::shl8;
+use crate::scalar::shift::shr_s8;
 use crate::scalar::shift::shr_s16;
 use crate::scalar::shift::shr_s32;
 use crate::scalar::shift::shr_s64;
-use crate::scalar::shift::shr_s8;
+use crate::scalar::shift::shr_u8;
 use crate::scalar::shift::shr_u16;
 use crate::scalar::shift::shr_u32;
 use crate::scalar::shift::shr_u64;
-use crate::scalar::shift::shr_u8;
+use crate::shape::I8x16;
 use crate::shape::I16x8;
 use crate::shape::I32x4;
 use crate::shape::I64x2;
-use crate::shape::I8x16;
+use crate::vector::get8;
 use crate::vector::get16;
 use crate::vector::get32;
 use crate::vector::get64;
-use crate::vector::get8;
+use crate::vector::put8;
 use crate::vector::put16;
 use crate::vector::put32;
 use crate::vector::put64;
-use crate::vector::put8;
 
 fn shifted8(op: u8, x: u8, n: u32) -> u8
     ensures { λ r. ⌜ r ≡ shifted w8 op n x ⌝ }

@@ -6,24 +6,24 @@ ghost use Rattle.lane.specs.Vector.{lane, vec};
 ghost use Rattle.lane.specs.Inner.Scalars.{widened};
 use crate::V128;
 use crate::op;
+use crate::scalar::widen::extend_s8;
 use crate::scalar::widen::extend_s16;
 use crate::scalar::widen::extend_s32;
-use crate::scalar::widen::extend_s8;
+use crate::scalar::widen::extend_u8;
 use crate::scalar::widen::extend_u16;
 use crate::scalar::widen::extend_u32;
-use crate::scalar::widen::extend_u8;
+use crate::scalar::widen::extmul_s8;
 use crate::scalar::widen::extmul_s16;
 use crate::scalar::widen::extmul_s32;
-use crate::scalar::widen::extmul_s8;
+use crate::scalar::widen::extmul_u8;
 use crate::scalar::widen::extmul_u16;
 use crate::scalar::widen::extmul_u32;
-use crate::scalar::widen::extmul_u8;
 use crate::shape::I16x8;
 use crate::shape::I32x4;
 use crate::shape::I64x2;
+use crate::vector::get8;
 use crate::vector::get16;
 use crate::vector::get32;
-use crate::vector::get8;
 use crate::vector::put16;
 use crate::vector::put32;
 use crate::vector::put64;
@@ -48,7 +48,11 @@ pub(crate) fn widen16(op: u8, from: usize, a: V128, b: V128) -> V128
     let mut i = 0;
     while i < I16x8::LANES {
         let j = from + i;
-        put16(&mut r.bytes, i, widened16(op, get8(&a.bytes, j), get8(&b.bytes, j)));
+        put16(
+            &mut r.bytes,
+            i,
+            widened16(op, get8(&a.bytes, j), get8(&b.bytes, j)),
+        );
         i += 1;
     }
     r
@@ -74,7 +78,11 @@ pub(crate) fn widen32(op: u8, from: usize, a: V128, b: V128) -> V128
     let mut i = 0;
     while i < I32x4::LANES {
         let j = from + i;
-        put32(&mut r.bytes, i, widened32(op, get16(&a.bytes, j), get16(&b.bytes, j)));
+        put32(
+            &mut r.bytes,
+            i,
+            widened32(op, get16(&a.bytes, j), get16(&b.bytes, j)),
+        );
         i += 1;
     }
     r
@@ -100,7 +108,11 @@ pub(crate) fn widen64(op: u8, from: usize, a: V128, b: V128) -> V128
     let mut i = 0;
     while i < I64x2::LANES {
         let j = from + i;
-        put64(&mut r.bytes, i, widened64(op, get32(&a.bytes, j), get32(&b.bytes, j)));
+        put64(
+            &mut r.bytes,
+            i,
+            widened64(op, get32(&a.bytes, j), get32(&b.bytes, j)),
+        );
         i += 1;
     }
     r

@@ -1,0 +1,47 @@
+-- The first i bytes are chosen.
+use Prim.Native.Nat.{ℕ, _≤_, _-_, _+_, _*_}
+use mathlib.Core.Path.{refl, _∙_, ap}
+use mathlib.Core.List.{_++_}
+use native.Mathlib.Omega.{arith}
+use borrow.Author.Needs.{needs}
+use borrow.Author.Tests.{ltb-true}
+use lib.Dec.{ltb}
+use Rattle.lane.specs.Shape.{i8x16}
+use Rattle.lane.specs.Vector.{lane}
+use Rattle.lane.proofs.Laws.Build.{Built, built-none, built-more, built-all, sixteen-zeros}
+use Rattle.lane.proofs.Laws.Scan.{all-each}
+use Rattle.lane.proofs.lanes.choosing.gather.Statement.{statement}
+use Rattle.lane.proofs.lanes.choosing.gather.Tie as tie
+
+abbrev Inv-loop : tie.InvT-loop
+Inv-loop a b s r₀ i₀ r i = (i ≤ 16) × Built 1 i (λ n. lane i8x16 (a .bytes ++ b .bytes) (lane i8x16 (s .bytes) n)) (r .bytes)
+
+abbrev μ-loop : tie.MeasureT-loop
+μ-loop a b s r₀ i₀ r i = 16 - i
+
+loop-holds : tie.Need-loop-holds Inv-loop μ-loop
+loop-holds c = (omega arith, built-none 1 _ _ sixteen-zeros)
+
+byte-of-two-requires : tie.Need-byte-of-two-requires Inv-loop μ-loop
+byte-of-two-requires c κs =
+    let l = c .before .before .before .before .before .before .before .before .before .loop in let s = c .before .before .before .before .before .before .before .before .before .before in let v = s .args .t3 .bytes in (
+      omega (arith, c .get8 .ensures, ltb-true (lane i8x16 v (l .i)) 32 (all-each 16 (l .i) (λ n. ltb (lane i8x16 v n) 32) (s .pre) (c .before .before .before .before .before .before .before .before .loop-test .taken))),
+      search needs,
+      search needs,
+    )
+
+loop-again : tie.Need-loop-again Inv-loop μ-loop
+loop-again c =
+    let l = c .before .before .before .before .before .before .before .before .before .before .before .loop in let s = c .before .before .before .before .before .before .before .before .before .before .before .before in (
+      omega arith,
+      built-more 1 (l .i) _ (l .r .bytes) _ (c .before .byte-of-two .result) (omega arith) (l .inv .1)
+          (c .before .byte-of-two .ensures ∙ ap (lane i8x16 (s .args .t1 .bytes ++ s .args .t2 .bytes)) (c .before .before .get8 .ensures)) (c .put8 .ensures .sixteen) (c .put8 .ensures .same),
+    )
+
+returns : tie.Need-returns Inv-loop μ-loop
+returns c = built-all 1 _ 16 _ _ (c .before .loop .inv .0) (omega arith) refl (c .before .loop .inv .1)
+
+pub gather-spec : {M : Type 1} → statement M
+gather-spec =
+    tie.close
+    (tie.spec Inv-loop μ-loop loop-holds (λ c κs. search needs) byte-of-two-requires (λ c κs. search needs) (λ c. omega arith) (λ c. omega arith) loop-again returns)

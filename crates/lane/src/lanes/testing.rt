@@ -1,0 +1,133 @@
+// Tests over all lanes: any bit, every lane, the sign of each lane.
+ghost use mathlib.Core.Path.{_≡_};
+ghost use mir.Syntax.{w8, w16, w32, w64};
+ghost use Rattle.lane.specs.Op.{AnyTrue, AllTrue, Bitmask, test};
+use crate::V128;
+use crate::shape::I8x16;
+use crate::shape::I16x8;
+use crate::shape::I32x4;
+use crate::shape::I64x2;
+use crate::vector::get8;
+use crate::vector::get16;
+use crate::vector::get32;
+use crate::vector::get64;
+
+pub(crate) fn any_true(a: V128) -> u32
+    ensures { λ r. ⌜ r ≡ test AnyTrue (a .bytes) ⌝ }
+{
+    if get64(&a.bytes, 0) != 0 {
+        return 1;
+    }
+    if get64(&a.bytes, 1) != 0 {
+        return 1;
+    }
+    0
+}
+
+pub(crate) fn all_true8(a: V128) -> u32
+    ensures { λ r. ⌜ r ≡ test (AllTrue w8) (a .bytes) ⌝ }
+{
+    let mut i = 0;
+    while i < I8x16::LANES {
+        if get8(&a.bytes, i) == 0 {
+            return 0;
+        }
+        i += 1;
+    }
+    1
+}
+
+pub(crate) fn all_true16(a: V128) -> u32
+    ensures { λ r. ⌜ r ≡ test (AllTrue w16) (a .bytes) ⌝ }
+{
+    let mut i = 0;
+    while i < I16x8::LANES {
+        if get16(&a.bytes, i) == 0 {
+            return 0;
+        }
+        i += 1;
+    }
+    1
+}
+
+pub(crate) fn all_true32(a: V128) -> u32
+    ensures { λ r. ⌜ r ≡ test (AllTrue w32) (a .bytes) ⌝ }
+{
+    let mut i = 0;
+    while i < I32x4::LANES {
+        if get32(&a.bytes, i) == 0 {
+            return 0;
+        }
+        i += 1;
+    }
+    1
+}
+
+pub(crate) fn all_true64(a: V128) -> u32
+    ensures { λ r. ⌜ r ≡ test (AllTrue w64) (a .bytes) ⌝ }
+{
+    let mut i = 0;
+    while i < I64x2::LANES {
+        if get64(&a.bytes, i) == 0 {
+            return 0;
+        }
+        i += 1;
+    }
+    1
+}
+
+pub(crate) fn bitmask8(a: V128) -> u32
+    ensures { λ r. ⌜ r ≡ test (Bitmask w8) (a .bytes) ⌝ }
+{
+    let mut r: u32 = 0;
+    let mut bit: u32 = 1;
+    let mut i = 0;
+    while i < I8x16::LANES {
+        r += ((get8(&a.bytes, i) / 128) as u32) * bit;
+        bit *= 2;
+        i += 1;
+    }
+    r
+}
+
+pub(crate) fn bitmask16(a: V128) -> u32
+    ensures { λ r. ⌜ r ≡ test (Bitmask w16) (a .bytes) ⌝ }
+{
+    let mut r: u32 = 0;
+    let mut bit: u32 = 1;
+    let mut i = 0;
+    while i < I16x8::LANES {
+        r += ((get16(&a.bytes, i) / 32768) as u32) * bit;
+        bit *= 2;
+        i += 1;
+    }
+    r
+}
+
+pub(crate) fn bitmask32(a: V128) -> u32
+    ensures { λ r. ⌜ r ≡ test (Bitmask w32) (a .bytes) ⌝ }
+{
+    let mut r: u32 = 0;
+    let mut bit: u32 = 1;
+    let mut i = 0;
+    while i < I32x4::LANES {
+        r += ((get32(&a.bytes, i) / 2147483648) as u32) * bit;
+        bit *= 2;
+        i += 1;
+    }
+    r
+}
+
+pub(crate) fn bitmask64(a: V128) -> u32
+    ensures { λ r. ⌜ r ≡ test (Bitmask w64) (a .bytes) ⌝ }
+{
+    let mut r: u32 = 0;
+    let mut bit: u32 = 1;
+    let mut i = 0;
+    while i < I64x2::LANES {
+        r += ((get64(&a.bytes, i) / 9223372036854775808) as u32) * bit;
+        bit *= 2;
+        i += 1;
+    }
+    r
+}
