@@ -11,3 +11,4 @@ pub mod Bitwise
 pub mod Scan
 pub mod Replace
 pub mod Any
+pub mod Answers

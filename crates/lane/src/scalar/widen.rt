@@ -28,6 +28,12 @@ pub(crate) fn extend_s8(x: u8) -> u16
     bits16(signed8(x) as i16)
 }
 
+pub(crate) fn extend_s8_32(x: u8) -> u32
+    ensures { λ r. ⌜ r ≡ iextend S w8 w32 x ⌝ }
+{
+    bits32(signed8(x) as i32)
+}
+
 pub(crate) fn extend_u8(x: u8) -> u16
     ensures { λ r. ⌜ r ≡ iextend U w8 w16 x ⌝ }
 {
