@@ -1,0 +1,10 @@
+pub mod Arith
+pub mod Grammars
+pub mod Reader
+pub mod Widths
+pub mod Exact
+pub mod Turns
+pub mod Forms
+pub mod Loops
+pub mod Puts
+pub mod Unique
