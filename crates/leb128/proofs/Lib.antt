@@ -8,3 +8,6 @@ pub mod Forms
 pub mod Loops
 pub mod Puts
 pub mod Unique
+pub mod LastBytes
+pub mod Weights
+pub mod Bounds

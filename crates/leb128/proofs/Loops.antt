@@ -1,5 +1,5 @@
 -- The writing loops: what is still to be written, and to be counted; and an integer by its sign and magnitude.
-use Prim.Native.Nat.{ℕ, zero, suc, _+_, _-_, _*_, _/_, _%_, _<_, _≤_, _^_}
+use Prim.Native.Nat.{ℕ, zero, suc, _+_, _-_, _/_, _<_, _≤_, _^_}
 use mathlib.Core.Path.{_≡_, refl, sym, ap, _∙_}
 use mathlib.Core.Bool.{Bool, true, false}
 use mathlib.Core.List.{List, [], _∷_}
@@ -7,7 +7,7 @@ use native.Mathlib.Numerals.{add-one}
 use native.Mathlib.Omega.{arith}
 use lib.ListN.{length, set, length-set}
 use lib.Seq.{sets}
-use lib.IntN.{ℤ, pos, negsuc}
+use lib.IntN.{ℤ, negsuc}
 use lib.Signed.{mag}
 use borrow.Author.Tests.{lt-ltb, le-ltb}
 use Rattle.leb128.specs.Bits.{integer}

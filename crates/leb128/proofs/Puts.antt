@@ -1,15 +1,13 @@
 -- Writing a number and counting its bytes: the promise, case by case.
 use Prim.Native.Nat.{ℕ, _+_, _-_, _<_, _≤_, _^_}
-use mathlib.Core.Path.{_≡_, refl, sym, ap, _∙_}
+use mathlib.Core.Path.{_≡_, sym, ap, _∙_}
 use mathlib.Core.Bool.{Bool}
-use mathlib.Core.List.{List, _++_}
+use mathlib.Core.List.{List}
 use native.Mathlib.Omega.{arith}
-use lib.ListN.{length, take, drop}
+use lib.ListN.{length}
 use lib.Seq.{sets, sets-eq}
 use borrow.Author.Tests.{le-leb, lt-leb}
-use Rattle.card.specs.Card.{DONE}
-use Rattle.leb128.specs.Bits.{integer}
-use Rattle.leb128.specs.Answer.{Told, told, toldWrote}
+use Rattle.leb128.specs.Answer.{toldWrote}
 use Rattle.leb128.specs.Shortest.{bytesOf, wroteAt, putAt}
 use Rattle.leb128.specs.Promise.{Writes, done, small, WritesNumber, CountsBytes}
 use Rattle.leb128.specs.declared.write.Wrote.{Wrote}

@@ -1,8 +1,8 @@
 -- The reading loop: what has been read stands before what is still to be read.
-use Prim.Native.Nat.{ℕ, zero, suc, _+_, _-_, _*_, _/_, _<_, _≤_, _^_}
-use mathlib.Core.Path.{_≡_, refl, sym, ap, ap₂, subst, _∙_}
+use Prim.Native.Nat.{ℕ, suc, _+_, _-_, _*_, _/_, _<_, _≤_, _^_}
+use mathlib.Core.Path.{_≡_, refl, sym, ap, ap₂, _∙_}
 use mathlib.Core.Bool.{Bool, true, false, cond}
-use mathlib.Core.List.{List, [], _∷_}
+use mathlib.Core.List.{List}
 use native.Mathlib.Nat.{add-mul, mul-add, mul-assoc, mul-comm, mul-le-mul-left, mul-le-mul-right, add-assoc}
 use native.Mathlib.Numerals.{add-one}
 use native.Mathlib.Omega.{arith}
@@ -12,14 +12,13 @@ use lib.ListN.{length, getD, drop, drop-of-length-le}
 use lib.Seq.{drop-cons, getD-drop}
 use lib.IntN.{ℤ, pos, negsuc}
 use lib.Signed.{mag}
-use borrow.Author.Tests.{lt-ltb, le-ltb, le-leb, lt-leb, leb-true, leb-false, ltb-true, ltb-false}
-use Rattle.leb128.specs.Bits.{bits}
+use borrow.Author.Tests.{lt-ltb, le-ltb, le-leb, lt-leb, leb-true}
 use Rattle.leb128.specs.Number.{Read, is, cut, wrong, lastOf, before, intOf, bitsOf, numberAt}
 use Rattle.leb128.specs.Bytes.{bytes}
 use Rattle.leb128.specs.Inner.Room.{allowedIn, extendedTo}
 use Rattle.leb128.specs.declared.read.Leb.{Leb}
 use Rattle.leb128.specs.declared.read.Leb.the-variants.{Val, Short, Number}
-use Rattle.leb128.proofs.Arith.{split, either, pow-half, pow-seven, up-pos, up-neg, down}
+use Rattle.leb128.proofs.Arith.{either, pow-half, pow-seven, up-pos, up-neg, down}
 use Rattle.leb128.proofs.Grammars.{Ranged, ranged}
 use Rattle.leb128.proofs.Reader.{Met, met}
 

@@ -1,13 +1,11 @@
 -- What the public functions promise leaves one answer and one content of the buffer.
-use Prim.Native.Nat.{ℕ, _+_, _-_, _<_, _≤_, _^_}
+use Prim.Native.Nat.{ℕ, _+_, _-_, _<_, _^_}
 use mathlib.Core.Path.{_≡_, refl, sym, ap, ap₂, _∙_}
 use mathlib.Core.Bool.{Bool}
-use mathlib.Core.List.{List, _++_}
+use mathlib.Core.List.{List}
 use native.Mathlib.Omega.{arith}
-use lib.ListN.{length, take, drop}
+use lib.ListN.{length}
 use lib.Seq.{sets-eq}
-use Rattle.leb128.specs.Grammar.{ShortestForm}
-use Rattle.leb128.specs.Bits.{integer}
 use Rattle.leb128.specs.Answer.{Told, toldRead, toldWrote}
 use Rattle.leb128.specs.Shortest.{bytesOf, wroteAt, putAt}
 use Rattle.leb128.specs.Promise.{Reads, Writes, done, small, CountsBytes}

@@ -6,5 +6,6 @@ pub mod Shortest
 pub mod Promise
 pub mod Found
 pub mod LastByte
+pub mod Weights
 pub mod Bytes
 pub mod Inner

@@ -1,7 +1,6 @@
 // Reading a number.
 ghost use mathlib.Core.Path.{_≡_};
 ghost use mathlib.Core.Bool.{false, true};
-ghost use mathlib.Core.Logic.{_≢_};
 ghost use Prim.Native.Nat.{_+_, _^_, _<_};
 ghost use Rattle.leb128.specs.Number.{numberAt};
 ghost use Rattle.leb128.specs.Promise.{ReadsNumber};

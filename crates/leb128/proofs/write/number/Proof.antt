@@ -1,11 +1,6 @@
 -- The buffer has room or not; where it has, the bytes of the bits' integer are put there.
 use borrow.Author.Needs.{needs}
 use native.Mathlib.Omega.{arith}
-use Prim.Native.Nat.{_+_, _≤_}
-use mathlib.Core.Path.{ap, _∙_}
-use lib.ListN.{length}
-use Rattle.leb128.specs.Shortest.{shortestOf, bytesOf}
-use Rattle.leb128.specs.Inner.Room.{int, widthOf}
 use Rattle.leb128.proofs.Forms.{limit-least}
 use Rattle.leb128.proofs.Loops.{signed-bytes}
 use Rattle.leb128.proofs.Puts.{accepted, refused}
