@@ -1,13 +1,15 @@
-pub mod Arith
-pub mod Grammars
-pub mod Reader
-pub mod Widths
+-- The public functions' promises, and the laws for those who call them.
 pub mod Exact
-pub mod Turns
 pub mod Forms
-pub mod Loops
 pub mod Puts
 pub mod Unique
+pub mod Bounds
 pub mod LastBytes
 pub mod Weights
-pub mod Bounds
+-- What these lean on.
+pub mod Arith
+pub mod Grammars
+pub mod Widths
+pub mod Reader
+pub mod ReadLoop
+pub mod WriteLoops

@@ -2,18 +2,20 @@
 use Prim.Native.Nat.{ℕ, _+_, _-_, _<_, _≤_, _^_}
 use mathlib.Core.Path.{_≡_, sym, ap, _∙_}
 use mathlib.Core.Bool.{Bool}
-use mathlib.Core.List.{List}
+use mathlib.Core.List.{List, _++_, append-assoc}
 use native.Mathlib.Omega.{arith}
-use lib.ListN.{length}
-use lib.Seq.{sets, sets-eq}
+use lib.ListN.{length, take, drop}
+use lib.Seq.{sets, sets-eq, drop-at, length-take-le}
 use borrow.Author.Tests.{le-leb, lt-leb}
 use Rattle.leb128.specs.Answer.{toldWrote}
+use Rattle.leb128.specs.Number.{numberAt}
 use Rattle.leb128.specs.Shortest.{bytesOf, wroteAt, putAt}
 use Rattle.leb128.specs.Promise.{Writes, done, small, WritesNumber, CountsBytes}
+use Rattle.leb128.specs.declared.read.Leb.the-variants.{Val}
 use Rattle.leb128.specs.declared.write.Wrote.{Wrote}
 use Rattle.leb128.specs.declared.write.Wrote.the-variants.{To, Small}
 use Rattle.leb128.proofs.Arith.{either}
-use Rattle.leb128.proofs.Forms.{bytes-shortest}
+use Rattle.leb128.proofs.Forms.{bytes-shortest, reads-back}
 
 -- with room for bs at the place, and without
 module _ (bs : List ℕ) (at : ℕ) (out : List ℕ) where
@@ -74,3 +76,12 @@ module _ {sign : Bool} {N v at : ℕ} {out : List ℕ} {r : Wrote} {out′ : Lis
 
   pub goes-bytes : out′ ≡ sets out at (bytesOf sign N v)
   goes-bytes = w .bytes ∙ put-in (bytesOf sign N v) at out l
+
+  -- what was written is read back
+  pub reads-written : 0 < N → v < 2 ^ N → numberAt sign N out′ at ≡ Val v (length (bytesOf sign N v))
+  reads-written h k =
+      let bs = bytesOf sign N v in
+      let tail = drop (at + length bs) out in
+      let a : at ≤ length out = omega arith in
+      reads-back sign N v h k out′ at tail
+      (ap (drop at) (goes-bytes ∙ sets-eq bs out at l ∙ append-assoc (take at out) bs tail) ∙ drop-at (take at out) (bs ++ tail) at (length-take-le at out a))

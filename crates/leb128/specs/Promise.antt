@@ -26,6 +26,7 @@ pub data Writes (sign : Bool) (N v at : ℕ) (out : List ℕ) : Told → List �
       → Writes sign N v at out (told DONE 0 0 (length bs)) (take at out ++ bs ++ drop (at + length bs) out)
   small : {bs : List ℕ} → ShortestForm sign N (integer sign N v) bs → length out < at + length bs → Writes sign N v at out (told SMALL 0 0 0) out
 
+-- the contracts: r is the answer, out′ the buffer afterwards
 pub record ReadsNumber (sign : Bool) (N : ℕ) (s : List ℕ) (at : ℕ) (r : Leb) : Type 0 where
   pub answer : r ≡ numberAt sign N s at
   pub reads : Reads sign N s at (toldRead s at r)

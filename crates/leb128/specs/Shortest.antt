@@ -30,7 +30,7 @@ unfoldable pub shortest : ℕ → ℕ → ℤ → List ℕ
 shortest limit zero z = []
 shortest limit (suc f) z = cond (ltb (mag z) limit) (low z ∷ []) ((2 ^ 7 + low z) ∷ shortest limit f (high z))
 
--- more bytes than n are never needed for n or -n - 1, but one at least is
+-- n + 1 bytes are always enough for n and for -n - 1
 abbrev pub shortestOf : ℕ → ℤ → List ℕ
 shortestOf limit z = shortest limit (suc (mag z)) z
 

@@ -4,26 +4,39 @@ use leb128::Wrote;
 use libc::STDOUT_FILENO;
 
 fn main() {
-    read_u32s();
-    read_s32s();
-    read_s64s();
+    u32_whole();
+    u32_refused();
+    u32_cut();
+    s32_whole();
+    s32_refused();
+    s32_cut();
+    s64_whole();
+    s64_refused();
+    s64_cut();
     places();
     writes();
+    lengths();
 }
 
-// A number a row: code, place, value, bytes.
-fn read_u32s() {
+// Each row: code, place, value, bytes. Padding is welcome.
+fn u32_whole() {
     u32_at(b"\x00", 0);
     u32_at(b"\x7F", 0);
     u32_at(b"\x80\x01", 0);
     u32_at(b"\x8E\x01", 0);
     u32_at(b"\x8E\x81\x80\x80\x00", 0);
-    u32_at(b"\x8E\x81\x80\x80\x10", 0);
     u32_at(b"\xFF\xFF\xFF\xFF\x0F", 0);
+}
+
+fn u32_refused() {
+    u32_at(b"\x8E\x81\x80\x80\x10", 0);
     u32_at(b"\xFF\xFF\xFF\xFF\x10", 0);
     u32_at(b"\x80\x80\x80\x80\x7F", 0);
     u32_at(b"\x80\x80\x80\x80\x80", 0);
     u32_at(b"\x80\x80\x80\x80\x80\x00", 0);
+}
+
+fn u32_cut() {
     u32_at(b"", 0);
     u32_at(b"\x80", 0);
     u32_at(b"\x80\x80", 0);
@@ -31,32 +44,45 @@ fn read_u32s() {
     u32_at(b"\x80\x80\x80\x80", 0);
 }
 
-fn read_s32s() {
+fn s32_whole() {
     s32_at(b"\x3F", 0);
     s32_at(b"\x40", 0);
     s32_at(b"\x7F", 0);
     s32_at(b"\xC0\x00", 0);
     s32_at(b"\xFF\xFF\xFF\xFF\x07", 0);
+    s32_at(b"\x80\x80\x80\x80\x78", 0);
+    s32_at(b"\xFF\xFF\xFF\xFF\x7F", 0);
+}
+
+fn s32_refused() {
     s32_at(b"\xFF\xFF\xFF\xFF\x08", 0);
     s32_at(b"\xFF\xFF\xFF\xFF\x0F", 0);
     s32_at(b"\x80\x80\x80\x80\x77", 0);
-    s32_at(b"\x80\x80\x80\x80\x78", 0);
-    s32_at(b"\xFF\xFF\xFF\xFF\x7F", 0);
     s32_at(b"\xFF\xFF\xFF\xFF\xFF", 0);
+    s32_at(b"\xFF\xFF\xFF\xFF\xFF\x00", 0);
+}
+
+fn s32_cut() {
     s32_at(b"\xFF\xFF\xFF\xFF", 0);
 }
 
-fn read_s64s() {
+fn s64_whole() {
     s64_at(b"\x7F", 0);
     s64_at(b"\xFF\xFF\xFF\xFF\x0F", 0);
     s64_at(b"\x80\x80\x80\x80\x80\x80\x80\x80\x80\x00", 0);
     s64_at(b"\xFF\xFF\xFF\xFF\xFF\xFF\xFF\xFF\xFF\x00", 0);
     s64_at(b"\x80\x80\x80\x80\x80\x80\x80\x80\x80\x7F", 0);
     s64_at(b"\xFF\xFF\xFF\xFF\xFF\xFF\xFF\xFF\xFF\x7F", 0);
+}
+
+fn s64_refused() {
     s64_at(b"\x80\x80\x80\x80\x80\x80\x80\x80\x80\x01", 0);
     s64_at(b"\xFF\xFF\xFF\xFF\xFF\xFF\xFF\xFF\xFF\x7E", 0);
-    s64_at(b"\x80\x80\x80\x80\x80\x80\x80\x80\x80\x80\x00", 0);
     s64_at(b"\x80\x80\x80\x80\x80\x80\x80\x80\x80\x80", 0);
+    s64_at(b"\x80\x80\x80\x80\x80\x80\x80\x80\x80\x80\x00", 0);
+}
+
+fn s64_cut() {
     s64_at(b"\x80\x80\x80\x80\x80\x80\x80\x80\x80", 0);
 }
 
@@ -69,27 +95,21 @@ fn places() {
     s64_at(b"\x00\x00\x00", 18446744073709551615);
 }
 
-// The place after the number, or 24; and the buffer, of which no other byte changes.
+// Each into six bytes of EE: the place after the number, or 24, and the six bytes.
 fn writes() {
-    let mut six = [0xEEu8; 6];
-    wrote(leb128::write_u32(&mut six, 1, 142));
-    shown(&six);
-    wrote(leb128::write_u32(&mut six, 1, 4294967295));
-    shown(&six);
-    wrote(leb128::write_u32(&mut six, 2, 4294967295));
-    shown(&six);
-    wrote(leb128::write_s32(&mut six, 4, 4294967232));
-    shown(&six);
-    wrote(leb128::write_s32(&mut six, 0, 64));
-    shown(&six);
-    wrote(leb128::write_s32(&mut six, 0, 2147483648));
-    shown(&six);
-    wrote(leb128::write_s64(&mut six, 0, 9223372036854775808));
-    shown(&six);
-    wrote(leb128::write_s64(&mut six, 5, 18446744073709551615));
-    shown(&six);
-    wrote(leb128::write_u32(&mut six, 6, 0));
-    wrote(leb128::write_u32(&mut six, 18446744073709551615, 0));
+    write_u32(1, 142);
+    write_u32(1, 4294967295);
+    write_u32(2, 4294967295);
+    write_s32(4, 4294967232);
+    write_s32(0, 64);
+    write_s32(0, 2147483648);
+    write_s64(0, 9223372036854775808);
+    write_s64(5, 18446744073709551615);
+    write_u32(6, 0);
+    write_u32(18446744073709551615, 0);
+}
+
+fn lengths() {
     counted(leb128::len_u32(127));
     counted(leb128::len_u32(128));
     counted(leb128::len_u32(4294967295));
@@ -110,6 +130,24 @@ fn s32_at(s: &[u8], at: usize) {
 
 fn s64_at(s: &[u8], at: usize) {
     told(leb128::read_s64(s, at), s.len(), at);
+}
+
+fn write_u32(at: usize, v: u32) {
+    let mut six = [0xEEu8; 6];
+    wrote(leb128::write_u32(&mut six, at, v));
+    shown(&six);
+}
+
+fn write_s32(at: usize, v: u32) {
+    let mut six = [0xEEu8; 6];
+    wrote(leb128::write_s32(&mut six, at, v));
+    shown(&six);
+}
+
+fn write_s64(at: usize, v: u64) {
+    let mut six = [0xEEu8; 6];
+    wrote(leb128::write_s64(&mut six, at, v));
+    shown(&six);
 }
 
 fn told(r: Leb, len: usize, at: usize) {

@@ -1,7 +1,7 @@
 -- Each way through the tests is one case of `extendedTo`; a byte that is allowed is no more below 128 than there is room.
 use borrow.Author.Needs.{needs}
 use borrow.Author.Tests.{lt-ltb, le-ltb}
-use Rattle.leb128.proofs.Turns.{high-room}
+use Rattle.leb128.proofs.ReadLoop.{high-room}
 use Rattle.leb128.proofs.read.extended.Statement.{statement}
 use Rattle.leb128.proofs.read.extended.Tie as tie
 

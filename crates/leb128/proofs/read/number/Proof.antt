@@ -6,7 +6,7 @@ use mathlib.Core.Path.{sym, _∙_}
 use lib.ListN.{length}
 use Rattle.leb128.specs.Inner.Room.{widthOf}
 use Rattle.leb128.proofs.Arith.{width-some}
-use Rattle.leb128.proofs.Turns.{Reading, starts, turns, ends, fails, stops, refuses, last-fits, scale-fits}
+use Rattle.leb128.proofs.ReadLoop.{Reading, starts, turns, ends, fails, stops, refuses, last-fits, scale-fits}
 use Rattle.leb128.proofs.read.number.Statement.{statement}
 use Rattle.leb128.proofs.read.number.Tie as tie
 

@@ -1,6 +1,6 @@
 -- The counting loop keeps `Counting`.
 use native.Mathlib.Omega.{arith}
-use Rattle.leb128.proofs.Loops.{Counting, counts, counts-on, counted}
+use Rattle.leb128.proofs.WriteLoops.{Counting, counts, counts-on, counted}
 use Rattle.leb128.proofs.write.count.Statement.{statement}
 use Rattle.leb128.proofs.write.count.Tie as tie
 

@@ -2,7 +2,7 @@
 use borrow.Author.Needs.{needs}
 use native.Mathlib.Omega.{arith}
 use Rattle.leb128.proofs.Forms.{limit-least}
-use Rattle.leb128.proofs.Loops.{signed-bytes}
+use Rattle.leb128.proofs.WriteLoops.{signed-bytes}
 use Rattle.leb128.proofs.Puts.{accepted, refused}
 use Rattle.leb128.proofs.write.number.Statement.{statement}
 use Rattle.leb128.proofs.write.number.Tie as tie

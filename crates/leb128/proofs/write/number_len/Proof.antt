@@ -3,7 +3,7 @@ use borrow.Author.Needs.{needs}
 use mathlib.Core.Path.{ap, _∙_}
 use lib.ListN.{length}
 use Rattle.leb128.proofs.Forms.{limit-least}
-use Rattle.leb128.proofs.Loops.{signed-bytes}
+use Rattle.leb128.proofs.WriteLoops.{signed-bytes}
 use Rattle.leb128.proofs.write.number_len.Statement.{statement}
 use Rattle.leb128.proofs.write.number_len.Tie as tie
 

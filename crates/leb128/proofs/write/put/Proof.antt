@@ -4,7 +4,7 @@ use borrow.Author.Needs.{needs}
 use Prim.Native.Nat.{ℕ, _+_}
 use mathlib.Core.Path.{ap}
 use lib.ListN.{length-set}
-use Rattle.leb128.proofs.Loops.{Writing, begins, inside, goes-on, ended, written}
+use Rattle.leb128.proofs.WriteLoops.{Writing, begins, inside, goes-on, ended, written}
 use Rattle.leb128.proofs.write.put.Statement.{statement}
 use Rattle.leb128.proofs.write.put.Tie as tie
 
