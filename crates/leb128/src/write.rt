@@ -102,10 +102,10 @@ fn count(n: u64, limit: u64) -> usize
     requires { ⌜ 64 ≤ limit ⌝ }
     ensures { λ r. ⌜ ((neg : Bool) → r ≡ length (shortestOf limit (int neg n))) ⌝ }
 {
-    let mut rest = n;
+    let mut left = n;
     let mut bytes: usize = 1;
-    while limit <= rest {
-        rest = rest / 128;
+    while limit <= left {
+        left = left / 128;
         bytes = bytes + 1;
     }
     bytes

@@ -5,10 +5,10 @@ use Rattle.leb128.proofs.write.count.Statement.{statement}
 use Rattle.leb128.proofs.write.count.Tie as tie
 
 abbrev Inv-loop : tie.InvT-loop
-Inv-loop n limit rest₀ bytes₀ rest bytes = Counting limit n rest bytes
+Inv-loop n limit left₀ bytes₀ left bytes = Counting limit n left bytes
 
 abbrev μ-loop : tie.MeasureT-loop
-μ-loop n limit rest₀ bytes₀ rest bytes = rest
+μ-loop n limit left₀ bytes₀ left bytes = left
 
 loop-holds : tie.Need-loop-holds Inv-loop μ-loop
 loop-holds c = counts _ _ (c .pre)
