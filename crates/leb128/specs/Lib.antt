@@ -1,0 +1,11 @@
+pub mod Grammar
+pub mod Bits
+pub mod Answer
+pub mod Number
+pub mod Shortest
+pub mod Promise
+pub mod Found
+pub mod LastByte
+pub mod Weights
+pub mod Bytes
+pub mod Inner
