@@ -1,7 +1,6 @@
 -- The table read by a number that is not at hand.
 use mathlib.Core.Path.{_≡_}
-use mathlib.Core.Bool.{cond}
-use Prim.Native.Nat.{ℕ, _-_, _≤_}
+use Prim.Native.Nat.{ℕ, _+_, _-_, _≤_, _<_}
 use native.Mathlib.Omega.{arith}
 use lib.ListN.{List·getD-eq-default}
 use borrow.Author.Tests.{le-ltb}
@@ -18,3 +17,10 @@ row-beyond id h =
     let past : 256 ≤ id = omega arith in
     let far : 256 ≤ id - 256 = omega arith in
     rw (le-ltb id 256 past) (vector-beyond (id - 256) far)
+
+pub row-vector : (n : ℕ) → rowOf (256 + n) ≡ vectorAt n
+unfolding rowOf
+row-vector n =
+    let past : 256 ≤ 256 + n = omega arith in
+    let same : 256 + n - 256 ≡ n = omega arith in
+    rw (le-ltb (256 + n) 256 past, same)

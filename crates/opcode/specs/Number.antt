@@ -29,11 +29,16 @@ classNumber laneIndex = 6
 classNumber sixteenBytes = 7
 classNumber sixteenLanes = 8
 
--- and FLOAT, UNASSIGNED
+abbrev pub FLOAT : ℕ
+FLOAT = 9
+
+abbrev pub UNASSIGNED : ℕ
+UNASSIGNED = 10
+
 abbrev pub classOf : Row → ℕ
 classOf (carried c) = classNumber (immediates c)
-classOf float = 9
-classOf unassigned = 10
+classOf float = FLOAT
+classOf unassigned = UNASSIGNED
 
 abbrev pub movedBy : Row → ℕ
 movedBy (carried (plain p)) = 0
