@@ -60,6 +60,11 @@ class-unassigned (carried c) e = let none : ⊥ = omega (arith, class-small (imm
 class-unassigned float e = let none : ⊥ = omega arith in absurd none
 class-unassigned unassigned e = refl
 
+pub row-class-small : (r : Row) → classOf r ≤ UNASSIGNED
+row-class-small (carried c) = omega (arith, class-small (immediates c))
+row-class-small float = lit≤ tt
+row-class-small unassigned = lit≤ tt
+
 -- ---- the bytes moved
 
 width-power : (w : Width) → (k : ℕ) × (bytes w ≡ 2 ^ k) × (k ≤ 4)

@@ -6,3 +6,4 @@ pub mod Inverse
 pub mod Id
 pub mod Classes
 pub mod Effects
+pub mod Words

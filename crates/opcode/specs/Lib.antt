@@ -4,3 +4,4 @@ pub mod Immediate
 pub mod Effect
 pub mod Number
 pub mod Lists
+pub mod Inner

@@ -1,35 +1,12 @@
--- The kinds that an instruction takes and leaves, arm by arm.
-use mathlib.Core.Path.{ap}
-use Prim.Native.Nat.{ℕ}
-use mir.Syntax.{Body}
-use Rattle.opcode.specs.Table.{vectors, vectorAt, plainAt}
-use Rattle.opcode.specs.Number.{rowOf, effectOf}
-use Rattle.opcode.proofs.Rows.{row-beyond}
-use Rattle.opcode.proofs.Arms.{in-arm, past-arms}
-use Rattle.opcode.proofs.effect.Code.{function}
+-- Bytes 4 to 7 of the word.
+use borrow.Author.Needs.{needs}
+use Rattle.opcode.specs.Number.{rowOf}
+use Rattle.opcode.proofs.Words.{word-effect}
 use Rattle.opcode.proofs.effect.Statement.{statement}
 use Rattle.opcode.proofs.effect.Tie as tie
 
-abbrev f : ℕ → ℕ
-f id = effectOf (rowOf id)
-
-abbrev body : Body
-body = function .body
+returns : tie.Need-returns
+returns c = rw (c .word .ensures) (word-effect (rowOf (c .before .args .id)))
 
 pub effect-spec : {M : Type 1} → statement M
-unfolding rowOf plainAt vectorAt vectors
-effect-spec =
-    tie.close
-    (tie.spec
-    (λ c. in-arm f body 0 tt (c .match .keys1)) (λ c. in-arm f body 1 tt (c .match .keys2)) (λ c. in-arm f body 2 tt (c .match .keys3))
-    (λ c. in-arm f body 3 tt (c .match .keys4)) (λ c. in-arm f body 4 tt (c .match .keys5)) (λ c. in-arm f body 5 tt (c .match .keys6))
-    (λ c. in-arm f body 6 tt (c .match .keys7)) (λ c. in-arm f body 7 tt (c .match .keys8)) (λ c. in-arm f body 8 tt (c .match .keys9))
-    (λ c. in-arm f body 9 tt (c .match .keys10)) (λ c. in-arm f body 10 tt (c .match .keys11)) (λ c. in-arm f body 11 tt (c .match .keys12))
-    (λ c. in-arm f body 12 tt (c .match .keys13)) (λ c. in-arm f body 13 tt (c .match .keys14)) (λ c. in-arm f body 14 tt (c .match .keys15))
-    (λ c. in-arm f body 15 tt (c .match .keys16)) (λ c. in-arm f body 16 tt (c .match .keys17)) (λ c. in-arm f body 17 tt (c .match .keys18))
-    (λ c. in-arm f body 18 tt (c .match .keys19)) (λ c. in-arm f body 19 tt (c .match .keys20)) (λ c. in-arm f body 20 tt (c .match .keys21))
-    (λ c. in-arm f body 21 tt (c .match .keys22)) (λ c. in-arm f body 22 tt (c .match .keys23)) (λ c. in-arm f body 23 tt (c .match .keys24))
-    (λ c. in-arm f body 24 tt (c .match .keys25)) (λ c. in-arm f body 25 tt (c .match .keys26)) (λ c. in-arm f body 26 tt (c .match .keys27))
-    (λ c. in-arm f body 27 tt (c .match .keys28)) (λ c. in-arm f body 28 tt (c .match .keys29)) (λ c. in-arm f body 29 tt (c .match .keys30))
-    (λ c. in-arm f body 30 tt (c .match .keys31)) (λ c. in-arm f body 31 tt (c .match .keys32)) (λ c. in-arm f body 32 tt (c .match .keys33))
-    (λ c. past-arms f body 512 tt (λ h. ap effectOf (row-beyond (c .before .args .id) h)) (c .match .rest)))
+effect-spec = tie.close (tie.spec (λ c κs. search needs) (λ c. search needs) returns)
