@@ -6,4 +6,5 @@ pub mod Inverse
 pub mod Id
 pub mod Classes
 pub mod Effects
-pub mod Words
+pub mod Entries
+pub mod Unique

@@ -45,26 +45,26 @@ pub fn id_of(first: u8, number: u32) -> u32
 pub fn immediates(id: u32) -> u8
     ensures { λ r. ⌜ r ≡ classOf (rowOf id) ⌝ }
 {
-    (table::word(id) % 256) as u8
+    (table::entry(id) % 256) as u8
 }
 
 // The bytes that an access moves; 0 where memory is not touched.
 pub fn moved(id: u32) -> u32
     ensures { λ r. ⌜ r ≡ movedBy (rowOf id) ⌝ }
 {
-    (table::word(id) / 256 % 256) as u32
+    (table::entry(id) / 256 % 256) as u32
 }
 
 // How many lanes a lane index chooses among; 0 where there is no lane index.
 pub fn lanes(id: u32) -> u32
     ensures { λ r. ⌜ r ≡ lanesOf (rowOf id) ⌝ }
 {
-    (table::word(id) / 65536 % 256) as u32
+    (table::entry(id) / 65536 % 256) as u32
 }
 
 // The kinds' bytes: the top operand in byte 0, those below it in bytes 1 and 2, what is left in byte 3; 0 where there is none.
 pub fn effect(id: u32) -> u32
     ensures { λ r. ⌜ r ≡ effectOf (rowOf id) ⌝ }
 {
-    (table::word(id) / 0x1_0000_0000) as u32
+    (table::entry(id) / 0x1_0000_0000) as u32
 }

@@ -1,9 +1,9 @@
-// Document 002, a word for each number. From the highest byte: what is left on the stack, the third operand, the second and the top
-// one, each as its kind's byte; nothing; the lanes that a lane index chooses among; the bytes that an access moves; the class of the
-// immediates.
+// Document 002 in numbers: an entry of eight bytes for each id. From the highest: the kind of what is left on the stack; the kinds of the
+// third operand, the second and the top one; zero; the lanes that a lane index chooses among; the bytes that an access moves; the class
+// of the immediates.
 ghost use mathlib.Core.Path.{_≡_};
 ghost use Rattle.opcode.specs.Number.{rowOf};
-ghost use Rattle.opcode.specs.Inner.Word.{wordOf};
+ghost use Rattle.opcode.specs.Inner.Entry.{entryOf};
 
 const BARE: u64 = 0x00_00_00_00_00_00_00_00; // end, drop
 
@@ -81,10 +81,10 @@ const FLOATS: u64 = 0x00_00_00_00_00_00_00_09;
 
 const NONE: u64 = 0x00_00_00_00_00_00_00_0A;
 
-// The word of an id. No arm has two neighbours, the even numbers standing in one and the odd ones in another: neighbours would be
-// compiled to comparisons, and single numbers are compiled to a table.
-pub(crate) fn word(id: u32) -> u64
-    ensures { λ r. ⌜ r ≡ wordOf (rowOf id) ⌝ }
+// No arm has two neighbours: the even numbers stand in one and the odd ones in another. Neighbours would be compiled to a search by
+// comparisons, and numbers that stand alone are compiled to a table in memory.
+pub(crate) fn entry(id: u32) -> u64
+    ensures { λ r. ⌜ r ≡ entryOf (rowOf id) ⌝ }
 {
     match id {
         0x1A => BARE,

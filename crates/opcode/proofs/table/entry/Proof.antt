@@ -1,25 +1,25 @@
--- The word of each number, arm by arm.
+-- The entry of each id, arm by arm.
 use mathlib.Core.Path.{ap}
 use Prim.Native.Nat.{ℕ}
 use mir.Syntax.{Body}
 use Rattle.opcode.specs.Table.{vectors, vectorAt, plainAt}
 use Rattle.opcode.specs.Number.{rowOf}
-use Rattle.opcode.specs.Inner.Word.{wordOf}
+use Rattle.opcode.specs.Inner.Entry.{entryOf}
 use Rattle.opcode.proofs.Rows.{row-beyond}
 use Rattle.opcode.proofs.Arms.{in-arm, past-arms}
-use Rattle.opcode.proofs.table.word.Code.{function}
-use Rattle.opcode.proofs.table.word.Statement.{statement}
-use Rattle.opcode.proofs.table.word.Tie as tie
+use Rattle.opcode.proofs.table.entry.Code.{function}
+use Rattle.opcode.proofs.table.entry.Statement.{statement}
+use Rattle.opcode.proofs.table.entry.Tie as tie
 
 abbrev f : ℕ → ℕ
-f id = wordOf (rowOf id)
+f id = entryOf (rowOf id)
 
 abbrev body : Body
 body = function .body
 
-pub word-spec : {M : Type 1} → statement M
+pub entry-spec : {M : Type 1} → statement M
 unfolding rowOf plainAt vectorAt vectors
-word-spec =
+entry-spec =
     tie.close
     (tie.spec
     (λ c. in-arm f body 0 tt (c .match .keys1)) (λ c. in-arm f body 1 tt (c .match .keys2)) (λ c. in-arm f body 2 tt (c .match .keys3))
@@ -44,4 +44,4 @@ word-spec =
     (λ c. in-arm f body 57 tt (c .match .keys58)) (λ c. in-arm f body 58 tt (c .match .keys59)) (λ c. in-arm f body 59 tt (c .match .keys60))
     (λ c. in-arm f body 60 tt (c .match .keys61)) (λ c. in-arm f body 61 tt (c .match .keys62)) (λ c. in-arm f body 62 tt (c .match .keys63))
     (λ c. in-arm f body 63 tt (c .match .keys64))
-    (λ c. past-arms f body 512 tt (λ h. ap wordOf (row-beyond (c .before .args .id) h)) (c .match .rest)))
+    (λ c. past-arms f body 512 tt (λ h. ap entryOf (row-beyond (c .before .args .id) h)) (c .match .rest)))

@@ -1,7 +1,0 @@
--- Inner: a row as one word.
-use Prim.Native.Nat.{ℕ, _+_, _*_, _^_}
-use Rattle.opcode.specs.Table.{Row}
-use Rattle.opcode.specs.Number.{classOf, movedBy, lanesOf, effectOf}
-
-abbrev pub wordOf : Row → ℕ
-wordOf r = classOf r + 2 ^ 8 * movedBy r + 2 ^ 16 * lanesOf r + 2 ^ 32 * effectOf r
