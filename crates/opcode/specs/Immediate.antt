@@ -1,7 +1,6 @@
 -- What follows an opcode (01, "Instructions"; 002, "Immediate operands"), the bytes that an access moves, and how many lanes a lane
 -- index chooses among (000, "Load and store", "Immediate operands").
 use Prim.Native.Nat.{ℕ}
-use mir.Syntax.{Width}
 use mir.Val.{bytes}
 use Rattle.lane.specs.Shape.{lanes}
 use Rattle.lane.specs.Op.{Whole, Widen, Repeat, ZeroPad, Op, Load, LoadLane, Store, StoreLane, Const, Shuffle, Splat, ExtractLane, ReplaceLane, Unary, Binary, Bitselect, Test, Shift}

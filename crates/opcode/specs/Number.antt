@@ -1,4 +1,4 @@
--- An instruction as one number, its id, and what the code answers of it as numbers.
+-- An instruction as one number, its id: the first byte, or 256 and the number after FD. And what the table says of it, as numbers.
 use Prim.Native.Nat.{ℕ, _+_, _-_, _*_, _^_}
 use mathlib.Core.Bool.{cond}
 use mathlib.Core.List.{map, reverse}
@@ -6,13 +6,13 @@ use mathlib.Core.Option.{Option, none, some}
 use lib.Dec.{eqb, ltb}
 use Rattle.lane.specs.Vector.{number}
 use Rattle.opcode.specs.Kind.{kindByte}
-use Rattle.opcode.specs.Table.{Row, carried, float, unassigned, plain, vector, vectorAt, plainAt}
+use Rattle.opcode.specs.Table.{Row, carried, float, unassigned, plain, vector, vectorAt, plainAt, PREFIX}
 use Rattle.opcode.specs.Immediate.{Immediates, nothing, index, word, long, memory, memoryLane, laneIndex, sixteenBytes, sixteenLanes, immediates, moved, laneCount}
 use Rattle.opcode.specs.Effect.{Signature, _⇒_, effect}
 
--- the first byte, or 256 and FD's number; 512 stands for every number from 256 on, of which none is assigned
+-- 512 stands for every number after FD from 256 on: none of them is assigned
 abbrev pub idOf : ℕ → ℕ → ℕ
-idOf first n = cond (eqb first 0xFD) (cond (ltb n 256) (256 + n) 512) first
+idOf first n = cond (eqb first PREFIX) (cond (ltb n 256) (256 + n) 512) first
 
 unfoldable pub rowOf : ℕ → Row
 rowOf id = cond (ltb id 256) (plainAt id) (vectorAt (id - 256))
@@ -52,7 +52,7 @@ lanesOf (carried (vector o)) = laneCount o
 lanesOf float = 0
 lanesOf unassigned = 0
 
--- the kinds' bytes: the top operand in byte 0, the next in byte 1 and in byte 2, what is left in byte 3; 0 where there is none
+-- the kinds' bytes: the top operand in byte 0, those below it in bytes 1 and 2, what is left in byte 3; 0 where there is none
 abbrev pub packed : Option Signature → ℕ
 packed none = 0
 packed (some (ks ⇒ ls)) = number (map kindByte (reverse ks)) + 2 ^ 24 * number (map kindByte ls)

@@ -317,6 +317,9 @@ lookUp b (p ∷ ps) = cond (eqb b (p .0)) (carried (plain (p .1))) (lookUp b ps)
 unfoldable pub plainAt : ℕ → Row
 plainAt b = lookUp b plains
 
--- FD's number, or the first byte
+abbrev pub PREFIX : ℕ
+PREFIX = 0xFD
+
+-- by the number after the prefix, or by a first byte that is not the prefix
 abbrev pub rowAt : ℕ → ℕ → Row
-rowAt first number = cond (eqb first 0xFD) (vectorAt number) (plainAt first)
+rowAt first number = cond (eqb first PREFIX) (vectorAt number) (plainAt first)

@@ -29,13 +29,16 @@ pub const FLOAT: u8 = 9;
 
 pub const UNASSIGNED: u8 = 10;
 
-// The id of FD with any number from 256 on.
+// The first byte of the vector instructions.
+pub const PREFIX: u8 = 0xFD;
+
+// The id of the prefix with any number from 256 on.
 pub const BEYOND: u32 = 512;
 
 pub fn id_of(first: u8, number: u32) -> u32
     ensures { λ r. ⌜ r ≡ idOf first number ⌝ }
 {
-    if first != 0xFD {
+    if first != PREFIX {
         return first as u32;
     }
     if number < 256 { 256 + number } else { BEYOND }

@@ -1,85 +1,96 @@
 // Document 002 in numbers: an entry of eight bytes for each id. From the highest: the kind of what is left on the stack; the kinds of the
 // third operand, the second and the top one; zero; the lanes that a lane index chooses among; the bytes that an access moves; the class
 // of the immediates.
+use crate::BYTES;
+use crate::FLOAT;
+use crate::INDEX;
+use crate::LANE;
+use crate::LANES;
+use crate::LONG;
+use crate::MEMORY;
+use crate::MEMORY_LANE;
+use crate::NOTHING;
+use crate::UNASSIGNED;
+use crate::WORD;
 ghost use mathlib.Core.Path.{_≡_};
 ghost use Rattle.opcode.specs.Number.{rowOf};
 ghost use Rattle.opcode.specs.Inner.Entry.{entryOf};
 
-const BARE: u64 = 0x00_00_00_00_00_00_00_00; // end, drop
+const BARE: u64 = NOTHING as u64; // end, drop
 
-const LOCAL: u64 = 0x00_00_00_00_00_00_00_01; // local.get, set, tee
+const LOCAL: u64 = INDEX as u64; // local.get, set, tee
 
-const I32_CONST: u64 = 0x7F_00_00_00_00_00_00_02; // -> i32
+const I32_CONST: u64 = 0x7F_00_00_00_00_00_00_00 + WORD as u64; // -> i32
 
-const I64_CONST: u64 = 0x7E_00_00_00_00_00_00_03; // -> i64
+const I64_CONST: u64 = 0x7E_00_00_00_00_00_00_00 + LONG as u64; // -> i64
 
-const I32_BINARY: u64 = 0x7F_00_7F_7F_00_00_00_00; // i32 i32 -> i32
+const I32_BINARY: u64 = 0x7F_00_7F_7F_00_00_00_00 + NOTHING as u64; // i32 i32 -> i32
 
-const LOAD_8: u64 = 0x7B_00_00_7F_00_00_01_04; // i32 -> v128
+const LOAD_8: u64 = 0x7B_00_00_7F_00_00_01_00 + MEMORY as u64; // i32 -> v128
 
-const LOAD_16: u64 = 0x7B_00_00_7F_00_00_02_04; // i32 -> v128
+const LOAD_16: u64 = 0x7B_00_00_7F_00_00_02_00 + MEMORY as u64; // i32 -> v128
 
-const LOAD_32: u64 = 0x7B_00_00_7F_00_00_04_04; // i32 -> v128
+const LOAD_32: u64 = 0x7B_00_00_7F_00_00_04_00 + MEMORY as u64; // i32 -> v128
 
-const LOAD_64: u64 = 0x7B_00_00_7F_00_00_08_04; // i32 -> v128
+const LOAD_64: u64 = 0x7B_00_00_7F_00_00_08_00 + MEMORY as u64; // i32 -> v128
 
-const LOAD_128: u64 = 0x7B_00_00_7F_00_00_10_04; // i32 -> v128
+const LOAD_128: u64 = 0x7B_00_00_7F_00_00_10_00 + MEMORY as u64; // i32 -> v128
 
-const LOAD_LANE_8: u64 = 0x7B_00_7F_7B_00_10_01_05; // i32 v128 -> v128
+const LOAD_LANE_8: u64 = 0x7B_00_7F_7B_00_10_01_00 + MEMORY_LANE as u64; // i32 v128 -> v128
 
-const LOAD_LANE_16: u64 = 0x7B_00_7F_7B_00_08_02_05; // i32 v128 -> v128
+const LOAD_LANE_16: u64 = 0x7B_00_7F_7B_00_08_02_00 + MEMORY_LANE as u64; // i32 v128 -> v128
 
-const LOAD_LANE_32: u64 = 0x7B_00_7F_7B_00_04_04_05; // i32 v128 -> v128
+const LOAD_LANE_32: u64 = 0x7B_00_7F_7B_00_04_04_00 + MEMORY_LANE as u64; // i32 v128 -> v128
 
-const LOAD_LANE_64: u64 = 0x7B_00_7F_7B_00_02_08_05; // i32 v128 -> v128
+const LOAD_LANE_64: u64 = 0x7B_00_7F_7B_00_02_08_00 + MEMORY_LANE as u64; // i32 v128 -> v128
 
-const STORE_128: u64 = 0x00_00_7F_7B_00_00_10_04; // i32 v128 ->
+const STORE_128: u64 = 0x00_00_7F_7B_00_00_10_00 + MEMORY as u64; // i32 v128 ->
 
-const STORE_LANE_8: u64 = 0x00_00_7F_7B_00_10_01_05; // i32 v128 ->
+const STORE_LANE_8: u64 = 0x00_00_7F_7B_00_10_01_00 + MEMORY_LANE as u64; // i32 v128 ->
 
-const STORE_LANE_16: u64 = 0x00_00_7F_7B_00_08_02_05; // i32 v128 ->
+const STORE_LANE_16: u64 = 0x00_00_7F_7B_00_08_02_00 + MEMORY_LANE as u64; // i32 v128 ->
 
-const STORE_LANE_32: u64 = 0x00_00_7F_7B_00_04_04_05; // i32 v128 ->
+const STORE_LANE_32: u64 = 0x00_00_7F_7B_00_04_04_00 + MEMORY_LANE as u64; // i32 v128 ->
 
-const STORE_LANE_64: u64 = 0x00_00_7F_7B_00_02_08_05; // i32 v128 ->
+const STORE_LANE_64: u64 = 0x00_00_7F_7B_00_02_08_00 + MEMORY_LANE as u64; // i32 v128 ->
 
-const CONST: u64 = 0x7B_00_00_00_00_00_00_07; // -> v128
+const CONST: u64 = 0x7B_00_00_00_00_00_00_00 + BYTES as u64; // -> v128
 
-const SHUFFLE: u64 = 0x7B_00_7B_7B_00_00_00_08; // v128 v128 -> v128
+const SHUFFLE: u64 = 0x7B_00_7B_7B_00_00_00_00 + LANES as u64; // v128 v128 -> v128
 
-const SPLAT: u64 = 0x7B_00_00_7F_00_00_00_00; // i32 -> v128
+const SPLAT: u64 = 0x7B_00_00_7F_00_00_00_00 + NOTHING as u64; // i32 -> v128
 
-const SPLAT_64: u64 = 0x7B_00_00_7E_00_00_00_00; // i64 -> v128
+const SPLAT_64: u64 = 0x7B_00_00_7E_00_00_00_00 + NOTHING as u64; // i64 -> v128
 
-const EXTRACT_8: u64 = 0x7F_00_00_7B_00_10_00_06; // v128 -> i32
+const EXTRACT_8: u64 = 0x7F_00_00_7B_00_10_00_00 + LANE as u64; // v128 -> i32
 
-const EXTRACT_16: u64 = 0x7F_00_00_7B_00_08_00_06; // v128 -> i32
+const EXTRACT_16: u64 = 0x7F_00_00_7B_00_08_00_00 + LANE as u64; // v128 -> i32
 
-const EXTRACT_32: u64 = 0x7F_00_00_7B_00_04_00_06; // v128 -> i32
+const EXTRACT_32: u64 = 0x7F_00_00_7B_00_04_00_00 + LANE as u64; // v128 -> i32
 
-const EXTRACT_64: u64 = 0x7E_00_00_7B_00_02_00_06; // v128 -> i64
+const EXTRACT_64: u64 = 0x7E_00_00_7B_00_02_00_00 + LANE as u64; // v128 -> i64
 
-const REPLACE_8: u64 = 0x7B_00_7B_7F_00_10_00_06; // v128 i32 -> v128
+const REPLACE_8: u64 = 0x7B_00_7B_7F_00_10_00_00 + LANE as u64; // v128 i32 -> v128
 
-const REPLACE_16: u64 = 0x7B_00_7B_7F_00_08_00_06; // v128 i32 -> v128
+const REPLACE_16: u64 = 0x7B_00_7B_7F_00_08_00_00 + LANE as u64; // v128 i32 -> v128
 
-const REPLACE_32: u64 = 0x7B_00_7B_7F_00_04_00_06; // v128 i32 -> v128
+const REPLACE_32: u64 = 0x7B_00_7B_7F_00_04_00_00 + LANE as u64; // v128 i32 -> v128
 
-const REPLACE_64: u64 = 0x7B_00_7B_7E_00_02_00_06; // v128 i64 -> v128
+const REPLACE_64: u64 = 0x7B_00_7B_7E_00_02_00_00 + LANE as u64; // v128 i64 -> v128
 
-const UNARY: u64 = 0x7B_00_00_7B_00_00_00_00; // v128 -> v128
+const UNARY: u64 = 0x7B_00_00_7B_00_00_00_00 + NOTHING as u64; // v128 -> v128
 
-const BINARY: u64 = 0x7B_00_7B_7B_00_00_00_00; // v128 v128 -> v128
+const BINARY: u64 = 0x7B_00_7B_7B_00_00_00_00 + NOTHING as u64; // v128 v128 -> v128
 
-const BITSELECT: u64 = 0x7B_7B_7B_7B_00_00_00_00; // v128 v128 v128 -> v128
+const BITSELECT: u64 = 0x7B_7B_7B_7B_00_00_00_00 + NOTHING as u64; // v128 v128 v128 -> v128
 
-const TEST: u64 = 0x7F_00_00_7B_00_00_00_00; // v128 -> i32
+const TEST: u64 = 0x7F_00_00_7B_00_00_00_00 + NOTHING as u64; // v128 -> i32
 
-const SHIFT: u64 = 0x7B_00_7B_7F_00_00_00_00; // v128 i32 -> v128
+const SHIFT: u64 = 0x7B_00_7B_7F_00_00_00_00 + NOTHING as u64; // v128 i32 -> v128
 
-const FLOATS: u64 = 0x00_00_00_00_00_00_00_09;
+const FLOATS: u64 = FLOAT as u64;
 
-const NONE: u64 = 0x00_00_00_00_00_00_00_0A;
+const NONE: u64 = UNASSIGNED as u64;
 
 // No arm has two neighbours: the even numbers stand in one and the odd ones in another. Neighbours would be compiled to a search by
 // comparisons, and numbers that stand alone are compiled to a table in memory.
