@@ -1,0 +1,25 @@
+-- What each public function promises leaves one answer. `Post` is the function's own contract as the checker reads it, at the
+-- arguments, the answer, and the arguments as they are in the end.
+use mathlib.Core.Path.{_≡_, sym, _∙_}
+use Prim.Native.Nat.{ℕ}
+use Rattle.opcode.proofs.id_of.Reads as id-of
+use Rattle.opcode.proofs.immediates.Reads as immediates
+use Rattle.opcode.proofs.moved.Reads as moved
+use Rattle.opcode.proofs.lanes.Reads as lanes
+use Rattle.opcode.proofs.effect.Reads as effect
+
+pub one-id : (first n : ℕ) {r r′ : ℕ} → id-of.Post tt (first, (n, tt)) r (first, (n, tt)) → id-of.Post tt (first, (n, tt)) r′ (first, (n, tt)) → r ≡ r′
+one-id first n p q = p ∙ sym q
+
+module _ (id : ℕ) {r r′ : ℕ} where
+  pub one-class : immediates.Post tt (id, tt) r (id, tt) → immediates.Post tt (id, tt) r′ (id, tt) → r ≡ r′
+  one-class p q = p ∙ sym q
+
+  pub one-moved : moved.Post tt (id, tt) r (id, tt) → moved.Post tt (id, tt) r′ (id, tt) → r ≡ r′
+  one-moved p q = p ∙ sym q
+
+  pub one-lane-count : lanes.Post tt (id, tt) r (id, tt) → lanes.Post tt (id, tt) r′ (id, tt) → r ≡ r′
+  one-lane-count p q = p ∙ sym q
+
+  pub one-effect : effect.Post tt (id, tt) r (id, tt) → effect.Post tt (id, tt) r′ (id, tt) → r ≡ r′
+  one-effect p q = p ∙ sym q

@@ -1,0 +1,17 @@
+-- The kinds of values (01, "The strip file", "Values and shapes"): a kind's byte, and how many of a value's sixteen bytes it uses.
+use Prim.Native.Nat.{ℕ}
+
+pub data Kind : Type 0 where
+  i32 : Kind
+  i64 : Kind
+  v128 : Kind
+
+abbrev pub kindByte : Kind → ℕ
+kindByte i32 = 0x7F
+kindByte i64 = 0x7E
+kindByte v128 = 0x7B
+
+abbrev pub bytesUsed : Kind → ℕ
+bytesUsed i32 = 4
+bytesUsed i64 = 8
+bytesUsed v128 = 16

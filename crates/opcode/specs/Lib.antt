@@ -1,0 +1,7 @@
+pub mod Kind
+pub mod Table
+pub mod Immediate
+pub mod Effect
+pub mod Number
+pub mod Lists
+pub mod Inner

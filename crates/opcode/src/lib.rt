@@ -1,0 +1,73 @@
+// What the code asks of an instruction. An instruction goes from function to function as one number, its id: the first byte, or 256
+// and FD's number.
+mod table;
+
+ghost use mathlib.Core.Path.{_≡_};
+ghost use Rattle.opcode.specs.Number.{idOf, rowOf, classOf, movedBy, lanesOf, effectOf};
+
+// The classes of immediates.
+pub const NOTHING: u8 = 0;
+
+pub const INDEX: u8 = 1;
+
+pub const WORD: u8 = 2;
+
+pub const LONG: u8 = 3;
+
+pub const MEMORY: u8 = 4;
+
+pub const MEMORY_LANE: u8 = 5;
+
+pub const LANE: u8 = 6;
+
+pub const BYTES: u8 = 7;
+
+pub const LANES: u8 = 8;
+
+// Two more, of what is not carried.
+pub const FLOAT: u8 = 9;
+
+pub const UNASSIGNED: u8 = 10;
+
+// The first byte of the vector instructions.
+pub const PREFIX: u8 = 0xFD;
+
+// The id of the prefix with any number from 256 on.
+pub const BEYOND: u32 = 512;
+
+pub fn id_of(first: u8, number: u32) -> u32
+    ensures { λ r. ⌜ r ≡ idOf first number ⌝ }
+{
+    if first != PREFIX {
+        return first as u32;
+    }
+    if number < 256 { 256 + number } else { BEYOND }
+}
+
+// The class of what follows the opcode.
+pub fn immediates(id: u32) -> u8
+    ensures { λ r. ⌜ r ≡ classOf (rowOf id) ⌝ }
+{
+    (table::entry(id) % 256) as u8
+}
+
+// The bytes that an access moves; 0 where memory is not touched.
+pub fn moved(id: u32) -> u32
+    ensures { λ r. ⌜ r ≡ movedBy (rowOf id) ⌝ }
+{
+    (table::entry(id) / 256 % 256) as u32
+}
+
+// How many lanes a lane index chooses among; 0 where there is no lane index.
+pub fn lanes(id: u32) -> u32
+    ensures { λ r. ⌜ r ≡ lanesOf (rowOf id) ⌝ }
+{
+    (table::entry(id) / 65536 % 256) as u32
+}
+
+// The kinds' bytes: the top operand in byte 0, those below it in bytes 1 and 2, what is left in byte 3; 0 where there is none.
+pub fn effect(id: u32) -> u32
+    ensures { λ r. ⌜ r ≡ effectOf (rowOf id) ⌝ }
+{
+    (table::entry(id) / 0x1_0000_0000) as u32
+}
