@@ -13,7 +13,7 @@ use lib.Signed.{mag, ltZ, nonNeg, shrZ, mag-shr}
 use mir.Syntax.{Width, w8, w16, w32, w64, w128}
 use mir.Val.{bits, hbits, Fits, SFits, toZ, ofZ}
 use mir.ValLaws.{pow-bits, toZ-pos, toZ-neg, toZ-ofZ, toZ-fits, half-full}
-use Rattle.lane.specs.Shape.{least, largest, allOnes}
+use Rattle.lane.specs.Shape.{least, largest}
 use Rattle.lane.specs.Scalar.{clamp}
 use Rattle.lane.proofs.Laws.Wrap.{sub-cases, negBits}
 
@@ -186,10 +186,6 @@ half-power w = ap (λ (m : ℕ). 2 ^ m) (half-bits w)
 pub in-range : (w : Width) (z : ℤ) → ltZ z (least w) ≡ false → ltZ (largest w) z ≡ false → SFits w z
 in-range w (pos n) e f = record { sfits = omega (arith, ltb-false (2 ^ (bits w - 1) - 1) n f, pow-pos (hbits w), half-power w) }
 in-range w (negsuc n) e f = record { sfits = omega (arith, ltb-false (2 ^ (bits w - 1) - 1) n e, pow-pos (hbits w), half-power w) }
-
-pub in-range-u : (w : Width) (z : ℤ) → ltZ z (pos 0) ≡ false → ltZ (pos (allOnes w)) z ≡ false → T (nonNeg z) × Fits w (natAbs z)
-in-range-u w (pos n) e f = (tt, record { fits = omega (arith, ltb-false (2 ^ bits w - 1) n f, pow-pos (bits w)) })
-in-range-u w (negsuc n) e f = absurd (subst T e tt)
 
 -- ---- the shift that copies the sign
 pub shr-is : (w : Width) (z : ℤ) (m : ℕ) → mag z < 2 ^ hbits w → toZ w (ofZ w (shrZ (toZ w (ofZ w z)) m)) ≡ shrZ z m
