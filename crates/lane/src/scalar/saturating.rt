@@ -1,8 +1,8 @@
 // Saturating arithmetic at 8 and 16 bits: an exact sum, difference or product in the next wider type, kept within the lane.
 ghost use mathlib.Core.Path.{_≡_};
-ghost use lib.IntN.{_+ℤ_, _-ℤ_, _*ℤ_};
-ghost use mir.Syntax.{w8, w16, w32, w64};
-ghost use Rattle.lane.specs.Shape.{least, largest};
+ghost use lib.IntN.{pos, _+ℤ_, _-ℤ_};
+ghost use mir.Syntax.{w8, w16};
+ghost use Rattle.lane.specs.Shape.{least, largest, allOnes};
 ghost use Rattle.lane.specs.Scalar.{S, U, value, clamp, sat, iaddsat, isubsat, iavgr, iq15mulrsat};
 use crate::scalar::sign::bits8;
 use crate::scalar::sign::bits16;
@@ -42,16 +42,22 @@ pub(crate) fn sat_s8(z: i16) -> u8
     bits8(clamp8(z))
 }
 
-pub(crate) fn sat_u8(z: i16) -> u8
-    ensures { λ r. ⌜ r ≡ sat U w8 z ⌝ }
+fn clamp_u8(z: i16) -> i16
+    ensures { λ r. ⌜ r ≡ clamp (pos 0) (pos (allOnes w8)) z ⌝ }
 {
     if z < 0 {
         0
     } else if (I8x16::ALL as i16) < z {
-        I8x16::ALL
+        I8x16::ALL as i16
     } else {
-        z as u8
+        z
     }
+}
+
+pub(crate) fn sat_u8(z: i16) -> u8
+    ensures { λ r. ⌜ r ≡ sat U w8 z ⌝ }
+{
+    clamp_u8(z) as u8
 }
 
 pub(crate) fn add_sat_s8(x: u8, y: u8) -> u8
@@ -118,16 +124,22 @@ pub(crate) fn sat_s16(z: i32) -> u16
     bits16(clamp16(z))
 }
 
-pub(crate) fn sat_u16(z: i32) -> u16
-    ensures { λ r. ⌜ r ≡ sat U w16 z ⌝ }
+fn clamp_u16(z: i32) -> i32
+    ensures { λ r. ⌜ r ≡ clamp (pos 0) (pos (allOnes w16)) z ⌝ }
 {
     if z < 0 {
         0
     } else if (I16x8::ALL as i32) < z {
-        I16x8::ALL
+        I16x8::ALL as i32
     } else {
-        z as u16
+        z
     }
+}
+
+pub(crate) fn sat_u16(z: i32) -> u16
+    ensures { λ r. ⌜ r ≡ sat U w16 z ⌝ }
+{
+    clamp_u16(z) as u16
 }
 
 pub(crate) fn add_sat_s16(x: u16, y: u16) -> u16

@@ -1,35 +1,24 @@
--- Kept within 0 and the largest unsigned value of 16 bits.
+-- The bits of a clamped value.
 use borrow.Author.Needs.{needs}
 use mathlib.Core.Path.{_∙_, ap}
-use mir.Syntax.{w16, w32}
 use lib.IntN.{pos}
-use mir.Val.{toZ, ofZ}
+use mir.Syntax.{w16, w32}
 use Rattle.lane.specs.Shape.{allOnes}
-use Rattle.lane.specs.Scalar.{wrap, sat}
-use Rattle.lane.proofs.Laws.Twos.{clamp-low, clamp-high, clamp-mid, in-range-u}
-use Rattle.lane.proofs.Laws.Saturate.{wrap-within}
+use Rattle.lane.specs.Scalar.{clamp}
+use Rattle.lane.proofs.Laws.Twos.{crossed}
+use Rattle.lane.proofs.Laws.Saturate.{cast-u, sat-u}
 use Rattle.lane.proofs.scalar.saturating.sat_u16.Statement.{statement}
 use Rattle.lane.proofs.scalar.saturating.sat_u16.Tie as tie
 
-returns : tie.Need-returns
-unfolding sat
-returns c = ap (wrap w16) (clamp-low (pos 0) (pos (allOnes w16)) w32 (c .before .args .z) (c .before .fits .z) (c .if1 .taken))
-
-returns-2 : tie.Need-returns-2
-unfolding sat
-returns-2 c =
-    let a = c .before .before in
-    ap (wrap w16) (clamp-high (pos 0) (pos (allOnes w16)) w32 (a .args .z) (a .fits .z) (c .before .if1 .left) (c .if2 .taken))
-
 cast-result : tie.Need-cast-result
-cast-result c = in-range-u w16 (toZ w32 (ofZ w32 (c .before .before .args .z))) (c .before .if1 .left) (c .if2 .left)
+cast-result c =
+    let s = c .clamp-u16 in let a = c .before in
+    cast-u w16 w32 (s .result) (a .args .z) (s .ok) (s .ensures ∙ ap (clamp (pos 0) (pos (allOnes w16))) (crossed w32 (a .args .z) (a .fits .z .sfits)))
 
-returns-3 : tie.Need-returns-3
-unfolding sat
-returns-3 c =
-    let a = c .before .before in
-    wrap-within w16 (toZ w32 (ofZ w32 (a .args .z))) (cast-result c)
-    ∙ ap (wrap w16) (clamp-mid (pos 0) (pos (allOnes w16)) w32 (a .args .z) (a .fits .z) (c .before .if1 .left) (c .if2 .left))
+returns : tie.Need-returns
+returns c =
+    let s = c .clamp-u16 in let a = c .before in
+    sat-u w16 w32 (s .result) (a .args .z) (s .ok) (s .ensures ∙ ap (clamp (pos 0) (pos (allOnes w16))) (crossed w32 (a .args .z) (a .fits .z .sfits)))
 
 pub sat-u16-spec : {M : Type 1} → statement M
-sat-u16-spec = tie.close (tie.spec (λ c. search needs) cast-result returns returns-2 returns-3)
+sat-u16-spec = tie.close (tie.spec (λ c κs. search needs) cast-result returns)
