@@ -1,25 +1,25 @@
 -- What the class of an instruction's row says of decoding and encoding it.
 use Prim.Native.Nat.{ℕ, _<_, _≤_}
-use mathlib.Core.Path.{_≡_, refl, sym, ap, subst, _∙_}
-use mathlib.Core.List.{List, [], _∷_}
 use mathlib.Core.Bool.{Bool, cond}
+use mathlib.Core.List.{List, [], _∷_}
 use mathlib.Core.Logic.{_⊎_, inl, inr, ⊎-elim}
+use mathlib.Core.Path.{_≡_, refl, sym, ap, subst, _∙_}
 use native.Mathlib.Omega.{arith}
 use lib.Dec.{eqb}
 use borrow.Author.Tests.{eq-eqb, ne-eqb, lt-ltb, le-ltb}
 use Rattle.card.specs.Card.{DONE, OPCODE}
-use Rattle.card.specs.Card as card
 use Rattle.opcode.specs.Table.{Row, carried, float, unassigned, rowAt}
 use Rattle.opcode.specs.Immediate.{Immediates, nothing, index, word, long, memory, memoryLane, laneIndex, sixteenBytes, sixteenLanes, immediates}
 use Rattle.opcode.specs.Number.{classNumber, FLOAT, UNASSIGNED, classOf, movedBy, lanesOf, idOf, rowOf}
 use Rattle.opcode.proofs.Id.{row-of-id}
 use Rattle.opcode.proofs.Classes.{class-carried, class-float, class-unassigned}
 use Rattle.opcode.proofs.Arms.{Missed}
-use Rattle.instr.specs.Layout.{Field, Head, immediateFields, fieldsOf}
+use Rattle.instr.specs.Layout.{Head, immediateFields, fieldsOf}
 use Rattle.instr.specs.Decode.{refusal, immediatesAt, bodyOf}
 use Rattle.instr.specs.Encode.{exponentFault, allBelow, faultIn, faultOf}
 use Rattle.instr.specs.Inner.Steps.{memoryClass, laneEnds}
 use Rattle.instr.specs.declared.Instr.{Instr}
+use Rattle.card.specs.Card as card
 
 module _ (r : Row) (k : Immediates) (e : classOf r ≡ classNumber k) where
   pub body-class : (s : List ℕ) (at p : ℕ) (h : Head) → bodyOf r s at p h ≡ immediatesAt k (movedBy r) (lanesOf r) s at p h

@@ -1,24 +1,23 @@
 -- An instruction's bytes, class by class; and what encoding answers in each case.
 use Prim.Native.Nat.{ℕ, _+_, _<_, _≤_}
-use mathlib.Core.Path.{_≡_, refl, sym, ap, subst, _∙_}
 use mathlib.Core.Bool.{false, true}
 use mathlib.Core.List.{List, [], _∷_, _++_, append-nil}
 use mathlib.Core.Logic.{_⊎_, inl, inr}
+use mathlib.Core.Path.{_≡_, refl, sym, ap, subst, _∙_}
 use native.Mathlib.Nat.{zero-add}
-use native.Mathlib.Omega.{arith}
 use lib.ListN.{length, drop, length-append}
-use lib.Seq.{sets, sets-eq}
+use lib.Seq.{sets-eq}
 use borrow.Author.Tests.{le-leb, lt-leb, eq-eqb, ne-eqb}
 use Rattle.card.specs.Card.{DONE, SMALL}
 use Rattle.leb128.specs.Shortest.{bytesOf}
 use Rattle.opcode.specs.Table.{Row}
-use Rattle.opcode.specs.Immediate.{Immediates, nothing, index, word, long, memory, memoryLane, laneIndex, sixteenBytes, sixteenLanes}
+use Rattle.opcode.specs.Immediate.{index, word, long, memory, memoryLane, laneIndex, sixteenBytes, sixteenLanes}
 use Rattle.opcode.specs.Number.{classNumber, classOf}
-use Rattle.instr.specs.Layout.{Field, opcodeFields, immediateFields, fieldsOf, rowIn, layout}
+use Rattle.instr.specs.Layout.{opcodeFields, immediateFields, fieldsOf, rowIn, layout}
 use Rattle.instr.specs.Encode.{written, encoding, fault, answer, encoded, encodedIn}
 use Rattle.instr.specs.Inner.Steps.{Put}
 use Rattle.instr.specs.declared.Instr.{Instr}
-use Rattle.instr.proofs.Classes.{AllBut, fields-class, fields-other}
+use Rattle.instr.proofs.Classes.{fields-class}
 use Rattle.instr.proofs.Sets.{written-append, put-then}
 
 module _ (r : Row) (i : Instr) where

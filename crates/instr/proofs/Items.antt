@@ -1,8 +1,8 @@
 -- Each item of a file, by what stands at its place.
 use Prim.Native.Nat.{ℕ, _+_, _<_, _≤_, _^_}
-use mathlib.Core.Path.{_≡_, refl, sym, ap, _∙_}
 use mathlib.Core.Bool.{Bool, true, false, cond}
 use mathlib.Core.List.{List}
+use mathlib.Core.Path.{_≡_, ap}
 use native.Mathlib.Omega.{arith}
 use lib.Dec.{leb, eqb}
 use lib.ListN.{length, getD}
@@ -14,7 +14,7 @@ use Rattle.leb128.specs.declared.read.Leb.the-variants.{Val, Short, Number}
 use Rattle.leb128.specs.Bytes.{bytes}
 use Rattle.leb128.proofs.Bounds.{found-32}
 use Rattle.opcode.specs.Table.{PREFIX}
-use Rattle.instr.specs.Decode.{Item, got, no, itemOf, numberItem, byteAt, laneAt, exponentAt, opcodeNumber}
+use Rattle.instr.specs.Decode.{got, no, itemOf, numberItem, byteAt, laneAt, exponentAt, opcodeNumber}
 
 abbrev value : Leb → ℕ
 value (Val v n) = v

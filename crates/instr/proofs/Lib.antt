@@ -5,3 +5,6 @@ pub mod Memory
 pub mod Scan
 pub mod Sets
 pub mod Forms
+pub mod Fields
+pub mod Places
+pub mod Decodes

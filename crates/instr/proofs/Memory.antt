@@ -1,8 +1,8 @@
 -- A memory immediate, with a lane index after it or without.
 use Prim.Native.Nat.{ℕ}
-use mathlib.Core.Path.{_≡_}
 use mathlib.Core.Bool.{Bool, true, false}
 use mathlib.Core.List.{List}
+use mathlib.Core.Path.{_≡_}
 use Rattle.instr.specs.Layout.{Head, zeros, instr}
 use Rattle.instr.specs.Decode.{refusal, done, got, no, u32At, exponentAt, immediatesAt}
 use Rattle.instr.specs.Inner.Steps.{memoryClass, laneEnds}

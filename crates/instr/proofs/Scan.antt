@@ -1,8 +1,8 @@
 -- The scan of sixteen shuffle indices, and the copy of sixteen bytes.
-use Prim.Native.Nat.{ℕ, zero, suc, _+_, _-_, _<_, _≤_}
-use mathlib.Core.Path.{_≡_, refl, sym, ap, ap₂, _∙_}
+use Prim.Native.Nat.{ℕ, suc, _+_, _-_, _<_, _≤_}
 use mathlib.Core.List.{List, append-nil}
-use mathlib.Core.Logic.{_⊎_, inl, inr, ⊎-elim}
+use mathlib.Core.Logic.{inl, inr, ⊎-elim}
+use mathlib.Core.Path.{_≡_, sym, ap, ap₂, _∙_}
 use native.Mathlib.Nat.{zero-add, add-zero}
 use native.Mathlib.Numerals.{add-one}
 use native.Mathlib.Omega.{arith}
@@ -10,7 +10,7 @@ use lib.ListN.{length, getD, take, drop, set, length-drop}
 use lib.Seq.{paste, paste-suc, getD-drop}
 use Rattle.card.specs.Card.{SHORT, LANE}
 use Rattle.instr.specs.Layout.{zeros}
-use Rattle.instr.specs.Decode.{Item, got, no, lanesAt}
+use Rattle.instr.specs.Decode.{got, no, lanesAt}
 use Rattle.instr.specs.Inner.Steps.{Scanned}
 use Rattle.instr.proofs.Items.{lane-good, lane-bad, lane-cut}
 

@@ -1,20 +1,19 @@
 -- Bytes written one after the other, and what the encoder's loops leave.
-use Prim.Native.Nat.{ℕ, zero, suc, _+_, _-_, _<_, _≤_}
-use mathlib.Core.Path.{_≡_, refl, sym, ap, subst, _∙_}
+use Prim.Native.Nat.{ℕ, suc, _+_, _<_, _≤_}
 use mathlib.Core.Bool.{Bool, true, false}
 use mathlib.Core.List.{List, [], _∷_, _++_, append-assoc, append-nil}
+use mathlib.Core.Path.{_≡_, refl, sym, ap, subst, _∙_}
 use native.Mathlib.Nat.{add-zero, add-suc, suc-add}
 use native.Mathlib.Numerals.{add-one}
 use native.Mathlib.Omega.{arith}
-use lib.Dec.{eqb}
 use lib.ListN.{length, getD, drop, set, length-set, drop-of-length-le, length-append}
 use lib.Seq.{sets, drop-cons}
 use borrow.Author.Tests.{lt-ltb, le-ltb, eq-eqb, ne-eqb}
 use Rattle.leb128.specs.Shortest.{bytesOf}
 use Rattle.leb128.specs.Promise.{WritesNumber}
 use Rattle.leb128.specs.declared.write.Wrote.{Wrote}
-use Rattle.leb128.specs.declared.write.Wrote.the-variants.{To, Small}
-use Rattle.leb128.proofs.Puts.{goes-to, not-small, goes-bytes}
+use Rattle.leb128.specs.declared.write.Wrote.the-variants.{To}
+use Rattle.leb128.proofs.Puts.{goes-to, goes-bytes}
 use Rattle.opcode.specs.Table.{PREFIX}
 use Rattle.instr.specs.Layout.{Field, opcodeFields}
 use Rattle.instr.specs.Encode.{shortestBytes, written, allBelow}

@@ -3,8 +3,8 @@
 use Prim.Native.Nat.{ℕ, zero, suc, _+_, _-_, _^_}
 use mathlib.Core.Bool.{Bool, true, false, cond}
 use mathlib.Core.List.{List}
-use lib.ListN.{length, getD, take, drop}
 use lib.Dec.{ltb, leb, eqb}
+use lib.ListN.{length, getD, take, drop}
 use Rattle.card.specs.Card.{SHORT, OPCODE, FLOAT, NUMBER, LANE, ALIGN}
 use Rattle.leb128.specs.Number.{numberAt}
 use Rattle.leb128.specs.declared.read.Leb.{Leb}

@@ -1,9 +1,9 @@
 -- What encoding one instruction answers and writes (01, "Encoding one reads only the immediates that instruction has").
 use Prim.Native.Nat.{ℕ, _^_}
-use mathlib.Core.List.{List, [], _∷_, _++_}
 use mathlib.Core.Bool.{Bool, true, cond, _&&_}
-use lib.ListN.{length, drop}
+use mathlib.Core.List.{List, [], _∷_, _++_}
 use lib.Dec.{ltb, leb, eqb}
+use lib.ListN.{length, drop}
 use Rattle.card.specs.Card.{DONE, OPCODE, FLOAT, LANE, ALIGN, SMALL}
 use Rattle.leb128.specs.Shortest.{bytesOf}
 use Rattle.opcode.specs.Table.{Row, carried, float, unassigned}

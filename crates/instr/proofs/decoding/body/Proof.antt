@@ -1,132 +1,92 @@
-use native.Mathlib.Omega.{arith}
+use borrow.Author.Needs.{needs}
 use mathlib.Core.Path.{sym, _∙_, refl}
+use native.Mathlib.Omega.{arith}
 use Rattle.opcode.specs.Number.{rowOf}
 use Rattle.opcode.specs.Immediate.{nothing, index, word, long, sixteenBytes, sixteenLanes}
 use Rattle.opcode.proofs.Classes.{row-moved-small}
 use Rattle.instr.specs.Decode.{immediatesAt}
 use Rattle.instr.proofs.Classes.{class-at, body-class, body-lane, body-memory, body-float, body-none}
-use borrow.Author.Needs.{needs}
 use Rattle.instr.proofs.decoding.body.Statement.{statement}
 use Rattle.instr.proofs.decoding.body.Tie as tie
-use Rattle.instr.proofs.decoding.body.Reads as reads
-use Rattle.instr.proofs.decoding.body.Lts as lts
-use Rattle.instr.proofs.decoding.refused.Reads as refused-reads
-use Rattle.instr.proofs.decoding.whole.Reads as whole-reads
-use Rattle.instr.proofs.decoding.with_bytes.Reads as with-bytes-reads
-use Rattle.instr.proofs.decoding.with_index.Reads as with-index-reads
-use Rattle.instr.proofs.decoding.with_lane.Reads as with-lane-reads
-use Rattle.instr.proofs.decoding.with_lanes.Reads as with-lanes-reads
-use Rattle.instr.proofs.decoding.with_long.Reads as with-long-reads
-use Rattle.instr.proofs.decoding.with_memory.Reads as with-memory-reads
-use Rattle.instr.proofs.decoding.with_word.Reads as with-word-reads
-use Rattle.opcode.proofs.id_of.Reads as id-of-reads
-use Rattle.opcode.proofs.immediates.Reads as immediates-reads
-use Rattle.opcode.proofs.lanes.Reads as lanes-reads
-use Rattle.opcode.proofs.moved.Reads as moved-reads
 
--- src/decoding.rt:101:9
 id-of-requires : tie.Need-id-of-requires
 id-of-requires c κs = search needs
 
--- src/decoding.rt:102:9
 immediates-requires : tie.Need-immediates-requires
 immediates-requires c κs = search needs
 
--- src/decoding.rt:104:28
 whole-requires : tie.Need-whole-requires
 whole-requires c κs = search needs
 
--- src/decoding.rt:105:26
 with-index-requires : tie.Need-with-index-requires
 with-index-requires c κs = search needs
 
--- src/decoding.rt:106:25
 with-word-requires : tie.Need-with-word-requires
 with-word-requires c κs = search needs
 
--- src/decoding.rt:107:25
 with-long-requires : tie.Need-with-long-requires
 with-long-requires c κs = search needs
 
--- src/decoding.rt:112:60
 lanes-requires : tie.Need-lanes-requires
 lanes-requires c κs = search needs
 
--- src/decoding.rt:112:25
 with-lane-requires : tie.Need-with-lane-requires
 with-lane-requires c κs = search needs
 
--- src/decoding.rt:113:26
 with-bytes-requires : tie.Need-with-bytes-requires
 with-bytes-requires c κs = search needs
 
--- src/decoding.rt:114:26
 with-lanes-requires : tie.Need-with-lanes-requires
 with-lanes-requires c κs = search needs
 
--- src/decoding.rt:115:26
 refused-requires : tie.Need-refused-requires
 refused-requires c κs = search needs
 
--- src/decoding.rt:110:50
 moved-requires : tie.Need-moved-requires
 moved-requires c κs = search needs
 
--- src/decoding.rt:110:69
 lanes-requires-2 : tie.Need-lanes-requires-2
 lanes-requires-2 c κs = search needs
 
--- src/decoding.rt:110:13
 with-memory-requires : tie.Need-with-memory-requires
 with-memory-requires c κs = (c .before .before .before .before .before .before .before .pre .0, omega (arith, c .before .moved .ensures, row-moved-small (rowOf (c .before .before .before .before .before .id-of .result))))
 
--- src/decoding.rt:116:14
 refused-requires-2 : tie.Need-refused-requires-2
 refused-requires-2 c κs = search needs
 
--- src/decoding.rt:97:1
 returns : tie.Need-returns
 unfolding immediatesAt
 returns c = c .whole .ensures ∙ sym (body-class _ nothing (class-at (c .before .before .before .before .before .args .first) (c .before .before .before .before .before .args .number) _ _ (search needs) (c .before .before .before .id-of .ensures) (c .before .before .immediates .ensures) (c .before .match .keys1)) _ _ _ _)
 
--- src/decoding.rt:97:1
 returns-2 : tie.Need-returns-2
 unfolding immediatesAt
 returns-2 c = c .with-index .ensures ∙ sym (body-class _ index (class-at (c .before .before .before .before .before .args .first) (c .before .before .before .before .before .args .number) _ _ (search needs) (c .before .before .before .id-of .ensures) (c .before .before .immediates .ensures) (c .before .match .keys2)) _ _ _ _)
 
--- src/decoding.rt:97:1
 returns-3 : tie.Need-returns-3
 unfolding immediatesAt
 returns-3 c = c .with-word .ensures ∙ sym (body-class _ word (class-at (c .before .before .before .before .before .args .first) (c .before .before .before .before .before .args .number) _ _ (search needs) (c .before .before .before .id-of .ensures) (c .before .before .immediates .ensures) (c .before .match .keys3)) _ _ _ _)
 
--- src/decoding.rt:97:1
 returns-4 : tie.Need-returns-4
 unfolding immediatesAt
 returns-4 c = c .with-long .ensures ∙ sym (body-class _ long (class-at (c .before .before .before .before .before .args .first) (c .before .before .before .before .before .args .number) _ _ (search needs) (c .before .before .before .id-of .ensures) (c .before .before .immediates .ensures) (c .before .match .keys4)) _ _ _ _)
 
--- src/decoding.rt:97:1
 returns-5 : tie.Need-returns-5
 returns-5 c = c .with-lane .ensures ∙ body-lane (c .before .before .before .before .before .before .args .first) (c .before .before .before .before .before .before .args .number) _ _ (search needs) (c .before .before .before .before .id-of .ensures) (c .before .before .before .immediates .ensures) _ _ _ _ _ (c .before .lanes .ensures) (c .before .before .match .keys5)
 
--- src/decoding.rt:97:1
 returns-6 : tie.Need-returns-6
 unfolding immediatesAt
 returns-6 c = c .with-bytes .ensures ∙ sym (body-class _ sixteenBytes (class-at (c .before .before .before .before .before .args .first) (c .before .before .before .before .before .args .number) _ _ (search needs) (c .before .before .before .id-of .ensures) (c .before .before .immediates .ensures) (c .before .match .keys6)) _ _ _ _)
 
--- src/decoding.rt:97:1
 returns-7 : tie.Need-returns-7
 unfolding immediatesAt
 returns-7 c = c .with-lanes .ensures ∙ sym (body-class _ sixteenLanes (class-at (c .before .before .before .before .before .args .first) (c .before .before .before .before .before .args .number) _ _ (search needs) (c .before .before .before .id-of .ensures) (c .before .before .immediates .ensures) (c .before .match .keys7)) _ _ _ _)
 
--- src/decoding.rt:97:1
 returns-8 : tie.Need-returns-8
 returns-8 c = c .refused .ensures ∙ sym (body-float _ (class-at (c .before .before .before .before .before .args .first) (c .before .before .before .before .before .args .number) _ _ (search needs) (c .before .before .before .id-of .ensures) (c .before .before .immediates .ensures) (c .before .match .keys8)) _ _ _ _)
 
--- src/decoding.rt:97:1
 returns-9 : tie.Need-returns-9
 returns-9 c = c .with-memory .ensures ∙ body-memory (c .before .before .before .before .before .before .before .before .args .first) (c .before .before .before .before .before .before .before .before .args .number) _ _ (search needs) (c .before .before .before .before .before .before .id-of .ensures) (c .before .before .before .before .before .immediates .ensures) _ _ _ _ _ _ _ (c .before .before .moved .ensures) (c .before .lanes2 .ensures) refl (c .before .before .before .before .match .rest) (c .before .before .before .if1 .taken)
 
--- src/decoding.rt:97:1
 returns-10 : tie.Need-returns-10
 returns-10 c = c .refused2 .ensures ∙ sym (body-none (c .before .before .before .before .before .before .args .first) (c .before .before .before .before .before .before .args .number) _ _ (search needs) (c .before .before .before .before .id-of .ensures) (c .before .before .before .immediates .ensures) _ _ _ _ (c .before .before .match .rest) (c .before .if1 .left))
 

@@ -1,81 +1,60 @@
-use denote.Ref.{now}
-use native.Mathlib.Omega.{arith}
+use borrow.Author.Needs.{needs}
 use mathlib.Core.Path.{sym, _∙_}
+use native.Mathlib.Omega.{arith}
+use denote.Ref.{now}
 use Rattle.instr.specs.Decode.{decodeAt}
 use Rattle.instr.proofs.Items.{byte-there, byte-cut, opcode-found}
-use borrow.Author.Needs.{needs}
 use Rattle.instr.proofs.decoding.decode.Statement.{statement}
 use Rattle.instr.proofs.decoding.decode.Tie as tie
-use Rattle.instr.proofs.decoding.decode.Reads as reads
-use Rattle.instr.proofs.decoding.decode.Lts as lts
-use Rattle.instr.proofs.decoding.body.Reads as body-reads
-use Rattle.instr.proofs.decoding.opcode_number.Reads as opcode-number-reads
-use Rattle.instr.proofs.decoding.refused.Reads as refused-reads
 
--- src/decoding.rt:18:9
 refused-requires : tie.Need-refused-requires
 refused-requires c κs = search needs
 
--- src/decoding.rt:18:9
 returns : tie.Need-returns
 unfolding decodeAt
 returns c = simp (byte-cut (now (c .before .before .before .args .s)) (c .before .before .before .args .at) (c .before .if1 .taken)) (c .refused .ensures)
 
--- src/decoding.rt:20:17
 shared-slice-read-first : tie.Need-shared-slice-read-first
 shared-slice-read-first c = search needs
 
--- src/decoding.rt:21:13
 add-p : tie.Need-add-p
 add-p c = search needs
 
--- src/decoding.rt:22:11
 opcode-number-requires : tie.Need-opcode-number-requires
 opcode-number-requires c κs = search needs
 
--- src/decoding.rt:23:18
 enum-known-n : tie.Need-enum-known-n
 enum-known-n c = search needs
 
--- src/decoding.rt:23:39
 add-body : tie.Need-add-body
 add-body c = omega (arith, opcode-found _ (λ j. c .before .before .before .before .before .before .shared-slice-known .given j .fits) _ _ _ _ (omega (arith, c .before .before .before .before .before .if1 .left)) (sym (c .before .before .before .opcode-number .ensures) ∙ c .before .n .given .1))
 
--- src/decoding.rt:23:53
 cast-body : tie.Need-cast-body
 cast-body c = omega (arith, opcode-found _ (λ j. c .before .before .before .before .before .before .shared-slice-known .given j .fits) _ _ _ _ (omega (arith, c .before .before .before .before .before .if1 .left)) (sym (c .before .before .before .opcode-number .ensures) ∙ c .before .n .given .1))
 
--- src/decoding.rt:23:27
 body-requires : tie.Need-body-requires
 body-requires c κs = omega (arith, opcode-found _ (λ j. c .before .before .before .before .before .before .shared-slice-known .given j .fits) _ _ _ _ (omega (arith, c .before .before .before .before .before .if1 .left)) (sym (c .before .before .before .opcode-number .ensures) ∙ c .before .n .given .1))
 
--- src/decoding.rt:24:44
 enum-told : tie.Need-enum-told
 enum-told c = search needs
 
--- src/decoding.rt:24:23
 refused-requires-2 : tie.Need-refused-requires-2
 refused-requires-2 c κs = search needs
 
--- src/decoding.rt:25:24
 enum-told-2 : tie.Need-enum-told-2
 enum-told-2 c = search needs
 
--- src/decoding.rt:25:24
 refused-requires-3 : tie.Need-refused-requires-3
 refused-requires-3 c κs = search needs
 
--- src/decoding.rt:14:1
 returns-2 : tie.Need-returns-2
 unfolding decodeAt
 returns-2 c = simp (byte-there (now (c .before .before .before .before .before .before .before .before .args .s)) (c .before .before .before .before .before .before .before .before .args .at) (c .before .before .before .before .before .before .if1 .left), sym (c .before .before .before .before .opcode-number .ensures) ∙ c .before .before .n .given .1) (c .body .ensures)
 
--- src/decoding.rt:14:1
 returns-3 : tie.Need-returns-3
 unfolding decodeAt
 returns-3 c = simp (byte-there (now (c .before .before .before .before .before .before .before .args .s)) (c .before .before .before .before .before .before .before .args .at) (c .before .before .before .before .before .if1 .left), sym (c .before .before .before .opcode-number .ensures) ∙ c .before .enum-told .given .1) (c .refused2 .ensures)
 
--- src/decoding.rt:14:1
 returns-4 : tie.Need-returns-4
 unfolding decodeAt
 returns-4 c = simp (byte-there (now (c .before .before .before .before .before .before .before .args .s)) (c .before .before .before .before .before .before .before .args .at) (c .before .before .before .before .before .if1 .left), sym (c .before .before .before .opcode-number .ensures) ∙ c .before .enum-told2 .given .1) (c .refused3 .ensures)

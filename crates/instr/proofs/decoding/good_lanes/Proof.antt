@@ -1,11 +1,9 @@
 use borrow.Author.Needs.{needs}
-use native.Mathlib.Omega.{arith}
 use Prim.Native.Nat.{_-_}
+use native.Mathlib.Omega.{arith}
 use Rattle.instr.proofs.Scan.{Passing, passing, passes, all-passed, cut-off, met-bad}
 use Rattle.instr.proofs.decoding.good_lanes.Statement.{statement}
 use Rattle.instr.proofs.decoding.good_lanes.Tie as tie
-use Rattle.instr.proofs.decoding.good_lanes.Reads as reads
-use Rattle.instr.proofs.decoding.good_lanes.Lts as lts
 
 abbrev Inv-loop : tie.InvT-loop
 Inv-loop s p k₀ k = Passing s p k
@@ -13,43 +11,33 @@ Inv-loop s p k₀ k = Passing s p k
 abbrev μ-loop : tie.MeasureT-loop
 μ-loop s p k₀ k = 16 - k
 
--- src/decoding.rt:246:5
 loop-holds : tie.Need-loop-holds Inv-loop μ-loop
 loop-holds c = passing _ _ (c .pre)
 
--- src/decoding.rt:250:12
 sub-if2 : tie.Need-sub-if2 Inv-loop μ-loop
 sub-if2 c = omega (arith, c .before .loop .inv .inside)
 
--- src/decoding.rt:253:20
 add-if3 : tie.Need-add-if3 Inv-loop μ-loop
 add-if3 c = search needs
 
--- src/decoding.rt:253:18
 shared-slice-read-if3 : tie.Need-shared-slice-read-if3 Inv-loop μ-loop
 shared-slice-read-if3 c = search needs
 
--- src/decoding.rt:256:13
 add-k : tie.Need-add-k Inv-loop μ-loop
 add-k c = search needs
 
--- src/decoding.rt:246:5
 loop-less : tie.Need-loop-less Inv-loop μ-loop
 loop-less c = search needs
 
--- src/decoding.rt:246:5
 loop-again : tie.Need-loop-again Inv-loop μ-loop
 loop-again c = passes (c .before .before .before .before .loop .inv) (c .before .before .before .if1 .left) (omega (arith, c .before .before .if2 .left)) (c .if3 .left)
 
--- src/decoding.rt:241:1
 returns : tie.Need-returns Inv-loop μ-loop
 returns c = all-passed (c .before .loop .inv) (c .if1 .taken)
 
--- src/decoding.rt:241:1
 returns-2 : tie.Need-returns-2 Inv-loop μ-loop
 returns-2 c = cut-off (c .before .before .loop .inv) (c .if2 .taken)
 
--- src/decoding.rt:241:1
 returns-3 : tie.Need-returns-3 Inv-loop μ-loop
 returns-3 c = met-bad (c .before .before .before .before .loop .inv) (c .if3 .taken)
 

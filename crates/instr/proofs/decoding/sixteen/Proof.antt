@@ -1,12 +1,10 @@
 use borrow.Author.Needs.{needs}
-use native.Mathlib.Omega.{arith}
 use Prim.Native.Nat.{_-_, _≤_}
 use mathlib.Core.Path.{_≡_, refl}
+use native.Mathlib.Omega.{arith}
 use Rattle.instr.proofs.Scan.{copied, copy-more, copy-ends}
 use Rattle.instr.proofs.decoding.sixteen.Statement.{statement}
 use Rattle.instr.proofs.decoding.sixteen.Tie as tie
-use Rattle.instr.proofs.decoding.sixteen.Reads as reads
-use Rattle.instr.proofs.decoding.sixteen.Lts as lts
 
 abbrev Inv-loop : tie.InvT-loop
 Inv-loop s p a₀ i₀ a i = (i ≤ 16) × (a ≡ copied s p i)
@@ -14,35 +12,27 @@ Inv-loop s p a₀ i₀ a i = (i ≤ 16) × (a ≡ copied s p i)
 abbrev μ-loop : tie.MeasureT-loop
 μ-loop s p a₀ i₀ a i = 16 - i
 
--- src/decoding.rt:266:5
 loop-holds : tie.Need-loop-holds Inv-loop μ-loop
 loop-holds c = (omega arith, refl)
 
--- src/decoding.rt:267:18
 add-a : tie.Need-add-a Inv-loop μ-loop
 add-a c = search needs
 
--- src/decoding.rt:267:16
 shared-slice-read-a : tie.Need-shared-slice-read-a Inv-loop μ-loop
 shared-slice-read-a c = search needs
 
--- src/decoding.rt:267:9
 array-write-a : tie.Need-array-write-a Inv-loop μ-loop
 array-write-a c = search needs
 
--- src/decoding.rt:268:13
 add-i : tie.Need-add-i Inv-loop μ-loop
 add-i c = search needs
 
--- src/decoding.rt:266:5
 loop-less : tie.Need-loop-less Inv-loop μ-loop
 loop-less c = search needs
 
--- src/decoding.rt:266:5
 loop-again : tie.Need-loop-again Inv-loop μ-loop
 loop-again c = (omega arith, copy-more _ _ _ (c .before .before .before .pre) _ (c .before .loop-test .taken) (c .before .before .loop .inv .1))
 
--- src/decoding.rt:260:1
 returns : tie.Need-returns Inv-loop μ-loop
 returns c = copy-ends _ _ _ (c .before .before .pre) _ (c .loop-test .left) (c .before .loop .inv .0) (c .before .loop .inv .1)
 

@@ -1,52 +1,36 @@
+use borrow.Author.Needs.{needs}
 use denote.Ref.{now}
-use mathlib.Core.Path.{sym, _∙_}
-use borrow.Author.Tests.{lt-ltb, le-ltb}
 use Rattle.instr.specs.Inner.Steps.{laneEnds}
 use Rattle.instr.proofs.Items.{lane-good, lane-bad, lane-cut}
-use borrow.Author.Needs.{needs}
 use Rattle.instr.proofs.decoding.with_lane.Statement.{statement}
 use Rattle.instr.proofs.decoding.with_lane.Tie as tie
-use Rattle.instr.proofs.decoding.with_lane.Reads as reads
-use Rattle.instr.proofs.decoding.with_lane.Lts as lts
-use Rattle.instr.proofs.decoding.refused.Reads as refused-reads
-use Rattle.instr.proofs.decoding.whole.Reads as whole-reads
-use Rattle.instr.proofs.wide.Reads as wide-reads
 
--- src/decoding.rt:206:9
 refused-requires : tie.Need-refused-requires
 refused-requires c κs = search needs
 
--- src/decoding.rt:206:9
 returns : tie.Need-returns
 unfolding laneEnds
 returns c = simp (lane-cut (now (c .before .before .before .args .s)) (c .before .before .before .args .p) (c .before .before .before .args .lanes) (c .before .if1 .taken)) (c .refused .ensures)
 
--- src/decoding.rt:208:16
 shared-slice-read-lane : tie.Need-shared-slice-read-lane
 shared-slice-read-lane c = search needs
 
--- src/decoding.rt:209:8
 wide-requires : tie.Need-wide-requires
 wide-requires c κs = search needs
 
--- src/decoding.rt:210:19
 add-whole : tie.Need-add-whole
 add-whole c = search needs
 
--- src/decoding.rt:210:9
 whole-requires : tie.Need-whole-requires
 whole-requires c κs = search needs
 
--- src/decoding.rt:212:9
 refused-requires-2 : tie.Need-refused-requires-2
 refused-requires-2 c κs = search needs
 
--- src/decoding.rt:192:1
 returns-2 : tie.Need-returns-2
 unfolding laneEnds
 returns-2 c = simp (lane-good (now (c .before .before .before .before .before .before .args .s)) (c .before .before .before .before .before .before .args .p) (c .before .before .before .before .before .before .args .lanes) (c .before .before .before .before .if1 .left) (rw (c .before .before .wide .ensures) at (c .before .if2 .taken))) (c .whole .ensures)
 
--- src/decoding.rt:192:1
 returns-3 : tie.Need-returns-3
 unfolding laneEnds
 returns-3 c = simp (lane-bad (now (c .before .before .before .before .before .before .args .s)) (c .before .before .before .before .before .before .args .p) (c .before .before .before .before .before .before .args .lanes) (c .before .before .before .before .if1 .left) (rw (c .before .before .wide .ensures) at (c .before .if2 .left))) (c .refused2 .ensures)

@@ -1,58 +1,41 @@
+use borrow.Author.Needs.{needs}
 use Rattle.instr.specs.Decode.{immediatesAt}
 use Rattle.instr.proofs.Scan.{scanned-all, scanned-bad, scanned-cut}
-use borrow.Author.Needs.{needs}
 use Rattle.instr.proofs.decoding.with_lanes.Statement.{statement}
 use Rattle.instr.proofs.decoding.with_lanes.Tie as tie
-use Rattle.instr.proofs.decoding.with_lanes.Reads as reads
-use Rattle.instr.proofs.decoding.with_lanes.Lts as lts
-use Rattle.instr.proofs.decoding.good_lanes.Reads as good-lanes-reads
-use Rattle.instr.proofs.decoding.refused.Reads as refused-reads
-use Rattle.instr.proofs.decoding.sixteen.Reads as sixteen-reads
-use Rattle.instr.proofs.decoding.whole.Reads as whole-reads
 
--- src/decoding.rt:230:9
 good-lanes-requires : tie.Need-good-lanes-requires
 good-lanes-requires c κs = search needs
 
--- src/decoding.rt:232:12
 add-if2 : tie.Need-add-if2
 add-if2 c = search needs
 
--- src/decoding.rt:233:40
 add-refused : tie.Need-add-refused
 add-refused c = search needs
 
--- src/decoding.rt:233:13
 refused-requires : tie.Need-refused-requires
 refused-requires c κs = search needs
 
--- src/decoding.rt:233:13
 returns : tie.Need-returns
 unfolding immediatesAt
 returns c = simp (scanned-bad (c .before .before .before .good-lanes .ensures) (c .before .before .if1 .taken) (c .before .if2 .taken)) (c .refused .ensures)
 
--- src/decoding.rt:235:9
 refused-requires-2 : tie.Need-refused-requires-2
 refused-requires-2 c κs = search needs
 
--- src/decoding.rt:235:9
 returns-2 : tie.Need-returns-2
 unfolding immediatesAt
 returns-2 c = simp (scanned-cut (c .before .before .before .good-lanes .ensures) (c .before .before .if1 .taken) (c .before .if2 .left)) (c .refused2 .ensures)
 
--- src/decoding.rt:237:15
 add-whole : tie.Need-add-whole
 add-whole c = search needs
 
--- src/decoding.rt:237:56
 sixteen-requires : tie.Need-sixteen-requires
 sixteen-requires c κs = search needs
 
--- src/decoding.rt:237:5
 whole-requires : tie.Need-whole-requires
 whole-requires c κs = search needs
 
--- src/decoding.rt:226:1
 returns-3 : tie.Need-returns-3
 unfolding immediatesAt
 returns-3 c = simp (scanned-all (c .before .before .before .good-lanes .ensures) (c .before .before .if1 .left), ← c .before .sixteen .ensures) (c .whole .ensures)

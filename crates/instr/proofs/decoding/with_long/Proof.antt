@@ -1,59 +1,43 @@
-use native.Mathlib.Omega.{arith}
+use borrow.Author.Needs.{needs}
 use mathlib.Core.Path.{sym, _∙_}
+use native.Mathlib.Omega.{arith}
 use Rattle.leb128.proofs.Bounds.{found-64}
 use Rattle.instr.specs.Decode.{numberItem, immediatesAt}
-use borrow.Author.Needs.{needs}
 use Rattle.instr.proofs.decoding.with_long.Statement.{statement}
 use Rattle.instr.proofs.decoding.with_long.Tie as tie
-use Rattle.instr.proofs.decoding.with_long.Reads as reads
-use Rattle.instr.proofs.decoding.with_long.Lts as lts
-use Rattle.instr.proofs.decoding.refused.Reads as refused-reads
-use Rattle.instr.proofs.decoding.whole.Reads as whole-reads
-use Rattle.leb128.proofs.read_s64.Reads as read-s64-reads
 
--- src/decoding.rt:146:11
 read-s64-requires : tie.Need-read-s64-requires
 read-s64-requires c κs = search needs
 
--- src/decoding.rt:147:18
 enum-known-v : tie.Need-enum-known-v
 enum-known-v c = search needs
 
--- src/decoding.rt:147:37
 add-whole : tie.Need-add-whole
 add-whole c = omega (arith, found-64 _ _ _ (λ j. c .before .before .before .before .shared-slice-known .given j .fits) _ _ (sym (c .before .before .before .read-s64 .ensures .answer) ∙ c .before .v .given .1))
 
--- src/decoding.rt:147:27
 whole-requires : tie.Need-whole-requires
 whole-requires c κs = search needs
 
--- src/decoding.rt:148:44
 enum-told : tie.Need-enum-told
 enum-told c = search needs
 
--- src/decoding.rt:148:23
 refused-requires : tie.Need-refused-requires
 refused-requires c κs = search needs
 
--- src/decoding.rt:149:24
 enum-told-2 : tie.Need-enum-told-2
 enum-told-2 c = search needs
 
--- src/decoding.rt:149:24
 refused-requires-2 : tie.Need-refused-requires-2
 refused-requires-2 c κs = search needs
 
--- src/decoding.rt:142:1
 returns : tie.Need-returns
 unfolding immediatesAt numberItem
 returns c = simp (sym (c .before .before .before .before .read-s64 .ensures .answer) ∙ c .before .before .v .given .1) (c .whole .ensures)
 
--- src/decoding.rt:142:1
 returns-2 : tie.Need-returns-2
 unfolding immediatesAt numberItem
 returns-2 c = simp (sym (c .before .before .before .read-s64 .ensures .answer) ∙ c .before .enum-told .given .1) (c .refused .ensures)
 
--- src/decoding.rt:142:1
 returns-3 : tie.Need-returns-3
 unfolding immediatesAt numberItem
 returns-3 c = simp (sym (c .before .before .before .read-s64 .ensures .answer) ∙ c .before .enum-told2 .given .1) (c .refused2 .ensures)

@@ -1,140 +1,104 @@
-use borrow.Author.Tests.{not-true, not-false}
-use denote.Ref.{now}
-use native.Mathlib.Omega.{arith}
+use borrow.Author.Needs.{needs}
+use mathlib.Core.Bool.{false}
 use mathlib.Core.Path.{sym, _∙_}
-use mathlib.Core.Bool.{true, false}
+use native.Mathlib.Omega.{arith}
+use borrow.Author.Tests.{not-true, not-false}
 use Rattle.leb128.proofs.Bounds.{found-32}
 use Rattle.instr.proofs.Items.{number-item, exponent-good, exponent-bad, exponent-short, exponent-number}
 use Rattle.instr.proofs.Memory.{no-exponent, no-offset, no-lane, a-lane}
-use borrow.Author.Needs.{needs}
 use Rattle.instr.proofs.decoding.with_memory.Statement.{statement}
 use Rattle.instr.proofs.decoding.with_memory.Tie as tie
-use Rattle.instr.proofs.decoding.with_memory.Reads as reads
-use Rattle.instr.proofs.decoding.with_memory.Lts as lts
-use Rattle.instr.proofs.decoding.refused.Reads as refused-reads
-use Rattle.instr.proofs.decoding.whole.Reads as whole-reads
-use Rattle.instr.proofs.decoding.with_lane.Reads as with-lane-reads
-use Rattle.instr.proofs.exponent_fits.Reads as exponent-fits-reads
-use Rattle.leb128.proofs.read_u32.Reads as read-u32-reads
 
--- src/decoding.rt:166:11
 read-u32-requires : tie.Need-read-u32-requires
 read-u32-requires c κs = search needs
 
--- src/decoding.rt:167:18
 enum-known-a : tie.Need-enum-known-a
 enum-known-a c = search needs
 
--- src/decoding.rt:168:25
 cast-align : tie.Need-cast-align
 cast-align c = omega (arith, found-32 _ _ _ (λ j. c .before .before .before .before .shared-slice-known .given j .fits) _ _ (sym (c .before .before .before .read-u32 .ensures .answer) ∙ c .before .a .given .1))
 
--- src/decoding.rt:169:17
 exponent-fits-requires : tie.Need-exponent-fits-requires
 exponent-fits-requires c κs = search needs
 
--- src/decoding.rt:170:17
 refused-requires : tie.Need-refused-requires
 refused-requires c κs = search needs
 
--- src/decoding.rt:170:17
 returns : tie.Need-returns
 returns c = c .refused .ensures ∙ sym (no-exponent _ _ _ _ _ _ (c .before .before .before .before .before .before .before .before .args .laned) _ _
     (exponent-bad _ _ _ _ _ (sym (c .before .before .before .before .before .before .read-u32 .ensures .answer) ∙ c .before .before .before .before .a .given .1) (sym (c .before .before .exponent-fits .ensures) ∙ not-true (c .before .before .exponent-fits .result) (c .before .if1 .taken))))
 
--- src/decoding.rt:172:21
 add-q : tie.Need-add-q
 add-q c = omega (arith, found-32 _ _ _ (λ j. c .before .before .before .before .before .before .shared-slice-known .given j .fits) _ _ (sym (c .before .before .before .before .before .read-u32 .ensures .answer) ∙ c .before .before .before .a .given .1))
 
--- src/decoding.rt:173:19
 read-u32-requires-2 : tie.Need-read-u32-requires-2
 read-u32-requires-2 c κs = search needs
 
--- src/decoding.rt:174:26
 enum-known-o : tie.Need-enum-known-o
 enum-known-o c = search needs
 
--- src/decoding.rt:175:34
 cast-offset : tie.Need-cast-offset
 cast-offset c = omega (arith, found-32 _ _ _ (λ j. c .before .before .before .before .before .before .before .before .before .before .shared-slice-known .given j .fits) _ _ (sym (c .before .before .before .read-u322 .ensures .answer) ∙ c .before .o .given .1))
 
--- src/decoding.rt:177:42
 add-with-lane : tie.Need-add-with-lane
 add-with-lane c = omega (arith, found-32 _ _ _ (λ j. c .before .before .before .before .before .before .before .before .before .before .before .shared-slice-known .given j .fits) _ _ (sym (c .before .before .before .before .read-u322 .ensures .answer) ∙ c .before .before .o .given .1))
 
--- src/decoding.rt:177:25
 with-lane-requires : tie.Need-with-lane-requires
 with-lane-requires c κs = search needs
 
--- src/decoding.rt:179:35
 add-whole : tie.Need-add-whole
 add-whole c = omega (arith, found-32 _ _ _ (λ j. c .before .before .before .before .before .before .before .before .before .before .before .shared-slice-known .given j .fits) _ _ (sym (c .before .before .before .before .read-u322 .ensures .answer) ∙ c .before .before .o .given .1))
 
--- src/decoding.rt:179:25
 whole-requires : tie.Need-whole-requires
 whole-requires c κs = search needs
 
--- src/decoding.rt:182:52
 enum-told : tie.Need-enum-told
 enum-told c = search needs
 
--- src/decoding.rt:182:31
 refused-requires-2 : tie.Need-refused-requires-2
 refused-requires-2 c κs = search needs
 
--- src/decoding.rt:183:32
 enum-told-2 : tie.Need-enum-told-2
 enum-told-2 c = search needs
 
--- src/decoding.rt:183:32
 refused-requires-3 : tie.Need-refused-requires-3
 refused-requires-3 c κs = search needs
 
--- src/decoding.rt:186:44
 enum-told-3 : tie.Need-enum-told-3
 enum-told-3 c = search needs
 
--- src/decoding.rt:186:23
 refused-requires-4 : tie.Need-refused-requires-4
 refused-requires-4 c κs = search needs
 
--- src/decoding.rt:187:24
 enum-told-4 : tie.Need-enum-told-4
 enum-told-4 c = search needs
 
--- src/decoding.rt:187:24
 refused-requires-5 : tie.Need-refused-requires-5
 refused-requires-5 c κs = search needs
 
--- src/decoding.rt:153:1
 returns-2 : tie.Need-returns-2
 returns-2 c = c .with-lane .ensures ∙ sym (a-lane _ _ _ _ _ _ _ _
     (exponent-good _ _ _ _ _ (sym (c .before .before .before .before .before .before .before .before .before .before .before .read-u32 .ensures .answer) ∙ c .before .before .before .before .before .before .before .before .before .a .given .1) (sym (c .before .before .before .before .before .before .before .exponent-fits .ensures) ∙ not-false (c .before .before .before .before .before .before .before .exponent-fits .result) (c .before .before .before .before .before .before .if1 .left))) _ _
     (number-item _ false 32 _ _ (sym (c .before .before .before .before .before .read-u322 .ensures .answer) ∙ c .before .before .before .o .given .1)) (c .before .before .before .before .before .before .before .before .before .before .before .before .before .args .laned) (c .before .if2 .taken))
 
--- src/decoding.rt:153:1
 returns-3 : tie.Need-returns-3
 returns-3 c = c .whole .ensures ∙ sym (no-lane _ (c .before .before .before .before .before .before .before .before .before .before .before .before .before .args .lanes) _ _ _ _ _ _
     (exponent-good _ _ _ _ _ (sym (c .before .before .before .before .before .before .before .before .before .before .before .read-u32 .ensures .answer) ∙ c .before .before .before .before .before .before .before .before .before .a .given .1) (sym (c .before .before .before .before .before .before .before .exponent-fits .ensures) ∙ not-false (c .before .before .before .before .before .before .before .exponent-fits .result) (c .before .before .before .before .before .before .if1 .left))) _ _
     (number-item _ false 32 _ _ (sym (c .before .before .before .before .before .read-u322 .ensures .answer) ∙ c .before .before .before .o .given .1)) (c .before .before .before .before .before .before .before .before .before .before .before .before .before .args .laned) (c .before .if2 .left))
 
--- src/decoding.rt:153:1
 returns-4 : tie.Need-returns-4
 returns-4 c = c .refused2 .ensures ∙ sym (no-offset _ _ _ _ _ _ _ _
     (exponent-good _ _ _ _ _ (sym (c .before .before .before .before .before .before .before .before .before .read-u32 .ensures .answer) ∙ c .before .before .before .before .before .before .before .a .given .1) (sym (c .before .before .before .before .before .exponent-fits .ensures) ∙ not-false (c .before .before .before .before .before .exponent-fits .result) (c .before .before .before .before .if1 .left))) (c .before .before .before .before .before .before .before .before .before .before .before .args .laned) _ _
     (number-item _ false 32 _ _ (sym (c .before .before .before .read-u322 .ensures .answer) ∙ c .before .enum-told .given .1)))
 
--- src/decoding.rt:153:1
 returns-5 : tie.Need-returns-5
 returns-5 c = c .refused3 .ensures ∙ sym (no-offset _ _ _ _ _ _ _ _
     (exponent-good _ _ _ _ _ (sym (c .before .before .before .before .before .before .before .before .before .read-u32 .ensures .answer) ∙ c .before .before .before .before .before .before .before .a .given .1) (sym (c .before .before .before .before .before .exponent-fits .ensures) ∙ not-false (c .before .before .before .before .before .exponent-fits .result) (c .before .before .before .before .if1 .left))) (c .before .before .before .before .before .before .before .before .before .before .before .args .laned) _ _
     (number-item _ false 32 _ _ (sym (c .before .before .before .read-u322 .ensures .answer) ∙ c .before .enum-told2 .given .1)))
 
--- src/decoding.rt:153:1
 returns-6 : tie.Need-returns-6
 returns-6 c = c .refused4 .ensures ∙ sym (no-exponent _ _ _ _ _ _ (c .before .before .before .before .before .args .laned) _ _ (exponent-short _ _ _ (sym (c .before .before .before .read-u32 .ensures .answer) ∙ c .before .enum-told3 .given .1)))
 
--- src/decoding.rt:153:1
 returns-7 : tie.Need-returns-7
 returns-7 c = c .refused5 .ensures ∙ sym (no-exponent _ _ _ _ _ _ (c .before .before .before .before .before .args .laned) _ _ (exponent-number _ _ _ (sym (c .before .before .before .read-u32 .ensures .answer) ∙ c .before .enum-told4 .given .1)))
 

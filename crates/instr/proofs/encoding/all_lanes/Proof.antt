@@ -1,14 +1,12 @@
 use borrow.Author.Needs.{needs}
-use native.Mathlib.Omega.{arith}
 use Prim.Native.Nat.{_-_, _≤_}
 use mathlib.Core.Path.{_≡_, refl}
+use native.Mathlib.Omega.{arith}
 use lib.ListN.{length, drop}
 use Rattle.instr.specs.Encode.{allBelow}
 use Rattle.instr.proofs.Sets.{below-on, below-stops, below-ends}
 use Rattle.instr.proofs.encoding.all_lanes.Statement.{statement}
 use Rattle.instr.proofs.encoding.all_lanes.Tie as tie
-use Rattle.instr.proofs.encoding.all_lanes.Reads as reads
-use Rattle.instr.proofs.encoding.all_lanes.Lts as lts
 
 abbrev Inv-loop : tie.InvT-loop
 Inv-loop a j₀ j = (j ≤ 16) × (length a ≡ 16) × (allBelow 32 a ≡ allBelow 32 (drop j a))
@@ -16,31 +14,24 @@ Inv-loop a j₀ j = (j ≤ 16) × (length a ≡ 16) × (allBelow 32 a ≡ allBel
 abbrev μ-loop : tie.MeasureT-loop
 μ-loop a j₀ j = 16 - j
 
--- src/encoding.rt:94:5
 loop-holds : tie.Need-loop-holds Inv-loop μ-loop
 loop-holds c = (omega arith, search needs, refl)
 
--- src/encoding.rt:98:18
 array-read-if2 : tie.Need-array-read-if2 Inv-loop μ-loop
 array-read-if2 c = search needs
 
--- src/encoding.rt:101:13
 add-j : tie.Need-add-j Inv-loop μ-loop
 add-j c = search needs
 
--- src/encoding.rt:94:5
 loop-less : tie.Need-loop-less Inv-loop μ-loop
 loop-less c = search needs
 
--- src/encoding.rt:94:5
 loop-again : tie.Need-loop-again Inv-loop μ-loop
 loop-again c = (omega arith, c .before .before .loop .inv .1, below-on _ _ (c .before .before .loop .inv .1) (c .before .before .loop .inv .2) (c .before .if1 .left) (c .if2 .left))
 
--- src/encoding.rt:90:1
 returns : tie.Need-returns Inv-loop μ-loop
 returns c = below-ends _ _ (c .before .loop .inv .1) (c .before .loop .inv .2) (c .if1 .taken)
 
--- src/encoding.rt:90:1
 returns-2 : tie.Need-returns-2 Inv-loop μ-loop
 returns-2 c = below-stops _ _ (c .before .before .loop .inv .1) (c .before .before .loop .inv .2) (c .before .if1 .left) (c .if2 .taken)
 

@@ -1,6 +1,9 @@
-use native.Mathlib.Omega.{arith}
-use mathlib.Core.Path.{_≡_, sym, ap, subst, _∙_}
+use borrow.Author.Needs.{needs}
 use mathlib.Core.Bool.{true, false}
+use mathlib.Core.List.{List}
+use mathlib.Core.Logic.{inl, inr}
+use mathlib.Core.Path.{_≡_, sym, ap, subst, _∙_}
+use native.Mathlib.Omega.{arith}
 use lib.ListN.{length, length-append}
 use Rattle.leb128.specs.Shortest.{bytesOf}
 use Rattle.leb128.proofs.Bounds.{form-32, form-64}
@@ -8,90 +11,63 @@ use Rattle.instr.specs.Layout.{Field, rowIn}
 use Rattle.instr.specs.Encode.{written}
 use Rattle.instr.proofs.Classes.{AllBut, carrying, fields-other}
 use Rattle.instr.proofs.Forms.{bytes-index, bytes-word, bytes-long, bytes-memory, bytes-memory-lane, bytes-lane, bytes-sixteen}
-use mathlib.Core.List.{List}
-use mathlib.Core.Logic.{inl, inr}
-use borrow.Author.Needs.{needs}
 use Rattle.instr.proofs.encoding.immediates_len.Statement.{statement}
 use Rattle.instr.proofs.encoding.immediates_len.Tie as tie
-use Rattle.instr.proofs.encoding.immediates_len.Reads as reads
-use Rattle.instr.proofs.encoding.immediates_len.Lts as lts
-use Rattle.leb128.proofs.len_s32.Reads as len-s32-reads
-use Rattle.leb128.proofs.len_s64.Reads as len-s64-reads
-use Rattle.leb128.proofs.len_u32.Reads as len-u32-reads
 
--- src/encoding.rt:120:26
 len-u32-requires : tie.Need-len-u32-requires
 len-u32-requires c κs = search needs
 
--- src/encoding.rt:121:25
 len-s32-requires : tie.Need-len-s32-requires
 len-s32-requires c κs = search needs
 
--- src/encoding.rt:122:25
 len-s64-requires : tie.Need-len-s64-requires
 len-s64-requires c κs = search needs
 
--- src/encoding.rt:123:27
 len-u32-requires-2 : tie.Need-len-u32-requires-2
 len-u32-requires-2 c κs = search needs
 
--- src/encoding.rt:123:54
 len-u32-requires-3 : tie.Need-len-u32-requires-3
 len-u32-requires-3 c κs = search needs
 
--- src/encoding.rt:123:27
 add-result : tie.Need-add-result
 add-result c = omega (arith, c .before .len-u322 .ensures .answer, c .len-u323 .ensures .answer, form-32 false (c .before .before .before .args .i .align) (search needs), form-32 false (c .before .before .before .args .i .offset) (search needs))
 
--- src/encoding.rt:124:32
 len-u32-requires-4 : tie.Need-len-u32-requires-4
 len-u32-requires-4 c κs = search needs
 
--- src/encoding.rt:124:59
 len-u32-requires-5 : tie.Need-len-u32-requires-5
 len-u32-requires-5 c κs = search needs
 
--- src/encoding.rt:124:32
 add-result-2 : tie.Need-add-result-2
 add-result-2 c = omega (arith, c .before .len-u324 .ensures .answer, c .len-u325 .ensures .answer, form-32 false (c .before .before .before .args .i .align) (search needs), form-32 false (c .before .before .before .args .i .offset) (search needs))
 
--- src/encoding.rt:124:32
 add-result-3 : tie.Need-add-result-3
 add-result-3 c = omega (arith, c .before .len-u324 .ensures .answer, c .len-u325 .ensures .answer, form-32 false (c .before .before .before .args .i .align) (search needs), form-32 false (c .before .before .before .args .i .offset) (search needs))
 
--- src/encoding.rt:115:1
 returns : tie.Need-returns
 returns c = (omega (arith, ap length (bytes-index (rowIn (c .before .before .args .i)) (c .before .before .args .i) (sym (c .before .before .pre) ∙ c .before .match .keys1)), c .len-u32 .ensures .answer), omega (arith, c .len-u32 .ensures .answer, form-32 false (c .before .before .args .i .index) (search needs)))
 
--- src/encoding.rt:115:1
 returns-2 : tie.Need-returns-2
 returns-2 c = (omega (arith, ap length (bytes-word (rowIn (c .before .before .args .i)) (c .before .before .args .i) (sym (c .before .before .pre) ∙ c .before .match .keys2)), c .len-s32 .ensures .answer), omega (arith, c .len-s32 .ensures .answer, form-32 true (c .before .before .args .i .word) (search needs)))
 
--- src/encoding.rt:115:1
 returns-3 : tie.Need-returns-3
 returns-3 c = (omega (arith, ap length (bytes-long (rowIn (c .before .before .args .i)) (c .before .before .args .i) (sym (c .before .before .pre) ∙ c .before .match .keys3)), c .len-s64 .ensures .answer), omega (arith, c .len-s64 .ensures .answer, form-64 true (c .before .before .args .i .long) (search needs)))
 
--- src/encoding.rt:115:1
 returns-4 : tie.Need-returns-4
 returns-4 c = (omega (arith, ap length (bytes-memory (rowIn (c .before .before .before .args .i)) (c .before .before .before .args .i) (sym (c .before .before .before .pre) ∙ c .before .before .match .keys4)), length-append (bytesOf false 32 (c .before .before .before .args .i .align)) (bytesOf false 32 (c .before .before .before .args .i .offset)), c .before .len-u322 .ensures .answer, c .len-u323 .ensures .answer), omega (arith, c .before .len-u322 .ensures .answer, c .len-u323 .ensures .answer, form-32 false (c .before .before .before .args .i .align) (search needs), form-32 false (c .before .before .before .args .i .offset) (search needs)))
 
--- src/encoding.rt:115:1
 returns-5 : tie.Need-returns-5
 returns-5 c = (omega (arith, simp length-append at (ap length (bytes-memory-lane (rowIn (c .before .before .before .args .i)) (c .before .before .before .args .i) (sym (c .before .before .before .pre) ∙ c .before .before .match .keys5))), c .before .len-u324 .ensures .answer, c .len-u325 .ensures .answer), omega (arith, c .before .len-u324 .ensures .answer, c .len-u325 .ensures .answer, form-32 false (c .before .before .before .args .i .align) (search needs), form-32 false (c .before .before .before .args .i .offset) (search needs)))
 
--- src/encoding.rt:115:1
 returns-6 : tie.Need-returns-6
 returns-6 c = (omega (arith, ap length (bytes-lane (rowIn (c .before .args .i)) (c .before .args .i) (sym (c .before .pre) ∙ c .match .keys6))), omega arith)
 
--- src/encoding.rt:115:1
 returns-7 : tie.Need-returns-7
 returns-7 c = let l : length (c .before .args .i .bytes) ≡ 16 = search needs in (omega (arith, ap length (bytes-sixteen (rowIn (c .before .args .i)) (c .before .args .i) (inl (sym (c .before .pre) ∙ c .match .keys7))), l), omega arith)
 
--- src/encoding.rt:115:1
 returns-8 : tie.Need-returns-8
 returns-8 c = let l : length (c .before .args .i .bytes) ≡ 16 = search needs in (omega (arith, ap length (bytes-sixteen (rowIn (c .before .args .i)) (c .before .args .i) (inr (sym (c .before .pre) ∙ c .match .keys8))), l), omega arith)
 
--- src/encoding.rt:115:1
 returns-9 : tie.Need-returns-9
 returns-9 c = (sym (ap (λ (fs : List Field). length (written fs)) (fields-other (rowIn (c .before .args .i)) (subst (AllBut carrying) (c .before .pre) (c .match .rest)) (c .before .args .i))), omega arith)
 

@@ -1,29 +1,22 @@
+use borrow.Author.Needs.{needs}
 use mathlib.Core.Bool.{false}
 use mathlib.Core.Path.{ap}
 use native.Mathlib.Omega.{arith}
 use lib.ListN.{length}
 use Rattle.leb128.proofs.Bounds.{form-32}
 use Rattle.instr.proofs.Sets.{opcode-vector, opcode-plain}
-use borrow.Author.Needs.{needs}
 use Rattle.instr.proofs.encoding.opcode_len.Statement.{statement}
 use Rattle.instr.proofs.encoding.opcode_len.Tie as tie
-use Rattle.instr.proofs.encoding.opcode_len.Reads as reads
-use Rattle.instr.proofs.encoding.opcode_len.Lts as lts
-use Rattle.leb128.proofs.len_u32.Reads as len-u32-reads
 
--- src/encoding.rt:109:13
 len-u32-requires : tie.Need-len-u32-requires
 len-u32-requires c κs = search needs
 
--- src/encoding.rt:109:9
 add-result : tie.Need-add-result
 add-result c = omega (arith, c .len-u32 .ensures .answer, form-32 false (c .before .before .args .number) (search needs))
 
--- src/encoding.rt:105:1
 returns : tie.Need-returns
 returns c = (omega (arith, ap length (opcode-vector (c .before .before .args .first) (c .before .before .args .number) (c .before .if1 .taken)), c .len-u32 .ensures .answer), omega (arith, c .len-u32 .ensures .answer, form-32 false (c .before .before .args .number) (search needs)))
 
--- src/encoding.rt:105:1
 returns-2 : tie.Need-returns-2
 returns-2 c = (omega (arith, ap length (opcode-plain (c .before .args .first) (c .before .args .number) (c .if1 .left))), omega arith)
 

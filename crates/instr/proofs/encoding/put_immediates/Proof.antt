@@ -1,134 +1,97 @@
-use native.Mathlib.Omega.{arith}
-use mathlib.Core.Path.{_≡_, sym, ap, subst, _∙_}
-use mathlib.Core.Bool.{false}
+use borrow.Author.Needs.{needs}
 use mathlib.Core.Logic.{inl, inr}
+use mathlib.Core.Path.{_≡_, sym, ap, subst, _∙_}
+use native.Mathlib.Omega.{arith}
 use lib.ListN.{length, length-append}
-use Rattle.leb128.specs.Shortest.{bytesOf}
 use Rattle.instr.specs.Layout.{rowIn}
 use Rattle.instr.specs.Encode.{written}
 use Rattle.instr.proofs.Classes.{AllBut, carrying, fields-other}
 use Rattle.instr.proofs.Forms.{bytes-index, bytes-word, bytes-long, bytes-memory, bytes-memory-lane, bytes-lane, bytes-sixteen}
 use Rattle.instr.proofs.Sets.{put-none, put-then, put-same}
-use borrow.Author.Needs.{needs}
 use Rattle.instr.proofs.encoding.put_immediates.Statement.{statement}
 use Rattle.instr.proofs.encoding.put_immediates.Tie as tie
-use Rattle.instr.proofs.encoding.put_immediates.Reads as reads
-use Rattle.instr.proofs.encoding.put_immediates.Lts as lts
-use Rattle.instr.proofs.encoding.put_byte.Reads as put-byte-reads
-use Rattle.instr.proofs.encoding.put_bytes.Reads as put-bytes-reads
-use Rattle.instr.proofs.encoding.put_s32.Reads as put-s32-reads
-use Rattle.instr.proofs.encoding.put_s64.Reads as put-s64-reads
-use Rattle.instr.proofs.encoding.put_u32.Reads as put-u32-reads
 
--- src/encoding.rt:149:26
 put-u32-requires : tie.Need-put-u32-requires
 put-u32-requires c κs = omega (arith, c .before .before .before .pre .1, ap length (bytes-index (rowIn (c .before .before .before .args .i)) (c .before .before .before .args .i) (sym (c .before .before .before .pre .0) ∙ c .before .match .keys1)))
 
--- src/encoding.rt:150:25
 put-s32-requires : tie.Need-put-s32-requires
 put-s32-requires c κs = omega (arith, c .before .before .before .pre .1, ap length (bytes-word (rowIn (c .before .before .before .args .i)) (c .before .before .before .args .i) (sym (c .before .before .before .pre .0) ∙ c .before .match .keys2)))
 
--- src/encoding.rt:151:25
 put-s64-requires : tie.Need-put-s64-requires
 put-s64-requires c κs = omega (arith, c .before .before .before .pre .1, ap length (bytes-long (rowIn (c .before .before .before .args .i)) (c .before .before .before .args .i) (sym (c .before .before .before .pre .0) ∙ c .before .match .keys3)))
 
--- src/encoding.rt:153:17
 put-u32-requires-2 : tie.Need-put-u32-requires-2
 put-u32-requires-2 c κs = omega (arith, c .before .before .before .pre .1, simp length-append at (ap length (bytes-memory (rowIn (c .before .before .before .args .i)) (c .before .before .before .args .i) (sym (c .before .before .before .pre .0) ∙ c .before .match .keys4))))
 
--- src/encoding.rt:154:13
 put-u32-requires-3 : tie.Need-put-u32-requires-3
 put-u32-requires-3 c κs = omega (arith, c .before .before .before .before .before .before .before .pre .1, simp length-append at (ap length (bytes-memory (rowIn (c .before .before .before .before .before .before .before .args .i)) (c .before .before .before .before .before .before .before .args .i) (sym (c .before .before .before .before .before .before .before .pre .0) ∙ c .before .before .before .before .before .match .keys4))), c .before .before .before .put-u322 .ensures .to, c .before .before .before .put-u322 .kept .0)
 
--- src/encoding.rt:157:17
 put-u32-requires-4 : tie.Need-put-u32-requires-4
 put-u32-requires-4 c κs = omega (arith, c .before .before .before .pre .1, simp length-append at (ap length (bytes-memory-lane (rowIn (c .before .before .before .args .i)) (c .before .before .before .args .i) (sym (c .before .before .before .pre .0) ∙ c .before .match .keys5))))
 
--- src/encoding.rt:158:17
 put-u32-requires-5 : tie.Need-put-u32-requires-5
 put-u32-requires-5 c κs = omega (arith, c .before .before .before .before .before .before .before .pre .1, simp length-append at (ap length (bytes-memory-lane (rowIn (c .before .before .before .before .before .before .before .args .i)) (c .before .before .before .before .before .before .before .args .i) (sym (c .before .before .before .before .before .before .before .pre .0) ∙ c .before .before .before .before .before .match .keys5))), c .before .before .before .put-u324 .ensures .to, c .before .before .before .put-u324 .kept .0)
 
--- src/encoding.rt:159:13
 put-byte-requires : tie.Need-put-byte-requires
 put-byte-requires c κs = omega (arith, c .before .before .before .before .before .before .before .before .before .before .before .pre .1, simp length-append at (ap length (bytes-memory-lane (rowIn (c .before .before .before .before .before .before .before .before .before .before .before .args .i)) (c .before .before .before .before .before .before .before .before .before .before .before .args .i) (sym (c .before .before .before .before .before .before .before .before .before .before .before .pre .0) ∙ c .before .before .before .before .before .before .before .before .before .match .keys5))), c .before .before .before .before .before .before .before .put-u324 .ensures .to, c .before .before .before .before .before .before .before .put-u324 .kept .0, c .before .before .before .put-u325 .ensures .to, c .before .before .before .put-u325 .kept .0)
 
--- src/encoding.rt:161:25
 put-byte-requires-2 : tie.Need-put-byte-requires-2
 put-byte-requires-2 c κs = omega (arith, c .before .before .before .pre .1, ap length (bytes-lane (rowIn (c .before .before .before .args .i)) (c .before .before .before .args .i) (sym (c .before .before .before .pre .0) ∙ c .before .match .keys6)))
 
--- src/encoding.rt:164:13
 put-bytes-requires : tie.Need-put-bytes-requires
 put-bytes-requires c κs = let l : length (c .before .before .before .before .args .i .bytes) ≡ 16 = search needs in omega (arith, c .before .before .before .before .pre .1, ap length (bytes-sixteen (rowIn (c .before .before .before .before .args .i)) (c .before .before .before .before .args .i) (inl (sym (c .before .before .before .before .pre .0) ∙ c .before .before .match .keys7))), l)
 
--- src/encoding.rt:168:13
 put-bytes-requires-2 : tie.Need-put-bytes-requires-2
 put-bytes-requires-2 c κs = let l : length (c .before .before .before .before .args .i .bytes) ≡ 16 = search needs in omega (arith, c .before .before .before .before .pre .1, ap length (bytes-sixteen (rowIn (c .before .before .before .before .args .i)) (c .before .before .before .before .args .i) (inr (sym (c .before .before .before .before .pre .0) ∙ c .before .before .match .keys8))), l)
 
--- src/encoding.rt:144:1
 same-length : tie.Need-same-length
 same-length c = search needs
 
--- src/encoding.rt:144:1
 returns : tie.Need-returns
 returns c = put-same (bytes-index (rowIn (c .before .before .before .before .before .before .args .i)) (c .before .before .before .before .before .before .args .i) (sym (c .before .before .before .before .before .before .pre .0) ∙ c .before .before .before .before .match .keys1)) (c .before .before .put-u32 .ensures)
 
--- src/encoding.rt:144:1
 same-length-2 : tie.Need-same-length-2
 same-length-2 c = search needs
 
--- src/encoding.rt:144:1
 returns-2 : tie.Need-returns-2
 returns-2 c = put-same (bytes-word (rowIn (c .before .before .before .before .before .before .args .i)) (c .before .before .before .before .before .before .args .i) (sym (c .before .before .before .before .before .before .pre .0) ∙ c .before .before .before .before .match .keys2)) (c .before .before .put-s32 .ensures)
 
--- src/encoding.rt:144:1
 same-length-3 : tie.Need-same-length-3
 same-length-3 c = search needs
 
--- src/encoding.rt:144:1
 returns-3 : tie.Need-returns-3
 returns-3 c = put-same (bytes-long (rowIn (c .before .before .before .before .before .before .args .i)) (c .before .before .before .before .before .before .args .i) (sym (c .before .before .before .before .before .before .pre .0) ∙ c .before .before .before .before .match .keys3)) (c .before .before .put-s64 .ensures)
 
--- src/encoding.rt:144:1
 same-length-4 : tie.Need-same-length-4
 same-length-4 c = search needs
 
--- src/encoding.rt:144:1
 returns-4 : tie.Need-returns-4
 returns-4 c = put-same (bytes-memory (rowIn (c .before .before .before .before .before .before .before .before .before .before .args .i)) (c .before .before .before .before .before .before .before .before .before .before .args .i) (sym (c .before .before .before .before .before .before .before .before .before .before .pre .0) ∙ c .before .before .before .before .before .before .before .before .match .keys4)) (put-then (c .before .before .before .before .before .before .put-u322 .ensures) (c .before .before .put-u323 .ensures))
 
--- src/encoding.rt:144:1
 same-length-5 : tie.Need-same-length-5
 same-length-5 c = search needs
 
--- src/encoding.rt:144:1
 returns-5 : tie.Need-returns-5
 returns-5 c = put-same (bytes-memory-lane (rowIn (c .before .before .before .before .before .before .before .before .before .before .before .before .before .before .args .i)) (c .before .before .before .before .before .before .before .before .before .before .before .before .before .before .args .i) (sym (c .before .before .before .before .before .before .before .before .before .before .before .before .before .before .pre .0) ∙ c .before .before .before .before .before .before .before .before .before .before .before .before .match .keys5)) (put-then (c .before .before .before .before .before .before .before .before .before .before .put-u324 .ensures) (put-then (c .before .before .before .before .before .before .put-u325 .ensures) (c .before .before .put-byte .ensures)))
 
--- src/encoding.rt:144:1
 same-length-6 : tie.Need-same-length-6
 same-length-6 c = search needs
 
--- src/encoding.rt:144:1
 returns-6 : tie.Need-returns-6
 returns-6 c = put-same (bytes-lane (rowIn (c .before .before .before .before .before .before .args .i)) (c .before .before .before .before .before .before .args .i) (sym (c .before .before .before .before .before .before .pre .0) ∙ c .before .before .before .before .match .keys6)) (c .before .before .put-byte2 .ensures)
 
--- src/encoding.rt:144:1
 same-length-7 : tie.Need-same-length-7
 same-length-7 c = search needs
 
--- src/encoding.rt:144:1
 returns-7 : tie.Need-returns-7
 returns-7 c = put-same (bytes-sixteen (rowIn (c .before .before .before .before .before .before .before .args .i)) (c .before .before .before .before .before .before .before .args .i) (inl (sym (c .before .before .before .before .before .before .before .pre .0) ∙ c .before .before .before .before .before .match .keys7))) (c .before .before .put-bytes .ensures)
 
--- src/encoding.rt:144:1
 same-length-8 : tie.Need-same-length-8
 same-length-8 c = search needs
 
--- src/encoding.rt:144:1
 returns-8 : tie.Need-returns-8
 returns-8 c = put-same (bytes-sixteen (rowIn (c .before .before .before .before .before .before .before .args .i)) (c .before .before .before .before .before .before .before .args .i) (inr (sym (c .before .before .before .before .before .before .before .pre .0) ∙ c .before .before .before .before .before .match .keys8))) (c .before .before .put-bytes2 .ensures)
 
--- src/encoding.rt:144:1
 returns-9 : tie.Need-returns-9
 returns-9 c = put-same (ap written (fields-other (rowIn (c .before .before .args .i)) (subst (AllBut carrying) (c .before .before .pre .0) (c .match .rest)) (c .before .before .args .i))) (put-none _ _)
 

@@ -1,35 +1,26 @@
+use borrow.Author.Needs.{needs}
 use mathlib.Core.Path.{ap, refl, _∙_}
 use native.Mathlib.Omega.{arith}
 use lib.ListN.{length, length-set}
 use Rattle.instr.proofs.Sets.{opcode-vector, opcode-plain, put-same}
-use borrow.Author.Needs.{needs}
 use Rattle.instr.proofs.encoding.put_opcode.Statement.{statement}
 use Rattle.instr.proofs.encoding.put_opcode.Tie as tie
-use Rattle.instr.proofs.encoding.put_opcode.Reads as reads
-use Rattle.instr.proofs.encoding.put_opcode.Lts as lts
-use Rattle.instr.proofs.encoding.put_u32.Reads as put-u32-reads
 
--- src/encoding.rt:136:5
 slice-write-out : tie.Need-slice-write-out
 slice-write-out c = search needs
 
--- src/encoding.rt:138:9
 put-u32-requires : tie.Need-put-u32-requires
 put-u32-requires c κs = simp length-set (omega (arith, ap length (opcode-vector (c .before .before .before .args .first) (c .before .before .before .args .number) (c .before .if1 .taken)), c .before .before .before .pre))
 
--- src/encoding.rt:132:1
 same-length : tie.Need-same-length
 same-length c = c .before .before .put-u32 .kept .0 ∙ simp length-set
 
--- src/encoding.rt:132:1
 returns : tie.Need-returns
 returns c = put-same (opcode-vector (c .before .before .before .before .before .before .args .first) (c .before .before .before .before .before .before .args .number) (c .before .before .before .before .if1 .taken)) (record { to = omega (arith, c .before .before .put-u32 .ensures .to); bytes = c .before .before .put-u32 .ensures .bytes })
 
--- src/encoding.rt:132:1
 same-length-2 : tie.Need-same-length-2
 same-length-2 c = search needs
 
--- src/encoding.rt:132:1
 returns-2 : tie.Need-returns-2
 returns-2 c = put-same (opcode-plain (c .before .before .args .first) (c .before .before .args .number) (c .if1 .left)) (record { to = refl; bytes = refl })
 
