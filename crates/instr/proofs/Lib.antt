@@ -8,3 +8,7 @@ pub mod Forms
 pub mod Fields
 pub mod Places
 pub mod Decodes
+pub mod Finds
+pub mod Stands
+pub mod Encodes
+pub mod Lacking
