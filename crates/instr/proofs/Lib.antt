@@ -12,3 +12,5 @@ pub mod Finds
 pub mod Stands
 pub mod Encodes
 pub mod Lacking
+pub mod Ranges
+pub mod Unique
