@@ -1,18 +1,18 @@
 -- Where an instruction's fields stand, decoding finds it.
-use Prim.Native.Nat.{ℕ, _+_, _-_, _<_, _≤_, _^_}
-use mathlib.Core.Path.{_≡_, refl, sym, ap, ap₂, _∙_}
+use Prim.Native.Nat.{ℕ, _+_, _-_, _≤_, _^_}
 use mathlib.Core.Bool.{Bool, true, false, cond}
 use mathlib.Core.List.{List, [], _∷_, _++_}
+use mathlib.Core.Path.{_≡_, refl, sym, ap, ap₂, _∙_}
 use native.Mathlib.Nat.{add-zero}
 use native.Mathlib.Omega.{arith}
 use lib.Dec.{eqb}
-use lib.ListN.{length, take, drop, length-append, length-drop}
+use lib.ListN.{length, drop, length-append, length-drop}
 use lib.Seq.{take-at}
 use borrow.Author.Tests.{le-leb}
-use Rattle.opcode.specs.Table.{Row, carried, float, unassigned, PREFIX, rowAt}
+use Rattle.opcode.specs.Table.{Row, carried, float, unassigned, PREFIX}
 use Rattle.opcode.specs.Immediate.{Immediates, nothing, index, word, long, memory, memoryLane, laneIndex, sixteenBytes, sixteenLanes, immediates}
 use Rattle.opcode.specs.Number.{movedBy, lanesOf}
-use Rattle.instr.specs.Layout.{u32, Writes, InOrder, opcodeFields, immediateFields, fieldsOf, rowIn, layout, AllowedIn, Allowed, Head, head, kept, keptOf, headOf, bare, Typed, Stands, found}
+use Rattle.instr.specs.Layout.{u32, Writes, InOrder, immediateFields, fieldsOf, rowIn, layout, AllowedIn, Allowed, Head, head, kept, keptOf, headOf, bare, Typed, Stands, found}
 use Rattle.instr.specs.Decode.{done, got, exponentAt, lanesAt, sixteenAt, immediatesAt, bodyOf, opcodeNumber, decodeAt}
 use Rattle.instr.specs.declared.Instr.{Instr}
 use Rattle.instr.proofs.Places.{first-of, others-of, byte-here, byte-back, lane-back, lanes-back, number-back, item-back}

@@ -1,14 +1,13 @@
 -- What decoding finds stands there, item by item; and a refusal's place lies in the file.
-use Prim.Native.Nat.{ℕ, zero, suc, _+_, _-_, _<_, _≤_, _^_}
-use mathlib.Core.Path.{_≡_, refl, sym, ap, subst, _∙_}
-use mathlib.Core.Bool.{Bool, true, false}
+use Prim.Native.Nat.{ℕ, zero, suc, _+_, _<_, _≤_, _^_}
+use mathlib.Core.Bool.{Bool, false}
 use mathlib.Core.List.{List, [], _∷_, _++_, append-assoc}
+use mathlib.Core.Path.{_≡_, refl, sym, ap, _∙_}
 use native.Mathlib.Nat.{add-zero}
 use native.Mathlib.Omega.{arith}
 use lib.Dec.{ltb, leb}
 use lib.ListN.{length, getD, take, drop, length-append, length-drop, length-take, take-append-drop, drop-of-length-le}
 use lib.Seq.{drop-cons, getD-drop}
-use lib.IntN.{ℤ}
 use borrow.Author.Tests.{ltb-true, leb-true}
 use Rattle.leb128.specs.Bits.{integer}
 use Rattle.leb128.specs.Bytes.{bytes}

@@ -1,8 +1,8 @@
 -- Encoding does not depend on the immediates that the instruction lacks.
 use Prim.Native.Nat.{ℕ}
-use mathlib.Core.Path.{_≡_, refl, sym, ap, ap₂, _∙_}
 use mathlib.Core.Bool.{Bool, true, false, cond}
-use mathlib.Core.List.{List, [], _∷_, _++_}
+use mathlib.Core.List.{List, _++_}
+use mathlib.Core.Path.{_≡_, refl, sym, ap, ap₂, _∙_}
 use lib.Dec.{eqb}
 use Rattle.opcode.specs.Table.{Row, carried, float, unassigned, PREFIX, rowAt}
 use Rattle.opcode.specs.Immediate.{Immediates, nothing, index, word, long, memory, memoryLane, laneIndex, sixteenBytes, sixteenLanes, immediates}
@@ -10,7 +10,6 @@ use Rattle.opcode.specs.Number.{movedBy, lanesOf}
 use Rattle.instr.specs.Layout.{Field, opcodeFields, immediateFields, fieldsOf, rowIn, layout, Head, headOf, kept, keptOf, bare}
 use Rattle.instr.specs.Encode.{written, encoding, faultIn, faultOf, fault, encoded, encodedIn}
 use Rattle.instr.specs.declared.Instr.{Instr}
-use Rattle.instr.specs.declared.Encoded.{Encoded}
 
 -- the instruction that is kept has the same opcode, the same fields and the same fault
 record Same (h : Head) (k : Immediates) (m n : ℕ) (i : Instr) : Type 0 where

@@ -1,10 +1,10 @@
 -- What the other crates ask of an instruction that was decoded.
-use Prim.Native.Nat.{ℕ, _<_, _≤_, _^_}
-use mathlib.Core.Path.{_≡_, sym, ap, ap₂, subst, _∙_}
+use Prim.Native.Nat.{ℕ, _+_, _<_, _≤_, _^_}
 use mathlib.Core.List.{List, _++_}
 use mathlib.Core.Logic.{_⊎_, inl, inr}
+use mathlib.Core.Path.{_≡_, sym, ap, ap₂, subst, _∙_}
 use native.Mathlib.Omega.{arith}
-use lib.ListN.{length, length-append}
+use lib.ListN.{length, length-append, length-drop}
 use Rattle.opcode.specs.Table.{End, Code, plain, Row, carried, plainAt, rowAt}
 use Rattle.opcode.specs.Immediate.{Immediates, memory, memoryLane, laneIndex, sixteenLanes, immediates}
 use Rattle.opcode.specs.Number.{movedBy, lanesOf, idOf}
@@ -12,6 +12,14 @@ use Rattle.opcode.proofs.Id.{Way, byte, number, beyond, way, row-of-id}
 use Rattle.opcode.proofs.Inverse.{byteOf, code-back}
 use Rattle.instr.specs.Layout.{Field, Writes, InOrder, opcodeFields, immediateFields, fieldsOf, rowIn, layout, Below, AllowedIn, Allowed, Stands}
 use Rattle.instr.specs.declared.Instr.{Instr}
+
+-- what stands has bytes, and lies in the file
+pub stands-some : {s : List ℕ} {at : ℕ} {i : Instr} {n : ℕ} → Stands s at i n → 0 < n
+unfolding layout
+stands-some t = omega (arith, t .long, ap length (t .fields .2), length-append (t .fields .0) (t .fields .1), ap length (t .fields .3))
+
+pub stands-inside : {s : List ℕ} {at : ℕ} {i : Instr} {n : ℕ} → Stands s at i n → at + n ≤ length s
+stands-inside {s} {at} t = omega (arith, stands-some t, t .long, length-drop at s, ap length (t .here), length-append (t .bytes) (t .rest))
 
 -- lanes and exponents are in their bounds
 module _ (c : Code) (i : Instr) (a : Allowed (carried c) i) where

@@ -1,22 +1,21 @@
 -- EXACTLY: decoding answers an instruction where its fields stand, and nowhere else.
-use Prim.Native.Nat.{ℕ, zero, suc, _+_, _-_, _<_, _≤_, _^_}
-use mathlib.Core.Path.{_≡_, refl, sym, ap, ap₂, subst, _∙_}
+use Prim.Native.Nat.{ℕ, zero, suc, _-_, _<_, _≤_, _^_}
 use mathlib.Core.Bool.{Bool, true, false, cond}
 use mathlib.Core.List.{List, [], _∷_, _++_}
 use mathlib.Core.Logic.{_↔_}
+use mathlib.Core.Path.{_≡_, refl, sym, ap, ap₂, subst, _∙_}
 use native.Mathlib.Nat.{add-zero}
 use native.Mathlib.Omega.{arith}
 use lib.Dec.{eqb}
-use lib.ListN.{length, replicate, take, drop, length-append, length-drop}
+use lib.ListN.{length, replicate, take, drop}
 use lib.Seq.{take-at}
 use Rattle.leb128.specs.Bytes.{bytes}
 use Rattle.leb128.specs.Number.{numberAt}
 use Rattle.leb128.specs.declared.read.Leb.the-variants.{Val}
-use Rattle.leb128.proofs.Arith.{split}
 use Rattle.opcode.specs.Table.{Row, carried, float, unassigned, PREFIX, rowAt}
 use Rattle.opcode.specs.Immediate.{Immediates, nothing, index, word, long, memory, memoryLane, laneIndex, sixteenBytes, sixteenLanes, immediates}
 use Rattle.opcode.specs.Number.{movedBy, lanesOf}
-use Rattle.instr.specs.Layout.{Field, u32, s32, s64, raw, Writes, InOrder, opcodeFields, immediateFields, fieldsOf, rowIn, layout, Below, AllowedIn, Allowed, Head, head, zeros, instr, kept, keptOf, headOf, bare, Typed, Stands, found}
+use Rattle.instr.specs.Layout.{Field, u32, s32, s64, raw, Writes, InOrder, opcodeFields, immediateFields, fieldsOf, rowIn, layout, Below, AllowedIn, Allowed, Head, head, zeros, instr, kept, keptOf, headOf, Typed, Stands, found}
 use Rattle.instr.specs.Decode.{done, andThen, byteAt, laneAt, exponentAt, lanesAt, sixteenAt, itemOf, numberItem, immediatesAt, bodyOf, opcodeNumber, decodeAt}
 use Rattle.instr.specs.declared.Instr.{Instr}
 use Rattle.instr.specs.declared.Decoded.{Decoded}
@@ -249,14 +248,6 @@ module _ (s : List ℕ) (b : bytes s) where
   -- a place lies in the file, or is its length
   pub decoded-place : (at : ℕ) → decodeAt s at .place ≤ length s
   decoded-place at = decode-got at .0
-
--- what stands has bytes, and lies in the file
-pub stands-some : {s : List ℕ} {at : ℕ} {i : Instr} {n : ℕ} → Stands s at i n → 0 < n
-unfolding layout
-stands-some t = omega (arith, t .long, ap length (t .fields .2), length-append (t .fields .0) (t .fields .1), ap length (t .fields .3))
-
-pub stands-inside : {s : List ℕ} {at : ℕ} {i : Instr} {n : ℕ} → Stands s at i n → at + n ≤ length s
-stands-inside {s} {at} t = omega (arith, stands-some t, t .long, length-drop at s, ap length (t .here), length-append (t .bytes) (t .rest))
 
 -- one instruction stands at a place, or none, and then decoding has a refusal's code
 pub stands-once : (s : List ℕ) (at : ℕ) (i j : Instr) (n m : ℕ) → Stands s at i n → Stands s at j m → (i ≡ j) × (n ≡ m)

@@ -1,4 +1,4 @@
--- The bytes of one instruction (01, "Instructions"; Core 2.0, 5.4 and 5.4.9): its fields in order, the same for decoding and for encoding.
+-- The bytes of one instruction (01, "Instructions"; Core 2.0, 5.4): its fields in order, the same for decoding and for encoding.
 use Prim.Native.Nat.{ℕ, _<_, _≤_, _^_}
 use mathlib.Core.Bool.{Bool, true, false, cond}
 use mathlib.Core.List.{List, [], _∷_, _++_}

@@ -3,13 +3,11 @@ use crate::Decoded;
 use crate::Instr;
 use leb128::Leb;
 ghost use mathlib.Core.Path.{_≡_};
-ghost use Prim.Native.Nat.{_+_, _≤_};
-ghost use lib.ListN.{length, take, drop};
+ghost use Prim.Native.Nat.{_≤_};
+ghost use lib.ListN.{length};
 ghost use Rattle.opcode.specs.Table.{rowAt};
-ghost use Rattle.opcode.specs.Immediate as Class;
 ghost use Rattle.instr.specs.Layout.{head, instr};
-ghost use Rattle.instr.specs.Decode.{refusal, done, immediatesAt, bodyOf, opcodeNumber, decodeAt};
-ghost use Rattle.instr.specs.Inner.Steps.{memoryClass, laneEnds, Scanned};
+ghost use Rattle.instr.specs.Decode.{refusal, done, bodyOf, opcodeNumber, decodeAt};
 
 pub fn decode(s: &[u8], at: usize) -> Decoded
     ensures { λ r. ⌜ r ≡ decodeAt (now (s .entry)) at ⌝ }
@@ -26,7 +24,7 @@ pub fn decode(s: &[u8], at: usize) -> Decoded
     }
 }
 
-fn refused(code: u8, place: usize) -> Decoded
+pub(crate) fn refused(code: u8, place: usize) -> Decoded
     ensures { λ r. ⌜ r ≡ refusal code place ⌝ }
 {
     Decoded {
@@ -48,7 +46,7 @@ fn refused(code: u8, place: usize) -> Decoded
 }
 
 // The instruction from `at` up to `next`.
-fn whole(
+pub(crate) fn whole(
     at: usize,
     next: usize,
     first: u8,
@@ -102,12 +100,12 @@ fn body(s: &[u8], at: usize, p: usize, first: u8, number: u32) -> Decoded
     let class = opcode::immediates(id);
     match class {
         opcode::NOTHING => whole(at, p, first, number, 0, 0, 0, 0, 0, 0, [0; 16]),
-        opcode::INDEX => with_index(s, at, p, first, number),
-        opcode::WORD => with_word(s, at, p, first, number),
-        opcode::LONG => with_long(s, at, p, first, number),
+        opcode::INDEX => crate::immediates::with_index(s, at, p, first, number),
+        opcode::WORD => crate::immediates::with_word(s, at, p, first, number),
+        opcode::LONG => crate::immediates::with_long(s, at, p, first, number),
         opcode::MEMORY | opcode::MEMORY_LANE => {
             let laned = class == opcode::MEMORY_LANE;
-            with_memory(
+            crate::immediates::with_memory(
                 s,
                 at,
                 p,
@@ -118,175 +116,19 @@ fn body(s: &[u8], at: usize, p: usize, first: u8, number: u32) -> Decoded
                 laned,
             )
         }
-        opcode::LANE => with_lane(s, at, p, first, number, opcode::lanes(id), 0, 0),
-        opcode::BYTES => with_bytes(s, at, p, first, number),
-        opcode::LANES => with_lanes(s, at, p, first, number),
+        opcode::LANE => crate::immediates::with_lane(
+            s,
+            at,
+            p,
+            first,
+            number,
+            opcode::lanes(id),
+            0,
+            0,
+        ),
+        opcode::BYTES => crate::immediates::with_bytes(s, at, p, first, number),
+        opcode::LANES => crate::immediates::with_lanes(s, at, p, first, number),
         opcode::FLOAT => refused(card::FLOAT, at),
         _ => refused(card::OPCODE, at),
     }
-}
-
-fn with_index(s: &[u8], at: usize, p: usize, first: u8, number: u32) -> Decoded
-    requires { ⌜ at ≤ p ⌝ }
-    ensures { λ r. ⌜ r ≡ immediatesAt Class.index 0 0 (now (s .entry)) at p (head first number) ⌝ }
-{
-    match leb128::read_u32(s, p) {
-        Leb::Val(v, n) => whole(at, p + n, first, number, v as u32, 0, 0, 0, 0, 0, [0; 16]),
-        Leb::Short => refused(card::SHORT, s.len()),
-        Leb::Number => refused(card::NUMBER, p),
-    }
-}
-
-fn with_word(s: &[u8], at: usize, p: usize, first: u8, number: u32) -> Decoded
-    requires { ⌜ at ≤ p ⌝ }
-    ensures { λ r. ⌜ r ≡ immediatesAt Class.word 0 0 (now (s .entry)) at p (head first number) ⌝ }
-{
-    match leb128::read_s32(s, p) {
-        Leb::Val(v, n) => whole(at, p + n, first, number, 0, v as u32, 0, 0, 0, 0, [0; 16]),
-        Leb::Short => refused(card::SHORT, s.len()),
-        Leb::Number => refused(card::NUMBER, p),
-    }
-}
-
-fn with_long(s: &[u8], at: usize, p: usize, first: u8, number: u32) -> Decoded
-    requires { ⌜ at ≤ p ⌝ }
-    ensures { λ r. ⌜ r ≡ immediatesAt Class.long 0 0 (now (s .entry)) at p (head first number) ⌝ }
-{
-    match leb128::read_s64(s, p) {
-        Leb::Val(v, n) => whole(at, p + n, first, number, 0, 0, v, 0, 0, 0, [0; 16]),
-        Leb::Short => refused(card::SHORT, s.len()),
-        Leb::Number => refused(card::NUMBER, p),
-    }
-}
-
-fn with_memory(
-    s: &[u8],
-    at: usize,
-    p: usize,
-    first: u8,
-    number: u32,
-    moved: u32,
-    lanes: u32,
-    laned: bool,
-) -> Decoded
-    requires { ⌜ (at ≤ p) × (moved ≤ 16) ⌝ }
-    ensures { λ r. ⌜ r ≡ immediatesAt (memoryClass laned) moved lanes (now (s .entry)) at p (head first number) ⌝ }
-{
-    match leb128::read_u32(s, p) {
-        Leb::Val(a, n) => {
-            let align = a as u32;
-            if !crate::exponent_fits(align, moved) {
-                return refused(card::ALIGN, p);
-            }
-            let q = p + n;
-            match leb128::read_u32(s, q) {
-                Leb::Val(o, k) => {
-                    let offset = o as u32;
-                    if laned {
-                        with_lane(s, at, q + k, first, number, lanes, align, offset)
-                    } else {
-                        whole(at, q + k, first, number, 0, 0, 0, align, offset, 0, [0; 16])
-                    }
-                }
-                Leb::Short => refused(card::SHORT, s.len()),
-                Leb::Number => refused(card::NUMBER, q),
-            }
-        }
-        Leb::Short => refused(card::SHORT, s.len()),
-        Leb::Number => refused(card::NUMBER, p),
-    }
-}
-
-// A lane index ends the instruction, alone or after a memory immediate.
-fn with_lane(
-    s: &[u8],
-    at: usize,
-    p: usize,
-    first: u8,
-    number: u32,
-    lanes: u32,
-    align: u32,
-    offset: u32,
-) -> Decoded
-    requires { ⌜ at ≤ p ⌝ }
-    ensures { λ r. ⌜ r ≡ laneEnds lanes (now (s .entry)) at p (head first number) align offset ⌝ }
-{
-    if s.len() <= p {
-        return refused(card::SHORT, s.len());
-    }
-    let lane = s[p];
-    if crate::wide(lane) < lanes {
-        whole(
-            at,
-            p + 1,
-            first,
-            number,
-            0,
-            0,
-            0,
-            align,
-            offset,
-            lane,
-            [0; 16],
-        )
-    } else {
-        refused(card::LANE, p)
-    }
-}
-
-fn with_bytes(s: &[u8], at: usize, p: usize, first: u8, number: u32) -> Decoded
-    requires { ⌜ (at ≤ p) × (p ≤ length (now s)) ⌝ }
-    ensures { λ r. ⌜ r ≡ immediatesAt Class.sixteenBytes 0 0 (now (s .entry)) at p (head first number) ⌝ }
-{
-    if s.len() - p < 16 {
-        return refused(card::SHORT, s.len());
-    }
-    whole(at, p + 16, first, number, 0, 0, 0, 0, 0, 0, sixteen(s, p))
-}
-
-fn with_lanes(s: &[u8], at: usize, p: usize, first: u8, number: u32) -> Decoded
-    requires { ⌜ (at ≤ p) × (p ≤ length (now s)) ⌝ }
-    ensures { λ r. ⌜ r ≡ immediatesAt Class.sixteenLanes 0 0 (now (s .entry)) at p (head first number) ⌝ }
-{
-    let k = good_lanes(s, p);
-    if k < 16 {
-        if p + k < s.len() {
-            return refused(card::LANE, p + k);
-        }
-        return refused(card::SHORT, s.len());
-    }
-    whole(at, p + 16, first, number, 0, 0, 0, 0, 0, 0, sixteen(s, p))
-}
-
-// How many of sixteen shuffle indices are below 32, up to the first that is not.
-fn good_lanes(s: &[u8], p: usize) -> usize
-    requires { ⌜ p ≤ length (now s) ⌝ }
-    ensures { λ r. ⌜ Scanned (now (s .entry)) p r ⌝ }
-{
-    let mut k: usize = 0;
-    loop {
-        if 16 <= k {
-            break k;
-        }
-        if s.len() - p <= k {
-            break k;
-        }
-        if 32 <= s[p + k] {
-            break k;
-        }
-        k = k + 1;
-    }
-}
-
-fn sixteen(s: &[u8], p: usize) -> [u8; 16]
-    requires { ⌜ p + 16 ≤ length (now s) ⌝ }
-    ensures { λ r. ⌜ r ≡ take 16 (drop p (now (s .entry))) ⌝ }
-{
-    let mut a = [0u8; 16];
-    let mut i: usize = 0;
-    while i < 16 {
-        a[i] = s[p + i];
-        i = i + 1;
-    }
-    a
 }

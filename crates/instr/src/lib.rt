@@ -1,6 +1,7 @@
 // One instruction: decoded from any place of some bytes, encoded in its shortest form.
 mod decoding;
 mod encoding;
+mod immediates;
 
 pub use decoding::decode;
 pub use encoding::encode;

@@ -1,3 +1,4 @@
+-- Each class has its function; the class is the row's.
 use borrow.Author.Needs.{needs}
 use mathlib.Core.Path.{sym, _∙_, refl}
 use native.Mathlib.Omega.{arith}
@@ -49,46 +50,95 @@ lanes-requires-2 : tie.Need-lanes-requires-2
 lanes-requires-2 c κs = search needs
 
 with-memory-requires : tie.Need-with-memory-requires
-with-memory-requires c κs = (c .before .before .before .before .before .before .before .pre .0, omega (arith, c .before .moved .ensures, row-moved-small (rowOf (c .before .before .before .before .before .id-of .result))))
+with-memory-requires c κs =
+    let start = c .before .before .before .before .before .before .before in
+    let at-id-of = c .before .before .before .before .before in
+    (start .pre .0, omega (arith, c .before .moved .ensures, row-moved-small (rowOf (at-id-of .id-of .result))))
 
 refused-requires-2 : tie.Need-refused-requires-2
 refused-requires-2 c κs = search needs
 
 returns : tie.Need-returns
 unfolding immediatesAt
-returns c = c .whole .ensures ∙ sym (body-class _ nothing (class-at (c .before .before .before .before .before .args .first) (c .before .before .before .before .before .args .number) _ _ (search needs) (c .before .before .before .id-of .ensures) (c .before .before .immediates .ensures) (c .before .match .keys1)) _ _ _ _)
+returns c =
+    let start = c .before .before .before .before .before in
+    let at-id-of = c .before .before .before in
+    c .whole .ensures ∙ sym (body-class _ nothing (class-at (start .args .first) (start .args .number) _ _ (search needs) (at-id-of .id-of .ensures)
+    (c .before .before .immediates .ensures) (c .before .match .keys1)) _ _ _ _)
 
 returns-2 : tie.Need-returns-2
 unfolding immediatesAt
-returns-2 c = c .with-index .ensures ∙ sym (body-class _ index (class-at (c .before .before .before .before .before .args .first) (c .before .before .before .before .before .args .number) _ _ (search needs) (c .before .before .before .id-of .ensures) (c .before .before .immediates .ensures) (c .before .match .keys2)) _ _ _ _)
+returns-2 c =
+    let start = c .before .before .before .before .before in
+    let at-id-of = c .before .before .before in
+    c .with-index .ensures ∙ sym (body-class _ index (class-at (start .args .first) (start .args .number) _ _ (search needs) (at-id-of .id-of .ensures)
+    (c .before .before .immediates .ensures) (c .before .match .keys2)) _ _ _ _)
 
 returns-3 : tie.Need-returns-3
 unfolding immediatesAt
-returns-3 c = c .with-word .ensures ∙ sym (body-class _ word (class-at (c .before .before .before .before .before .args .first) (c .before .before .before .before .before .args .number) _ _ (search needs) (c .before .before .before .id-of .ensures) (c .before .before .immediates .ensures) (c .before .match .keys3)) _ _ _ _)
+returns-3 c =
+    let start = c .before .before .before .before .before in
+    let at-id-of = c .before .before .before in
+    c .with-word .ensures ∙ sym (body-class _ word (class-at (start .args .first) (start .args .number) _ _ (search needs) (at-id-of .id-of .ensures)
+    (c .before .before .immediates .ensures) (c .before .match .keys3)) _ _ _ _)
 
 returns-4 : tie.Need-returns-4
 unfolding immediatesAt
-returns-4 c = c .with-long .ensures ∙ sym (body-class _ long (class-at (c .before .before .before .before .before .args .first) (c .before .before .before .before .before .args .number) _ _ (search needs) (c .before .before .before .id-of .ensures) (c .before .before .immediates .ensures) (c .before .match .keys4)) _ _ _ _)
+returns-4 c =
+    let start = c .before .before .before .before .before in
+    let at-id-of = c .before .before .before in
+    c .with-long .ensures ∙ sym (body-class _ long (class-at (start .args .first) (start .args .number) _ _ (search needs) (at-id-of .id-of .ensures)
+    (c .before .before .immediates .ensures) (c .before .match .keys4)) _ _ _ _)
 
 returns-5 : tie.Need-returns-5
-returns-5 c = c .with-lane .ensures ∙ body-lane (c .before .before .before .before .before .before .args .first) (c .before .before .before .before .before .before .args .number) _ _ (search needs) (c .before .before .before .before .id-of .ensures) (c .before .before .before .immediates .ensures) _ _ _ _ _ (c .before .lanes .ensures) (c .before .before .match .keys5)
+returns-5 c =
+    let start = c .before .before .before .before .before .before in
+    let at-id-of = c .before .before .before .before in
+    let at-immediates = c .before .before .before in
+    c .with-lane .ensures ∙ body-lane (start .args .first) (start .args .number) _ _ (search needs) (at-id-of .id-of .ensures)
+    (at-immediates .immediates .ensures) _ _ _ _ _ (c .before .lanes .ensures) (c .before .before .match .keys5)
 
 returns-6 : tie.Need-returns-6
 unfolding immediatesAt
-returns-6 c = c .with-bytes .ensures ∙ sym (body-class _ sixteenBytes (class-at (c .before .before .before .before .before .args .first) (c .before .before .before .before .before .args .number) _ _ (search needs) (c .before .before .before .id-of .ensures) (c .before .before .immediates .ensures) (c .before .match .keys6)) _ _ _ _)
+returns-6 c =
+    let start = c .before .before .before .before .before in
+    let at-id-of = c .before .before .before in
+    c .with-bytes .ensures ∙ sym (body-class _ sixteenBytes (class-at (start .args .first) (start .args .number) _ _ (search needs) (at-id-of .id-of .ensures)
+    (c .before .before .immediates .ensures) (c .before .match .keys6)) _ _ _ _)
 
 returns-7 : tie.Need-returns-7
 unfolding immediatesAt
-returns-7 c = c .with-lanes .ensures ∙ sym (body-class _ sixteenLanes (class-at (c .before .before .before .before .before .args .first) (c .before .before .before .before .before .args .number) _ _ (search needs) (c .before .before .before .id-of .ensures) (c .before .before .immediates .ensures) (c .before .match .keys7)) _ _ _ _)
+returns-7 c =
+    let start = c .before .before .before .before .before in
+    let at-id-of = c .before .before .before in
+    c .with-lanes .ensures ∙ sym (body-class _ sixteenLanes (class-at (start .args .first) (start .args .number) _ _ (search needs) (at-id-of .id-of .ensures)
+    (c .before .before .immediates .ensures) (c .before .match .keys7)) _ _ _ _)
 
 returns-8 : tie.Need-returns-8
-returns-8 c = c .refused .ensures ∙ sym (body-float _ (class-at (c .before .before .before .before .before .args .first) (c .before .before .before .before .before .args .number) _ _ (search needs) (c .before .before .before .id-of .ensures) (c .before .before .immediates .ensures) (c .before .match .keys8)) _ _ _ _)
+returns-8 c =
+    let start = c .before .before .before .before .before in
+    let at-id-of = c .before .before .before in
+    c .refused .ensures ∙ sym (body-float _ (class-at (start .args .first) (start .args .number) _ _ (search needs) (at-id-of .id-of .ensures)
+    (c .before .before .immediates .ensures) (c .before .match .keys8)) _ _ _ _)
 
 returns-9 : tie.Need-returns-9
-returns-9 c = c .with-memory .ensures ∙ body-memory (c .before .before .before .before .before .before .before .before .args .first) (c .before .before .before .before .before .before .before .before .args .number) _ _ (search needs) (c .before .before .before .before .before .before .id-of .ensures) (c .before .before .before .before .before .immediates .ensures) _ _ _ _ _ _ _ (c .before .before .moved .ensures) (c .before .lanes2 .ensures) refl (c .before .before .before .before .match .rest) (c .before .before .before .if1 .taken)
+returns-9 c =
+    let start = c .before .before .before .before .before .before .before .before in
+    let at-id-of = c .before .before .before .before .before .before in
+    let at-immediates = c .before .before .before .before .before in
+    let at-match = c .before .before .before .before in
+    let at-if1 = c .before .before .before in
+    c .with-memory .ensures ∙ body-memory (start .args .first) (start .args .number) _ _ (search needs) (at-id-of .id-of .ensures)
+    (at-immediates .immediates .ensures) _ _ _ _ _ _ _ (c .before .before .moved .ensures) (c .before .lanes2 .ensures) refl (at-match .match .rest)
+    (at-if1 .if1 .taken)
 
 returns-10 : tie.Need-returns-10
-returns-10 c = c .refused2 .ensures ∙ sym (body-none (c .before .before .before .before .before .before .args .first) (c .before .before .before .before .before .before .args .number) _ _ (search needs) (c .before .before .before .before .id-of .ensures) (c .before .before .before .immediates .ensures) _ _ _ _ (c .before .before .match .rest) (c .before .if1 .left))
+returns-10 c =
+    let start = c .before .before .before .before .before .before in
+    let at-id-of = c .before .before .before .before in
+    let at-immediates = c .before .before .before in
+    c .refused2 .ensures ∙ sym (body-none (start .args .first) (start .args .number) _ _ (search needs) (at-id-of .id-of .ensures)
+    (at-immediates .immediates .ensures) _ _ _ _ (c .before .before .match .rest) (c .before .if1 .left))
 
 pub body-spec : {M : Type 1} → statement M
 body-spec =

@@ -1,3 +1,4 @@
+-- The first byte, the number, the body.
 use borrow.Author.Needs.{needs}
 use mathlib.Core.Path.{sym, _∙_}
 use native.Mathlib.Omega.{arith}
@@ -12,7 +13,9 @@ refused-requires c κs = search needs
 
 returns : tie.Need-returns
 unfolding decodeAt
-returns c = simp (byte-cut (now (c .before .before .before .args .s)) (c .before .before .before .args .at) (c .before .if1 .taken)) (c .refused .ensures)
+returns c =
+    let start = c .before .before .before in
+    simp (byte-cut (now (start .args .s)) (start .args .at) (c .before .if1 .taken)) (c .refused .ensures)
 
 shared-slice-read-first : tie.Need-shared-slice-read-first
 shared-slice-read-first c = search needs
@@ -27,13 +30,37 @@ enum-known-n : tie.Need-enum-known-n
 enum-known-n c = search needs
 
 add-body : tie.Need-add-body
-add-body c = omega (arith, opcode-found _ (λ j. c .before .before .before .before .before .before .shared-slice-known .given j .fits) _ _ _ _ (omega (arith, c .before .before .before .before .before .if1 .left)) (sym (c .before .before .before .opcode-number .ensures) ∙ c .before .n .given .1))
+add-body c =
+    let at-shared-slice-known = c .before .before .before .before .before .before in
+    let at-if1 = c .before .before .before .before .before in
+    let at-opcode-number = c .before .before .before in
+    omega (
+      arith,
+      opcode-found _ (λ j. at-shared-slice-known .shared-slice-known .given j .fits) _ _ _ _ (omega (arith, at-if1 .if1 .left))
+          (sym (at-opcode-number .opcode-number .ensures) ∙ c .before .n .given .1),
+    )
 
 cast-body : tie.Need-cast-body
-cast-body c = omega (arith, opcode-found _ (λ j. c .before .before .before .before .before .before .shared-slice-known .given j .fits) _ _ _ _ (omega (arith, c .before .before .before .before .before .if1 .left)) (sym (c .before .before .before .opcode-number .ensures) ∙ c .before .n .given .1))
+cast-body c =
+    let at-shared-slice-known = c .before .before .before .before .before .before in
+    let at-if1 = c .before .before .before .before .before in
+    let at-opcode-number = c .before .before .before in
+    omega (
+      arith,
+      opcode-found _ (λ j. at-shared-slice-known .shared-slice-known .given j .fits) _ _ _ _ (omega (arith, at-if1 .if1 .left))
+          (sym (at-opcode-number .opcode-number .ensures) ∙ c .before .n .given .1),
+    )
 
 body-requires : tie.Need-body-requires
-body-requires c κs = omega (arith, opcode-found _ (λ j. c .before .before .before .before .before .before .shared-slice-known .given j .fits) _ _ _ _ (omega (arith, c .before .before .before .before .before .if1 .left)) (sym (c .before .before .before .opcode-number .ensures) ∙ c .before .n .given .1))
+body-requires c κs =
+    let at-shared-slice-known = c .before .before .before .before .before .before in
+    let at-if1 = c .before .before .before .before .before in
+    let at-opcode-number = c .before .before .before in
+    omega (
+      arith,
+      opcode-found _ (λ j. at-shared-slice-known .shared-slice-known .given j .fits) _ _ _ _ (omega (arith, at-if1 .if1 .left))
+          (sym (at-opcode-number .opcode-number .ensures) ∙ c .before .n .given .1),
+    )
 
 enum-told : tie.Need-enum-told
 enum-told c = search needs
@@ -49,15 +76,39 @@ refused-requires-3 c κs = search needs
 
 returns-2 : tie.Need-returns-2
 unfolding decodeAt
-returns-2 c = simp (byte-there (now (c .before .before .before .before .before .before .before .before .args .s)) (c .before .before .before .before .before .before .before .before .args .at) (c .before .before .before .before .before .before .if1 .left), sym (c .before .before .before .before .opcode-number .ensures) ∙ c .before .before .n .given .1) (c .body .ensures)
+returns-2 c =
+    let start = c .before .before .before .before .before .before .before .before in
+    let at-if1 = c .before .before .before .before .before .before in
+    let at-opcode-number = c .before .before .before .before in
+    simp (
+      byte-there (now (start .args .s)) (start .args .at) (at-if1 .if1 .left),
+      sym (at-opcode-number .opcode-number .ensures)
+          ∙ c .before .before .n .given .1,
+    ) (c .body .ensures)
 
 returns-3 : tie.Need-returns-3
 unfolding decodeAt
-returns-3 c = simp (byte-there (now (c .before .before .before .before .before .before .before .args .s)) (c .before .before .before .before .before .before .before .args .at) (c .before .before .before .before .before .if1 .left), sym (c .before .before .before .opcode-number .ensures) ∙ c .before .enum-told .given .1) (c .refused2 .ensures)
+returns-3 c =
+    let start = c .before .before .before .before .before .before .before in
+    let at-if1 = c .before .before .before .before .before in
+    let at-opcode-number = c .before .before .before in
+    simp (
+      byte-there (now (start .args .s)) (start .args .at) (at-if1 .if1 .left),
+      sym (at-opcode-number .opcode-number .ensures)
+          ∙ c .before .enum-told .given .1,
+    ) (c .refused2 .ensures)
 
 returns-4 : tie.Need-returns-4
 unfolding decodeAt
-returns-4 c = simp (byte-there (now (c .before .before .before .before .before .before .before .args .s)) (c .before .before .before .before .before .before .before .args .at) (c .before .before .before .before .before .if1 .left), sym (c .before .before .before .opcode-number .ensures) ∙ c .before .enum-told2 .given .1) (c .refused3 .ensures)
+returns-4 c =
+    let start = c .before .before .before .before .before .before .before in
+    let at-if1 = c .before .before .before .before .before in
+    let at-opcode-number = c .before .before .before in
+    simp (
+      byte-there (now (start .args .s)) (start .args .at) (at-if1 .if1 .left),
+      sym (at-opcode-number .opcode-number .ensures)
+          ∙ c .before .enum-told2 .given .1,
+    ) (c .refused3 .ensures)
 
 pub decode-spec : {M : Type 1} → statement M
 decode-spec =

@@ -1,3 +1,4 @@
+-- FD's number is read, or there is none.
 use borrow.Author.Needs.{needs}
 use borrow.Author.Tests.{eq-eqb, ne-eqb}
 use Rattle.instr.specs.Decode.{opcodeNumber}

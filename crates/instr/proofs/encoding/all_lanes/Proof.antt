@@ -1,3 +1,4 @@
+-- The loop has passed `j` indices.
 use borrow.Author.Needs.{needs}
 use Prim.Native.Nat.{_-_, _≤_}
 use mathlib.Core.Path.{_≡_, refl}
@@ -27,7 +28,9 @@ loop-less : tie.Need-loop-less Inv-loop μ-loop
 loop-less c = search needs
 
 loop-again : tie.Need-loop-again Inv-loop μ-loop
-loop-again c = (omega arith, c .before .before .loop .inv .1, below-on _ _ (c .before .before .loop .inv .1) (c .before .before .loop .inv .2) (c .before .if1 .left) (c .if2 .left))
+loop-again c =
+    let at-loop = c .before .before in
+    (omega arith, at-loop .loop .inv .1, below-on _ _ (at-loop .loop .inv .1) (at-loop .loop .inv .2) (c .before .if1 .left) (c .if2 .left))
 
 returns : tie.Need-returns Inv-loop μ-loop
 returns c = below-ends _ _ (c .before .loop .inv .1) (c .before .loop .inv .2) (c .if1 .taken)

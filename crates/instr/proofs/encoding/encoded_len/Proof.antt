@@ -1,3 +1,4 @@
+-- The opcode's bytes and the immediates'.
 use borrow.Author.Needs.{needs}
 use mathlib.Core.Path.{ap, _∙_}
 use native.Mathlib.Omega.{arith}
@@ -17,13 +18,17 @@ immediates-requires : tie.Need-immediates-requires
 immediates-requires c κs = search needs
 
 immediates-len-requires : tie.Need-immediates-len-requires
-immediates-len-requires c κs = c .immediates .ensures ∙ ap classOf (row-in (c .before .before .before .args .i .first) (c .before .before .before .args .i .number) _ (search needs) (c .before .before .id-of .ensures))
+immediates-len-requires c κs =
+    let start = c .before .before .before in
+    c .immediates .ensures ∙ ap classOf (row-in (start .args .i .first) (start .args .i .number) _ (search needs) (c .before .before .id-of .ensures))
 
 add-result : tie.Need-add-result
 add-result c = search needs
 
 returns : tie.Need-returns
-returns c = omega (arith, encoding-length (c .before .before .before .before .args .i), c .before .before .opcode-len .ensures .0, c .immediates-len .ensures .0)
+returns c =
+    let start = c .before .before .before .before in
+    omega (arith, encoding-length (start .args .i), c .before .before .opcode-len .ensures .0, c .immediates-len .ensures .0)
 
 pub encoded-len-spec : {M : Type 1} → statement M
 encoded-len-spec =

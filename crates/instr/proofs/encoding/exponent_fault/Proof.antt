@@ -1,3 +1,4 @@
+-- The exponent fits, or not.
 use borrow.Author.Needs.{needs}
 use mathlib.Core.Path.{sym, _∙_}
 use Rattle.instr.proofs.encoding.exponent_fault.Statement.{statement}

@@ -1,3 +1,4 @@
+-- One byte, or FD and its number.
 use borrow.Author.Needs.{needs}
 use mathlib.Core.Bool.{false}
 use mathlib.Core.Path.{ap}
@@ -15,7 +16,12 @@ add-result : tie.Need-add-result
 add-result c = omega (arith, c .len-u32 .ensures .answer, form-32 false (c .before .before .args .number) (search needs))
 
 returns : tie.Need-returns
-returns c = (omega (arith, ap length (opcode-vector (c .before .before .args .first) (c .before .before .args .number) (c .before .if1 .taken)), c .len-u32 .ensures .answer), omega (arith, c .len-u32 .ensures .answer, form-32 false (c .before .before .args .number) (search needs)))
+returns c =
+    let start = c .before .before in (
+      omega (arith, ap length (opcode-vector (start .args .first) (start .args .number) (c .before .if1 .taken)), c .len-u32 .ensures .answer),
+      omega
+          (arith, c .len-u32 .ensures .answer, form-32 false (start .args .number) (search needs)),
+    )
 
 returns-2 : tie.Need-returns-2
 returns-2 c = (omega (arith, ap length (opcode-plain (c .before .args .first) (c .before .args .number) (c .if1 .left))), omega arith)

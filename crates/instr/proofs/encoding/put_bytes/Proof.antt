@@ -1,3 +1,4 @@
+-- The loop has written `j` bytes.
 use borrow.Author.Needs.{needs}
 use Prim.Native.Nat.{_-_}
 use native.Mathlib.Omega.{arith}

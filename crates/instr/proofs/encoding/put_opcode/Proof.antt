@@ -1,3 +1,4 @@
+-- One byte, or FD and its number.
 use borrow.Author.Needs.{needs}
 use mathlib.Core.Path.{ap, refl, _∙_}
 use native.Mathlib.Omega.{arith}
@@ -10,13 +11,19 @@ slice-write-out : tie.Need-slice-write-out
 slice-write-out c = search needs
 
 put-u32-requires : tie.Need-put-u32-requires
-put-u32-requires c κs = simp length-set (omega (arith, ap length (opcode-vector (c .before .before .before .args .first) (c .before .before .before .args .number) (c .before .if1 .taken)), c .before .before .before .pre))
+put-u32-requires c κs =
+    let start = c .before .before .before in
+    simp length-set (omega (arith, ap length (opcode-vector (start .args .first) (start .args .number) (c .before .if1 .taken)), start .pre))
 
 same-length : tie.Need-same-length
 same-length c = c .before .before .put-u32 .kept .0 ∙ simp length-set
 
 returns : tie.Need-returns
-returns c = put-same (opcode-vector (c .before .before .before .before .before .before .args .first) (c .before .before .before .before .before .before .args .number) (c .before .before .before .before .if1 .taken)) (record { to = omega (arith, c .before .before .put-u32 .ensures .to); bytes = c .before .before .put-u32 .ensures .bytes })
+returns c =
+    let start = c .before .before .before .before .before .before in
+    let at-if1 = c .before .before .before .before in
+    put-same (opcode-vector (start .args .first) (start .args .number) (at-if1 .if1 .taken))
+    (record { to = omega (arith, c .before .before .put-u32 .ensures .to); bytes = c .before .before .put-u32 .ensures .bytes })
 
 same-length-2 : tie.Need-same-length-2
 same-length-2 c = search needs

@@ -1,3 +1,4 @@
+-- There is room, so the number goes in.
 use borrow.Author.Needs.{needs}
 use Rattle.instr.proofs.Sets.{put-number}
 use Rattle.leb128.proofs.Puts.{not-small}
@@ -17,13 +18,19 @@ same-length : tie.Need-same-length
 same-length c = search needs
 
 returns : tie.Need-returns
-returns c = put-number (c .before .before .before .before .before .write-u32 .ensures) (c .before .before .before .before .before .before .before .before .pre) _ (c .before .p .given .1)
+returns c =
+    let start = c .before .before .before .before .before .before .before .before in
+    let at-write-u32 = c .before .before .before .before .before in
+    put-number (at-write-u32 .write-u32 .ensures) (start .pre) _ (c .before .p .given .1)
 
 same-length-2 : tie.Need-same-length-2
 same-length-2 c = search needs
 
 returns-2 : tie.Need-returns-2
-returns-2 c = absurd (not-small (c .before .before .before .before .write-u32 .ensures) (c .before .before .before .before .before .before .before .pre) (c .enum-told .given .1))
+returns-2 c =
+    let start = c .before .before .before .before .before .before .before in
+    let at-write-u32 = c .before .before .before .before in
+    absurd (not-small (at-write-u32 .write-u32 .ensures) (start .pre) (c .enum-told .given .1))
 
 pub put-u32-spec : {M : Type 1} → statement M
 put-u32-spec =

@@ -1,10 +1,11 @@
+-- The loop has copied `i` bytes.
 use borrow.Author.Needs.{needs}
 use Prim.Native.Nat.{_-_, _≤_}
 use mathlib.Core.Path.{_≡_, refl}
 use native.Mathlib.Omega.{arith}
 use Rattle.instr.proofs.Scan.{copied, copy-more, copy-ends}
-use Rattle.instr.proofs.decoding.sixteen.Statement.{statement}
-use Rattle.instr.proofs.decoding.sixteen.Tie as tie
+use Rattle.instr.proofs.immediates.sixteen.Statement.{statement}
+use Rattle.instr.proofs.immediates.sixteen.Tie as tie
 
 abbrev Inv-loop : tie.InvT-loop
 Inv-loop s p a₀ i₀ a i = (i ≤ 16) × (a ≡ copied s p i)
@@ -31,7 +32,9 @@ loop-less : tie.Need-loop-less Inv-loop μ-loop
 loop-less c = search needs
 
 loop-again : tie.Need-loop-again Inv-loop μ-loop
-loop-again c = (omega arith, copy-more _ _ _ (c .before .before .before .pre) _ (c .before .loop-test .taken) (c .before .before .loop .inv .1))
+loop-again c =
+    let start = c .before .before .before in
+    (omega arith, copy-more _ _ _ (start .pre) _ (c .before .loop-test .taken) (c .before .before .loop .inv .1))
 
 returns : tie.Need-returns Inv-loop μ-loop
 returns c = copy-ends _ _ _ (c .before .before .pre) _ (c .loop-test .left) (c .before .loop .inv .0) (c .before .loop .inv .1)

@@ -1,16 +1,19 @@
+-- A byte below the count, one that is not, or none.
 use borrow.Author.Needs.{needs}
 use denote.Ref.{now}
 use Rattle.instr.specs.Inner.Steps.{laneEnds}
 use Rattle.instr.proofs.Items.{lane-good, lane-bad, lane-cut}
-use Rattle.instr.proofs.decoding.with_lane.Statement.{statement}
-use Rattle.instr.proofs.decoding.with_lane.Tie as tie
+use Rattle.instr.proofs.immediates.with_lane.Statement.{statement}
+use Rattle.instr.proofs.immediates.with_lane.Tie as tie
 
 refused-requires : tie.Need-refused-requires
 refused-requires c κs = search needs
 
 returns : tie.Need-returns
 unfolding laneEnds
-returns c = simp (lane-cut (now (c .before .before .before .args .s)) (c .before .before .before .args .p) (c .before .before .before .args .lanes) (c .before .if1 .taken)) (c .refused .ensures)
+returns c =
+    let start = c .before .before .before in
+    simp (lane-cut (now (start .args .s)) (start .args .p) (start .args .lanes) (c .before .if1 .taken)) (c .refused .ensures)
 
 shared-slice-read-lane : tie.Need-shared-slice-read-lane
 shared-slice-read-lane c = search needs
@@ -29,11 +32,19 @@ refused-requires-2 c κs = search needs
 
 returns-2 : tie.Need-returns-2
 unfolding laneEnds
-returns-2 c = simp (lane-good (now (c .before .before .before .before .before .before .args .s)) (c .before .before .before .before .before .before .args .p) (c .before .before .before .before .before .before .args .lanes) (c .before .before .before .before .if1 .left) (rw (c .before .before .wide .ensures) at (c .before .if2 .taken))) (c .whole .ensures)
+returns-2 c =
+    let start = c .before .before .before .before .before .before in
+    let at-if1 = c .before .before .before .before in
+    simp (lane-good (now (start .args .s)) (start .args .p) (start .args .lanes) (at-if1 .if1 .left)
+    (rw (c .before .before .wide .ensures) at (c .before .if2 .taken))) (c .whole .ensures)
 
 returns-3 : tie.Need-returns-3
 unfolding laneEnds
-returns-3 c = simp (lane-bad (now (c .before .before .before .before .before .before .args .s)) (c .before .before .before .before .before .before .args .p) (c .before .before .before .before .before .before .args .lanes) (c .before .before .before .before .if1 .left) (rw (c .before .before .wide .ensures) at (c .before .if2 .left))) (c .refused2 .ensures)
+returns-3 c =
+    let start = c .before .before .before .before .before .before in
+    let at-if1 = c .before .before .before .before in
+    simp (lane-bad (now (start .args .s)) (start .args .p) (start .args .lanes) (at-if1 .if1 .left)
+    (rw (c .before .before .wide .ensures) at (c .before .if2 .left))) (c .refused2 .ensures)
 
 pub with-lane-spec : {M : Type 1} → statement M
 with-lane-spec =

@@ -1,10 +1,11 @@
+-- The number and its three answers.
 use borrow.Author.Needs.{needs}
 use mathlib.Core.Path.{sym, _∙_}
 use native.Mathlib.Omega.{arith}
 use Rattle.leb128.proofs.Bounds.{found-64}
 use Rattle.instr.specs.Decode.{numberItem, immediatesAt}
-use Rattle.instr.proofs.decoding.with_long.Statement.{statement}
-use Rattle.instr.proofs.decoding.with_long.Tie as tie
+use Rattle.instr.proofs.immediates.with_long.Statement.{statement}
+use Rattle.instr.proofs.immediates.with_long.Tie as tie
 
 read-s64-requires : tie.Need-read-s64-requires
 read-s64-requires c κs = search needs
@@ -13,7 +14,14 @@ enum-known-v : tie.Need-enum-known-v
 enum-known-v c = search needs
 
 add-whole : tie.Need-add-whole
-add-whole c = omega (arith, found-64 _ _ _ (λ j. c .before .before .before .before .shared-slice-known .given j .fits) _ _ (sym (c .before .before .before .read-s64 .ensures .answer) ∙ c .before .v .given .1))
+add-whole c =
+    let at-shared-slice-known = c .before .before .before .before in
+    let at-read-s64 = c .before .before .before in
+    omega (
+      arith,
+      found-64 _ _ _ (λ j. at-shared-slice-known .shared-slice-known .given j .fits) _ _
+          (sym (at-read-s64 .read-s64 .ensures .answer) ∙ c .before .v .given .1),
+    )
 
 whole-requires : tie.Need-whole-requires
 whole-requires c κs = search needs
@@ -32,15 +40,21 @@ refused-requires-2 c κs = search needs
 
 returns : tie.Need-returns
 unfolding immediatesAt numberItem
-returns c = simp (sym (c .before .before .before .before .read-s64 .ensures .answer) ∙ c .before .before .v .given .1) (c .whole .ensures)
+returns c =
+    let at-read-s64 = c .before .before .before .before in
+    simp (sym (at-read-s64 .read-s64 .ensures .answer) ∙ c .before .before .v .given .1) (c .whole .ensures)
 
 returns-2 : tie.Need-returns-2
 unfolding immediatesAt numberItem
-returns-2 c = simp (sym (c .before .before .before .read-s64 .ensures .answer) ∙ c .before .enum-told .given .1) (c .refused .ensures)
+returns-2 c =
+    let at-read-s64 = c .before .before .before in
+    simp (sym (at-read-s64 .read-s64 .ensures .answer) ∙ c .before .enum-told .given .1) (c .refused .ensures)
 
 returns-3 : tie.Need-returns-3
 unfolding immediatesAt numberItem
-returns-3 c = simp (sym (c .before .before .before .read-s64 .ensures .answer) ∙ c .before .enum-told2 .given .1) (c .refused2 .ensures)
+returns-3 c =
+    let at-read-s64 = c .before .before .before in
+    simp (sym (at-read-s64 .read-s64 .ensures .answer) ∙ c .before .enum-told2 .given .1) (c .refused2 .ensures)
 
 pub with-long-spec : {M : Type 1} → statement M
 with-long-spec =
