@@ -1,0 +1,104 @@
+-- Bytes written one after the other, and what the encoder's loops leave.
+use Prim.Native.Nat.{ℕ, suc, _+_, _<_, _≤_}
+use mathlib.Core.Bool.{Bool, true, false}
+use mathlib.Core.List.{List, [], _∷_, _++_, append-assoc, append-nil}
+use mathlib.Core.Path.{_≡_, refl, sym, ap, subst, _∙_}
+use native.Mathlib.Nat.{add-zero, add-suc, suc-add}
+use native.Mathlib.Numerals.{add-one}
+use native.Mathlib.Omega.{arith}
+use lib.ListN.{length, getD, drop, set, length-set, drop-of-length-le, length-append}
+use lib.Seq.{sets, drop-cons}
+use borrow.Author.Tests.{lt-ltb, le-ltb, eq-eqb, ne-eqb}
+use Rattle.leb128.specs.Shortest.{bytesOf}
+use Rattle.leb128.specs.Promise.{WritesNumber}
+use Rattle.leb128.specs.declared.write.Wrote.{Wrote}
+use Rattle.leb128.specs.declared.write.Wrote.the-variants.{To}
+use Rattle.leb128.proofs.Puts.{goes-to, goes-bytes}
+use Rattle.opcode.specs.Table.{PREFIX}
+use Rattle.instr.specs.Layout.{Field, opcodeFields}
+use Rattle.instr.specs.Encode.{shortestBytes, written, allBelow}
+use Rattle.instr.specs.Inner.Steps.{Put}
+
+sets-append : (xs l ys : List ℕ) (i : ℕ) → sets (sets l i xs) (i + length xs) ys ≡ sets l i (xs ++ ys)
+sets-append [] l ys i = ap (λ (k : ℕ). sets l k ys) (add-zero i)
+sets-append (x ∷ xs) l ys i =
+    ap (λ (k : ℕ). sets (sets (set l i x) (suc i) xs) k ys) (add-suc i (length xs) ∙ sym (suc-add i (length xs)))
+    ∙ sets-append xs (set l i x) ys (suc i)
+
+-- nothing; and one thing after another
+pub put-none : (out : List ℕ) (at : ℕ) → Put out at [] at out
+put-none out at = record { to = sym (add-zero at); bytes = refl }
+
+pub put-then : {out out₁ out₂ xs ys : List ℕ} {at p r : ℕ} → Put out at xs p out₁ → Put out₁ p ys r out₂ → Put out at (xs ++ ys) r out₂
+put-then {out} {out₁} {out₂} {xs} {ys} {at} {p} {r} a b =
+    record {
+      to = omega (arith, a .to, b .to, length-append xs ys);
+      bytes = b .bytes ∙ rw (a .bytes, a .to) (sets-append xs out ys at);
+    }
+
+pub put-same : {out out′ xs ys : List ℕ} {at r : ℕ} → xs ≡ ys → Put out at ys r out′ → Put out at xs r out′
+put-same {out} {out′} {at = at} {r = r} e w = subst (λ (l : List ℕ). Put out at l r out′) (sym e) w
+
+-- one field, the last
+pub put-last : {out out′ xs : List ℕ} {at r : ℕ} → Put out at xs r out′ → Put out at (xs ++ []) r out′
+put-last {xs = xs} w = put-same (append-nil xs) w
+
+pub put-number : {sign : Bool} {N v at : ℕ} {out out′ : List ℕ} {r : Wrote} → WritesNumber sign N v at out r out′ → at + length (bytesOf sign N v) ≤ length out
+    → (p : ℕ) → r ≡ To p → Put out at (bytesOf sign N v) p out′
+put-number w l p e = record { to = goes-to w l p e; bytes = goes-bytes w l }
+
+pub written-append : (fs gs : List Field) → written (fs ++ gs) ≡ written fs ++ written gs
+written-append [] gs = refl
+written-append (f ∷ fs) gs = ap (λ (l : List ℕ). shortestBytes f ++ l) (written-append fs gs) ∙ sym (append-assoc (shortestBytes f) (written fs) (written gs))
+
+-- an opcode's bytes
+pub opcode-vector : (b n : ℕ) → b ≡ PREFIX → written (opcodeFields b n) ≡ b ∷ bytesOf false 32 n
+opcode-vector b n e = rw (eq-eqb b PREFIX e) (ap (λ (l : List ℕ). b ∷ l) (append-nil (bytesOf false 32 n)))
+
+pub opcode-plain : (b n : ℕ) → (b ≡ PREFIX → ⊥) → written (opcodeFields b n) ≡ b ∷ []
+opcode-plain b n e = rw (ne-eqb b PREFIX e)
+
+-- j of sixteen bytes are written
+pub record Putting (out₀ : List ℕ) (at : ℕ) (a out : List ℕ) (j : ℕ) : Type 0 where
+  pub fits : at + 16 ≤ length out₀
+  pub all : length a ≡ 16
+  pub most : j ≤ 16
+  pub same : sets out (at + j) (drop j a) ≡ sets out₀ at a
+  pub long : length out ≡ length out₀
+
+pub puts : (out : List ℕ) (at : ℕ) (a : List ℕ) → at + 16 ≤ length out → length a ≡ 16 → Putting out at a out 0
+puts out at a h l =
+    record { fits = h; all = l; most = omega arith; same = ap (λ (k : ℕ). sets out k a) (add-zero at); long = refl }
+
+module _ {out₀ : List ℕ} {at : ℕ} {a out : List ℕ} {j : ℕ} (w : Putting out₀ at a out j) where
+  pub puts-on : j < 16 → Putting out₀ at a (set out (at + j) (getD a j 0)) (j + 1)
+  puts-on h =
+      let e : at + (j + 1) ≡ suc (at + j) = omega arith in
+      record {
+        fits = w .fits;
+        all = w .all;
+        most = omega arith;
+        same = rw (e, add-one) (rw (drop-cons a j 0 (omega (arith, w .all))) at (w .same));
+        long = length-set out (at + j) (getD a j 0) ∙ w .long;
+      }
+
+  pub put-all : 16 ≤ j → Put out₀ at a (at + 16) out
+  put-all h =
+      record {
+        to = ap (λ (n : ℕ). at + n) (sym (w .all));
+        bytes = rw (drop-of-length-le a {i = j} (omega (arith, w .all))) at (w .same);
+      }
+
+-- j of sixteen indices are below 32
+module _ (a : List ℕ) (j : ℕ) (l : length a ≡ 16) (e : allBelow 32 a ≡ allBelow 32 (drop j a)) where
+  pub below-on : j < 16 → getD a j 0 < 32 → allBelow 32 a ≡ allBelow 32 (drop (j + 1) a)
+  unfolding allBelow
+  below-on h t = e ∙ simp (drop-cons a j 0 (omega (arith, l)), lt-ltb (getD a j 0) 32 t, add-one)
+
+  pub below-stops : j < 16 → 32 ≤ getD a j 0 → false ≡ allBelow 32 a
+  unfolding allBelow
+  below-stops h t = sym (e ∙ simp (drop-cons a j 0 (omega (arith, l)), le-ltb (getD a j 0) 32 t))
+
+  pub below-ends : 16 ≤ j → true ≡ allBelow 32 a
+  unfolding allBelow
+  below-ends h = sym (e ∙ rw (drop-of-length-le a {i = j} (omega (arith, l))))

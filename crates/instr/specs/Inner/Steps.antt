@@ -1,0 +1,33 @@
+-- Inner: what the steps of decoding and encoding leave.
+use Prim.Native.Nat.{ℕ, _+_, _-_, _<_, _≤_}
+use mathlib.Core.Bool.{Bool, true, false}
+use mathlib.Core.List.{List}
+use mathlib.Core.Logic.{_⊎_}
+use mathlib.Core.Path.{_≡_}
+use lib.ListN.{length, getD}
+use lib.Seq.{sets}
+use Rattle.opcode.specs.Immediate.{Immediates, memory, memoryLane}
+use Rattle.instr.specs.Layout.{Head, zeros, instr}
+use Rattle.instr.specs.Decode.{andThen, done, laneAt, lanesAt}
+use Rattle.instr.specs.declared.Decoded.{Decoded}
+
+-- with a lane index after the offset, or without
+abbrev pub memoryClass : Bool → Immediates
+memoryClass false = memory
+memoryClass true = memoryLane
+
+-- the lane index with which an instruction ends
+unfoldable pub laneEnds : ℕ → List ℕ → ℕ → ℕ → Head → ℕ → ℕ → Decoded
+laneEnds n s at p h align offset = andThen (laneAt n s p) (λ l q. done at q (instr h 0 0 0 align offset l zeros))
+
+-- k of sixteen shuffle indices are good, and the next one, if k is not sixteen, is not
+pub record Scanned (s : List ℕ) (at k : ℕ) : Type 0 where
+  pub most : k ≤ 16
+  pub inside : at + k ≤ length s
+  pub same : lanesAt 16 s at ≡ lanesAt (16 - k) s (at + k)
+  pub stops : k < 16 → (length s ≤ at + k) ⊎ (32 ≤ getD s (at + k) 0)
+
+-- bs written from a place on, r the place after them
+pub record Put (out : List ℕ) (at : ℕ) (bs : List ℕ) (r : ℕ) (out′ : List ℕ) : Type 0 where
+  pub to : r ≡ at + length bs
+  pub bytes : out′ ≡ sets out at bs

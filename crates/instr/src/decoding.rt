@@ -1,0 +1,134 @@
+// Decoding: from left to right, each item judged as soon as it is read.
+use crate::Decoded;
+use crate::Instr;
+use leb128::Leb;
+ghost use mathlib.Core.Path.{_≡_};
+ghost use Prim.Native.Nat.{_≤_};
+ghost use lib.ListN.{length};
+ghost use Rattle.opcode.specs.Table.{rowAt};
+ghost use Rattle.instr.specs.Layout.{head, instr};
+ghost use Rattle.instr.specs.Decode.{refusal, done, bodyOf, opcodeNumber, decodeAt};
+
+pub fn decode(s: &[u8], at: usize) -> Decoded
+    ensures { λ r. ⌜ r ≡ decodeAt (now (s .entry)) at ⌝ }
+{
+    if s.len() <= at {
+        return refused(card::SHORT, s.len());
+    }
+    let first = s[at];
+    let p = at + 1;
+    match opcode_number(s, p, first) {
+        Leb::Val(n, k) => body(s, at, p + k, first, n as u32),
+        Leb::Short => refused(card::SHORT, s.len()),
+        Leb::Number => refused(card::NUMBER, p),
+    }
+}
+
+pub(crate) fn refused(code: u8, place: usize) -> Decoded
+    ensures { λ r. ⌜ r ≡ refusal code place ⌝ }
+{
+    Decoded {
+        code,
+        place,
+        len: 0,
+        instr: Instr {
+            first: 0,
+            number: 0,
+            index: 0,
+            word: 0,
+            long: 0,
+            align: 0,
+            offset: 0,
+            lane: 0,
+            bytes: [0; 16],
+        },
+    }
+}
+
+// The instruction from `at` up to `next`.
+pub(crate) fn whole(
+    at: usize,
+    next: usize,
+    first: u8,
+    number: u32,
+    index: u32,
+    word: u32,
+    long: u64,
+    align: u32,
+    offset: u32,
+    lane: u8,
+    bytes: [u8; 16],
+) -> Decoded
+    requires { ⌜ at ≤ next ⌝ }
+    ensures { λ r. ⌜ r ≡ done at next (instr (head first number) index word long align offset lane bytes) ⌝ }
+{
+    Decoded {
+        code: card::DONE,
+        place: 0,
+        len: next - at,
+        instr: Instr {
+            first,
+            number,
+            index,
+            word,
+            long,
+            align,
+            offset,
+            lane,
+            bytes,
+        },
+    }
+}
+
+// The number after FD; after another byte there is none, and it is 0.
+fn opcode_number(s: &[u8], p: usize, first: u8) -> Leb
+    ensures { λ r. ⌜ r ≡ opcodeNumber first (now (s .entry)) p ⌝ }
+{
+    if first == opcode::PREFIX {
+        leb128::read_u32(s, p)
+    } else {
+        Leb::Val(0, 0)
+    }
+}
+
+// What follows the opcode. It is called once, and each function below once by it, so that all become one.
+fn body(s: &[u8], at: usize, p: usize, first: u8, number: u32) -> Decoded
+    requires { ⌜ (at ≤ p) × (p ≤ length (now s)) ⌝ }
+    ensures { λ r. ⌜ r ≡ bodyOf (rowAt first number) (now (s .entry)) at p (head first number) ⌝ }
+{
+    let id = opcode::id_of(first, number);
+    let class = opcode::immediates(id);
+    match class {
+        opcode::NOTHING => whole(at, p, first, number, 0, 0, 0, 0, 0, 0, [0; 16]),
+        opcode::INDEX => crate::immediates::with_index(s, at, p, first, number),
+        opcode::WORD => crate::immediates::with_word(s, at, p, first, number),
+        opcode::LONG => crate::immediates::with_long(s, at, p, first, number),
+        opcode::MEMORY | opcode::MEMORY_LANE => {
+            let laned = class == opcode::MEMORY_LANE;
+            crate::immediates::with_memory(
+                s,
+                at,
+                p,
+                first,
+                number,
+                opcode::moved(id),
+                opcode::lanes(id),
+                laned,
+            )
+        }
+        opcode::LANE => crate::immediates::with_lane(
+            s,
+            at,
+            p,
+            first,
+            number,
+            opcode::lanes(id),
+            0,
+            0,
+        ),
+        opcode::BYTES => crate::immediates::with_bytes(s, at, p, first, number),
+        opcode::LANES => crate::immediates::with_lanes(s, at, p, first, number),
+        opcode::FLOAT => refused(card::FLOAT, at),
+        _ => refused(card::OPCODE, at),
+    }
+}

@@ -1,0 +1,223 @@
+// Decoding what follows the opcode: one function for each class of immediates. `at` is the instruction's place, `p` that of its first immediate.
+use crate::Decoded;
+use leb128::Leb;
+ghost use mathlib.Core.Path.{_≡_};
+ghost use Prim.Native.Nat.{_+_, _≤_};
+ghost use lib.ListN.{length, take, drop};
+ghost use Rattle.opcode.specs.Immediate as Class;
+ghost use Rattle.instr.specs.Layout.{head};
+ghost use Rattle.instr.specs.Decode.{immediatesAt};
+ghost use Rattle.instr.specs.Inner.Steps.{memoryClass, laneEnds, Scanned};
+
+pub(crate) fn with_index(s: &[u8], at: usize, p: usize, first: u8, number: u32) -> Decoded
+    requires { ⌜ at ≤ p ⌝ }
+    ensures { λ r. ⌜ r ≡ immediatesAt Class.index 0 0 (now (s .entry)) at p (head first number) ⌝ }
+{
+    match leb128::read_u32(s, p) {
+        Leb::Val(v, n) => crate::decoding::whole(
+            at,
+            p + n,
+            first,
+            number,
+            v as u32,
+            0,
+            0,
+            0,
+            0,
+            0,
+            [0; 16],
+        ),
+        Leb::Short => crate::decoding::refused(card::SHORT, s.len()),
+        Leb::Number => crate::decoding::refused(card::NUMBER, p),
+    }
+}
+
+pub(crate) fn with_word(s: &[u8], at: usize, p: usize, first: u8, number: u32) -> Decoded
+    requires { ⌜ at ≤ p ⌝ }
+    ensures { λ r. ⌜ r ≡ immediatesAt Class.word 0 0 (now (s .entry)) at p (head first number) ⌝ }
+{
+    match leb128::read_s32(s, p) {
+        Leb::Val(v, n) => crate::decoding::whole(
+            at,
+            p + n,
+            first,
+            number,
+            0,
+            v as u32,
+            0,
+            0,
+            0,
+            0,
+            [0; 16],
+        ),
+        Leb::Short => crate::decoding::refused(card::SHORT, s.len()),
+        Leb::Number => crate::decoding::refused(card::NUMBER, p),
+    }
+}
+
+pub(crate) fn with_long(s: &[u8], at: usize, p: usize, first: u8, number: u32) -> Decoded
+    requires { ⌜ at ≤ p ⌝ }
+    ensures { λ r. ⌜ r ≡ immediatesAt Class.long 0 0 (now (s .entry)) at p (head first number) ⌝ }
+{
+    match leb128::read_s64(s, p) {
+        Leb::Val(v, n) => crate::decoding::whole(
+            at,
+            p + n,
+            first,
+            number,
+            0,
+            0,
+            v,
+            0,
+            0,
+            0,
+            [0; 16],
+        ),
+        Leb::Short => crate::decoding::refused(card::SHORT, s.len()),
+        Leb::Number => crate::decoding::refused(card::NUMBER, p),
+    }
+}
+
+pub(crate) fn with_memory(
+    s: &[u8],
+    at: usize,
+    p: usize,
+    first: u8,
+    number: u32,
+    moved: u32,
+    lanes: u32,
+    laned: bool,
+) -> Decoded
+    requires { ⌜ (at ≤ p) × (moved ≤ 16) ⌝ }
+    ensures { λ r. ⌜ r ≡ immediatesAt (memoryClass laned) moved lanes (now (s .entry)) at p (head first number) ⌝ }
+{
+    match leb128::read_u32(s, p) {
+        Leb::Val(a, n) => {
+            let align = a as u32;
+            if !crate::exponent_fits(align, moved) {
+                return crate::decoding::refused(card::ALIGN, p);
+            }
+            let q = p + n;
+            match leb128::read_u32(s, q) {
+                Leb::Val(o, k) => {
+                    let offset = o as u32;
+                    if laned {
+                        with_lane(s, at, q + k, first, number, lanes, align, offset)
+                    } else {
+                        crate::decoding::whole(
+                            at,
+                            q + k,
+                            first,
+                            number,
+                            0,
+                            0,
+                            0,
+                            align,
+                            offset,
+                            0,
+                            [0; 16],
+                        )
+                    }
+                }
+                Leb::Short => crate::decoding::refused(card::SHORT, s.len()),
+                Leb::Number => crate::decoding::refused(card::NUMBER, q),
+            }
+        }
+        Leb::Short => crate::decoding::refused(card::SHORT, s.len()),
+        Leb::Number => crate::decoding::refused(card::NUMBER, p),
+    }
+}
+
+// A lane index ends the instruction, alone or after a memory immediate.
+pub(crate) fn with_lane(
+    s: &[u8],
+    at: usize,
+    p: usize,
+    first: u8,
+    number: u32,
+    lanes: u32,
+    align: u32,
+    offset: u32,
+) -> Decoded
+    requires { ⌜ at ≤ p ⌝ }
+    ensures { λ r. ⌜ r ≡ laneEnds lanes (now (s .entry)) at p (head first number) align offset ⌝ }
+{
+    if s.len() <= p {
+        return crate::decoding::refused(card::SHORT, s.len());
+    }
+    let lane = s[p];
+    if crate::wide(lane) < lanes {
+        crate::decoding::whole(
+            at,
+            p + 1,
+            first,
+            number,
+            0,
+            0,
+            0,
+            align,
+            offset,
+            lane,
+            [0; 16],
+        )
+    } else {
+        crate::decoding::refused(card::LANE, p)
+    }
+}
+
+pub(crate) fn with_bytes(s: &[u8], at: usize, p: usize, first: u8, number: u32) -> Decoded
+    requires { ⌜ (at ≤ p) × (p ≤ length (now s)) ⌝ }
+    ensures { λ r. ⌜ r ≡ immediatesAt Class.sixteenBytes 0 0 (now (s .entry)) at p (head first number) ⌝ }
+{
+    if s.len() - p < 16 {
+        return crate::decoding::refused(card::SHORT, s.len());
+    }
+    crate::decoding::whole(at, p + 16, first, number, 0, 0, 0, 0, 0, 0, sixteen(s, p))
+}
+
+pub(crate) fn with_lanes(s: &[u8], at: usize, p: usize, first: u8, number: u32) -> Decoded
+    requires { ⌜ (at ≤ p) × (p ≤ length (now s)) ⌝ }
+    ensures { λ r. ⌜ r ≡ immediatesAt Class.sixteenLanes 0 0 (now (s .entry)) at p (head first number) ⌝ }
+{
+    let k = good_lanes(s, p);
+    if k < 16 {
+        if p + k < s.len() {
+            return crate::decoding::refused(card::LANE, p + k);
+        }
+        return crate::decoding::refused(card::SHORT, s.len());
+    }
+    crate::decoding::whole(at, p + 16, first, number, 0, 0, 0, 0, 0, 0, sixteen(s, p))
+}
+
+// How many of sixteen shuffle indices are below 32, up to the first that is not.
+fn good_lanes(s: &[u8], p: usize) -> usize
+    requires { ⌜ p ≤ length (now s) ⌝ }
+    ensures { λ r. ⌜ Scanned (now (s .entry)) p r ⌝ }
+{
+    let mut k: usize = 0;
+    loop {
+        if 16 <= k {
+            break k;
+        }
+        if s.len() - p <= k {
+            break k;
+        }
+        if 32 <= s[p + k] {
+            break k;
+        }
+        k = k + 1;
+    }
+}
+
+fn sixteen(s: &[u8], p: usize) -> [u8; 16]
+    requires { ⌜ p + 16 ≤ length (now s) ⌝ }
+    ensures { λ r. ⌜ r ≡ take 16 (drop p (now (s .entry))) ⌝ }
+{
+    let mut a = [0u8; 16];
+    let mut i: usize = 0;
+    while i < 16 {
+        a[i] = s[p + i];
+        i = i + 1;
+    }
+    a
+}

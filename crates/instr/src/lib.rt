@@ -1,0 +1,51 @@
+// One instruction: decoded from any place of some bytes, encoded in its shortest form.
+mod decoding;
+mod encoding;
+mod immediates;
+
+pub use decoding::decode;
+pub use encoding::encode;
+pub use encoding::encoded_len;
+ghost use mathlib.Core.Path.{_≡_};
+ghost use Prim.Native.Nat.{_≤_, _^_};
+ghost use lib.Dec.{leb};
+
+// The opcode's two numbers and the immediates, those that the instruction lacks zero. `word` and `long` are the bits of a signed number.
+pub struct Instr {
+    pub first: u8,
+    pub number: u32,
+    pub index: u32,
+    pub word: u32,
+    pub long: u64,
+    pub align: u32,
+    pub offset: u32,
+    pub lane: u8,
+    pub bytes: [u8; 16],
+}
+
+pub struct Decoded {
+    pub code: u8,
+    pub place: usize,
+    pub len: usize,
+    pub instr: Instr,
+}
+
+pub struct Encoded {
+    pub code: u8,
+    pub place: usize,
+    pub len: usize,
+}
+
+// Whether 2 to the exponent exceeds the bytes moved: 16 at most, so an exponent above 4 does.
+pub(crate) fn exponent_fits(a: u32, moved: u32) -> bool
+    requires { ⌜ moved ≤ 16 ⌝ }
+    ensures { λ r. ⌜ r ≡ leb (2 ^ a) moved ⌝ }
+{
+    a <= 4 && 1 << a <= moved
+}
+
+pub(crate) fn wide(x: u8) -> u32
+    ensures { λ r. ⌜ r ≡ x ⌝ }
+{
+    x as u32
+}
