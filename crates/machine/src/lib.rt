@@ -1,0 +1,1 @@
+// One instruction: what the standard's machine does, over flat bytes.
