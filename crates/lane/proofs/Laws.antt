@@ -12,3 +12,4 @@ pub mod Scan
 pub mod Replace
 pub mod Any
 pub mod Answers
+pub mod Vectors

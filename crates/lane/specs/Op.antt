@@ -1,6 +1,6 @@
 -- The vector operations (002's names; 000, "Operations"; Core 2.0, 4.4.3), grouped by what they take and give, and what each does to
 -- the lanes. An operation is known by the shape before the dot of its name: i16x8.extend_low_i8x16_s is `Extend Low S i16x8`.
-use Prim.Native.Nat.{ℕ, zero, suc, _+_, _*_, _-_, _/_, _^_}
+use Prim.Native.Nat.{ℕ, zero, suc, _+_, _*_, _-_, _^_}
 use mathlib.Core.Bool.{Bool, cond, not, true, _&&_}
 use mathlib.Core.List.{List, _++_}
 use lib.Bits.{bitAnd, bitOr, bitXor}
@@ -10,7 +10,7 @@ use lib.Signed.{ltZ}
 use mir.Syntax.{Width, w8, w16, w32, w64, w128}
 use Rattle.lane.specs.Shape.{i8x16, i16x8, i32x4, lanes, half, twice}
 use Rattle.lane.specs.Vector.{number, le, lane, vec, lanewise1, lanewise2}
-use Rattle.lane.specs.Scalar.{Sign, S, U, value, wrap, iadd, isub, imul, ineg, iabs, iaddsat, isubsat, imin, imax, iavgr, iq15mulrsat, ipopcnt, ishl, ishr, ieq, ine, ilt, ile, iextend, inarrow, iextmul, iextadd, idot}
+use Rattle.lane.specs.Scalar.{Sign, S, value, wrap, iadd, isub, imul, ineg, iabs, iaddsat, isubsat, imin, imax, iavgr, iq15mulrsat, ipopcnt, ishl, ishr, ieq, ine, ilt, ile, iextend, inarrow, iextmul, iextadd, idot}
 
 pub data Half : Type 0 where
   Low : Half

@@ -3,13 +3,13 @@ use mathlib.Core.Path.{_≡_, sym, ap, _∙_}
 use mathlib.Core.Bool.{Bool, true, false, cond}
 use mathlib.Core.List.{List, []}
 use Prim.Native.Nat.{ℕ, _%_, _^_, _≤_, _<_}
-use native.Mathlib.Nat.{mod-eq-of-lt, mod-mod, lt-of-lt-of-le}
+use native.Mathlib.Nat.{mod-mod, lt-of-lt-of-le}
 use borrow.Author.Tests.{lt-ltb, le-ltb}
 use lib.Dec.{T, ltb, leb, leb→le, eqb}
 use lib.IntN.{pos}
 use lib.Pow.{pow-mono}
 use mir.Syntax.{Width}
-use mir.Val.{bits, Fits, toZ, ofZ}
+use mir.Val.{bits, Fits, toZ}
 use mir.ValLaws.{toZ-fits, ofZ-toZ}
 use Rattle.lane.specs.Vector.{lane, vec}
 use Rattle.lane.specs.Scalar.{S, U, wrap, iextend}

@@ -1,12 +1,11 @@
 -- Bitwise operations of 128-bit numbers, byte by byte. Assumes nothing.
-use mathlib.Core.Path.{_≡_, refl, sym, ap, ap₂, _∙_, subst}
-use mathlib.Core.List.{List}
+use mathlib.Core.Path.{_≡_, sym, ap, ap₂, _∙_, subst}
 use Prim.Native.Nat.{ℕ, zero, suc, _+_, _*_, _-_, _/_, _%_, _^_, _≤_, _<_}
-use native.Mathlib.Nat.{add-mul, add-comm, mul-comm, mod-lt, mod-eq-of-lt, zero-mod, add-sub-of-le, mul-le-mul-left}
+use native.Mathlib.Nat.{add-mul, mod-lt, mod-eq-of-lt}
 use native.Mathlib.Omega.{arith}
 use lib.Arith.{digits-div, digits-mod}
-use lib.Bits.{bitAnd, bitOr, bitXor, and-shr, or-shr, xor-shr, and-mod, or-mod, xor-mod, and-lt, or-lt}
-use lib.Pow.{pow-pos, pow-add, split, ones-split, ones-lt, shr-lt, ones-sub-lt}
+use lib.Bits.{bitAnd, bitOr, and-shr, or-shr, xor-shr, and-mod, or-mod, xor-mod, and-lt}
+use lib.Pow.{pow-pos, split, ones-split, shr-lt, ones-sub-lt}
 use Rattle.lane.specs.Vector.{number, le}
 use Rattle.lane.specs.Inner.Scalars.{bitwise}
 use Rattle.lane.proofs.Laws.Number.{fieldOf, number-le}

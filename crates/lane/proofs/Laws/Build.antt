@@ -2,18 +2,17 @@
 use mathlib.Core.Path.{_≡_, refl, sym, ap, ap₂, _∙_, subst}
 use mathlib.Core.List.{List, [], _∷_, _++_, append-assoc}
 use mathlib.Core.Logic.{_⊎_, inl, inr}
-use Prim.Native.Nat.{ℕ, zero, suc, _+_, _*_, _-_, _/_, _%_, _^_, _≤_, _<_}
-use native.Mathlib.Nat.{mul-comm, mul-assoc, zero-mul, suc-mul, mul-suc, mul-add, add-mul, two-mul, one-mul, mul-one, mul-zero, add-assoc, pow-zero, mod-lt, mod-mod, zero-lt-suc, le-antisymm, eq-or-lt-of-le, le-of-suc-le-suc, not-suc-le-zero, mul-le-mul-left}
+use Prim.Native.Nat.{ℕ, zero, suc, _+_, _*_, _/_, _%_, _^_, _≤_, _<_}
+use native.Mathlib.Nat.{mul-comm, mul-assoc, zero-mul, suc-mul, mul-suc, mul-add, add-mul, two-mul, one-mul, mul-one, mul-zero, add-assoc, mod-lt, mod-mod, zero-lt-suc, le-antisymm, eq-or-lt-of-le, le-of-suc-le-suc, not-suc-le-zero, mul-le-mul-left}
 use native.Mathlib.Numerals.{add-one}
 use native.Mathlib.Omega.{arith}
 use lib.Arith.{digits-div, digits-lt}
-use lib.ListN.{replicate, length, take, drop, getD, set, length-append, length-take, length-drop, length-set}
-use lib.Seq.{take-add, drop-drop, length-take-le, take-at, drop-at, take-all, set-split, getD-set-same, getD-set-other}
+use lib.ListN.{replicate, length, take, drop, set, length-append, length-set}
+use lib.Seq.{drop-drop, length-take-le, take-at, drop-at, take-all, set-split}
 use lib.Pow.{pow-pos, pow-add}
-use mir.Syntax.{Width, w8}
-use mir.Val.{bits, bytes, Fits}
+use mir.Val.{bytes}
 use Rattle.lane.specs.Shape.{lanes}
-use Rattle.lane.specs.Vector.{number, le, lane, build, vec, Sixteen}
+use Rattle.lane.specs.Vector.{number, le, build, Sixteen}
 use Rattle.lane.specs.Inner.Put.{put}
 use Rattle.lane.proofs.Laws.Number.{Bytes, length-le, number-append, number-le, le-number, le-split, le-mod, fieldOf, field-low}
 

@@ -1,16 +1,14 @@
 -- Lanes: a lane of one byte is the byte, a lane of twice the width is two, and the lanes of two vectors one after the other. Assumes nothing.
-use mathlib.Core.Path.{_≡_, refl, sym, ap, ap₂, _∙_, subst}
+use mathlib.Core.Path.{_≡_, sym, ap, ap₂, _∙_, subst}
 use mathlib.Core.List.{List, [], _∷_, _++_}
 use Prim.Native.Nat.{ℕ, zero, suc, _+_, _*_, _-_, _/_, _%_, _^_, _≤_, _<_}
-use native.Mathlib.Nat.{add-comm, mul-add, mul-suc, mul-zero, div-one, zero-lt-suc, mod-eq-of-lt, zero-div, zero-mod, add-sub-of-le}
+use native.Mathlib.Nat.{add-comm, mul-add, mul-suc, div-one, zero-lt-suc, mod-eq-of-lt, zero-div, zero-mod, add-sub-of-le}
 use native.Mathlib.Omega.{arith}
-use lib.Arith.{digits-div, digits-mod}
 use lib.ListN.{replicate, length, getD}
 use lib.Pow.{shr-shr}
 use mir.Syntax.{Width, w8}
 use mir.Val.{bits}
-use Rattle.lane.specs.Shape.{lanes}
-use Rattle.lane.specs.Vector.{number, lane, Sixteen}
+use Rattle.lane.specs.Vector.{number, lane}
 use Rattle.lane.proofs.Laws.Number.{Bytes, head-byte, tail-bytes, number-append, number-lt, field-low, field-high, field-lt}
 
 pub lane-lt : (w : Width) (v : List ℕ) (n : ℕ) → lane w v n < 2 ^ bits w

@@ -2,12 +2,11 @@
 use mathlib.Core.Path.{_≡_, refl, sym, ap, ap₂, _∙_, subst}
 use mathlib.Core.List.{List, [], _∷_, _++_}
 use Prim.Native.Nat.{ℕ, zero, suc, _+_, _*_, _-_, _/_, _%_, _^_, _≤_, _<_}
-use native.Mathlib.Nat.{add-zero, zero-add, suc-add, add-comm, add-assoc, mul-comm, mul-assoc, mul-add, add-mul, mul-zero, zero-mul, mul-suc, one-mul, mul-one, two-mul, pow-zero, div-one, mod-one, mod-lt, zero-lt-suc, not-suc-le-zero, le-of-suc-le-suc, div-div-eq-div-mul, mod-eq-of-lt, add-sub-of-le, add-mul-mod-self-right, div-add-mod'}
+use native.Mathlib.Nat.{zero-add, suc-add, add-comm, mul-comm, mul-assoc, mul-add, add-mul, mul-suc, mul-one, two-mul, pow-zero, div-one, mod-one, mod-lt, zero-lt-suc, add-mul-mod-self-right, div-add-mod'}
 use native.Mathlib.Omega.{arith}
-use lib.Arith.{digits-div, digits-mod, digits-lt}
-use lib.ListN.{length, take, drop, getD, length-append, take-append-drop}
-use lib.Seq.{length-take-le}
-use lib.Pow.{pow-pos, pow-add, shr-shr, mod-pow-add, mod-mod-pow, field}
+use lib.Arith.{digits-div, digits-mod}
+use lib.ListN.{length, take, drop, getD}
+use lib.Pow.{pow-pos, pow-add, shr-shr, mod-pow-add}
 use mir.Syntax.{w8}
 use mir.Val.{Fits}
 use Rattle.lane.specs.Vector.{number, le}

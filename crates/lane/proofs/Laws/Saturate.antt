@@ -1,13 +1,13 @@
 -- Saturation: a clamped integer that is in range, and the unsigned sums and differences. Assumes nothing.
-use mathlib.Core.Path.{_≡_, refl, sym, ap, ap₂, _∙_, subst}
+use mathlib.Core.Path.{_≡_, refl, sym, ap, ap₂, _∙_}
 use mathlib.Core.Bool.{Bool, true, false, cond}
-use Prim.Native.Nat.{ℕ, zero, suc, _+_, _-_, _^_, _≤_, _<_, zero-le}
+use Prim.Native.Nat.{ℕ, zero, suc, _-_, _^_, _≤_, _<_, zero-le}
 use native.Mathlib.Nat.{mod-eq-of-lt, sub-zero, add-zero}
 use native.Mathlib.Omega.{arith}
 use lib.Dec.{T, ltb}
 use borrow.Author.Tests.{lt-ltb, le-ltb}
 use lib.Pow.{pow-pos}
-use lib.IntN.{ℤ, pos, negsuc, natAbs, subℕ, _-ℤ_}
+use lib.IntN.{ℤ, pos, negsuc, natAbs, _-ℤ_}
 use lib.Signed.{mag, nonNeg}
 use mir.Syntax.{Width}
 use mir.Val.{bits, hbits, Fits, ofZ}
@@ -46,7 +46,7 @@ minus-ge : (x y : ℕ) → y ≤ x → pos x -ℤ pos y ≡ pos (x - y)
 minus-ge x zero h = ap pos (add-zero x ∙ sym (sub-zero x))
 minus-ge x (suc y) h = sub-cases x (suc y) (λ z. z ≡ pos (x - suc y)) (λ l. refl) (λ l. absurd (omega arith))
 
-minus-lt : (x y : ℕ) → x < y → pos x -ℤ pos y ≡ negsuc (y - suc x)
+pub minus-lt : (x y : ℕ) → x < y → pos x -ℤ pos y ≡ negsuc (y - suc x)
 minus-lt x zero h = absurd (omega arith)
 minus-lt x (suc y) h = sub-cases x (suc y) (λ z. z ≡ negsuc (suc y - suc x)) (λ l. absurd (omega arith)) (λ l. refl)
 

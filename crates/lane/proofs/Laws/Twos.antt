@@ -3,13 +3,13 @@ use mathlib.Core.Path.{_≡_, refl, sym, ap, ap₂, _∙_, subst, subst₂}
 use mathlib.Core.Logic.{_⊎_, inl, inr}
 use mathlib.Core.Bool.{Bool, true, false, cond}
 use Prim.Native.Nat.{ℕ, zero, suc, _+_, _*_, _-_, _%_, _^_, _≤_, _<_, zero-le}
-use native.Mathlib.Nat.{le-refl, eq-or-lt-of-le, sub-zero, mod-self, mod-eq-of-lt, mul-le-mul, le-of-lt, le-trans, lt-of-le-of-lt, le-suc, pow-suc, zero-add, suc-pred-eq-of-pos}
+use native.Mathlib.Nat.{le-refl, eq-or-lt-of-le, sub-zero, mod-self, mod-eq-of-lt, mul-le-mul, le-of-lt, le-trans, lt-of-le-of-lt, le-suc, pow-suc, zero-add}
 use native.Mathlib.Omega.{arith}
 use lib.Dec.{T, ltb, ltb→lt}
 use borrow.Author.Tests.{lt-ltb, le-ltb, ltb-true, ltb-false}
 use lib.Pow.{pow-pos, pow-mono, pow-lt, pow-add}
-use lib.IntN.{ℤ, pos, negsuc, negℤ, natAbs, subℕ, _+ℤ_, _-ℤ_, _*ℤ_, +ℤ-idr}
-use lib.Signed.{mag, ltZ, leZ, nonNeg, shrZ, mag-shr}
+use lib.IntN.{ℤ, pos, negsuc, negℤ, natAbs, subℕ, _+ℤ_, _-ℤ_, _*ℤ_}
+use lib.Signed.{mag, ltZ, nonNeg, shrZ, mag-shr}
 use mir.Syntax.{Width, w8, w16, w32, w64, w128}
 use mir.Val.{bits, hbits, Fits, SFits, toZ, ofZ}
 use mir.ValLaws.{pow-bits, toZ-pos, toZ-neg, toZ-ofZ, toZ-fits, half-full}
@@ -180,7 +180,7 @@ half-bits w32 = refl
 half-bits w64 = refl
 half-bits w128 = refl
 
-half-power : (w : Width) → 2 ^ (bits w - 1) ≡ 2 ^ hbits w
+pub half-power : (w : Width) → 2 ^ (bits w - 1) ≡ 2 ^ hbits w
 half-power w = ap (λ (m : ℕ). 2 ^ m) (half-bits w)
 
 pub in-range : (w : Width) (z : ℤ) → ltZ z (least w) ≡ false → ltZ (largest w) z ≡ false → SFits w z

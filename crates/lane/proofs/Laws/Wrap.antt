@@ -1,19 +1,19 @@
 -- An integer modulo 2^w: what the code computes for it. Assumes nothing.
-use mathlib.Core.Path.{_≡_, refl, sym, ap, ap₂, _∙_, subst}
+use mathlib.Core.Path.{_≡_, refl, sym, ap, _∙_}
 use mathlib.Core.Bool.{Bool, true, false, cond}
-use Prim.Native.Nat.{ℕ, zero, suc, _+_, _*_, _-_, _/_, _%_, _^_, _≤_, _<_, zero-le}
+use Prim.Native.Nat.{ℕ, zero, suc, _+_, _*_, _-_, _/_, _%_, _^_, _≤_, _<_}
 use native.Mathlib.Nat.{add-comm, add-zero, sub-zero, mod-lt, mod-self, zero-mod, mod-eq-of-lt, add-mod, add-mod-right, add-mul-mod-self-right, div-add-mod', add-mul, suc-mul}
 use native.Mathlib.Omega.{arith}
 use lib.Dec.{ltb}
 use borrow.Author.Tests.{ltb-true, ltb-false}
 use lib.Pow.{pow-pos}
-use lib.IntN.{ℤ, pos, negsuc, negℤ, subℕ, _+ℤ_, _-ℤ_, _*ℤ_}
+use lib.IntN.{ℤ, pos, negsuc, subℕ, _+ℤ_, _-ℤ_}
 use lib.Signed.{mag}
 use mir.Syntax.{Width}
-use mir.Val.{bits, hbits, SFits, ofZ}
-use mir.ValLaws.{pow-bits, half-full}
+use mir.Val.{bits, hbits, ofZ}
+use mir.ValLaws.{half-full}
 use Rattle.lane.specs.Shape.{allOnes}
-use Rattle.lane.specs.Scalar.{wrap, isub, ineg}
+use Rattle.lane.specs.Scalar.{wrap, ineg}
 
 -- by the order of the two
 pub sub-cases : (a b : ℕ) (P : ℤ → Type 0) → (b ≤ a → P (pos (a - b))) → (a < b → P (negsuc (b - suc a))) → P (subℕ a b)

@@ -1,7 +1,7 @@
 // Saturating arithmetic at 8 and 16 bits: an exact sum, difference or product in the next wider type, kept within the lane.
 ghost use mathlib.Core.Path.{_≡_};
-ghost use lib.IntN.{_+ℤ_, _-ℤ_, _*ℤ_};
-ghost use mir.Syntax.{w8, w16, w32, w64};
+ghost use lib.IntN.{_+ℤ_, _-ℤ_};
+ghost use mir.Syntax.{w8, w16};
 ghost use Rattle.lane.specs.Shape.{least, largest};
 ghost use Rattle.lane.specs.Scalar.{S, U, value, clamp, sat, iaddsat, isubsat, iavgr, iq15mulrsat};
 use crate::scalar::sign::bits8;

@@ -1,10 +1,9 @@
 -- A lane of 32 bits is put as two of 16.
-use mathlib.Core.Path.{_≡_, _∙_, sym, ap}
+use mathlib.Core.Path.{_∙_, sym, ap}
 use mathlib.Core.List.{List}
-use Prim.Native.Nat.{ℕ, _+_, _*_, _/_, _%_, _^_}
+use Prim.Native.Nat.{ℕ, _+_, _*_, _/_, _^_}
 use native.Mathlib.Omega.{arith}
 use borrow.Author.Needs.{needs}
-use lib.ListN.{length}
 use Rattle.lane.specs.Inner.Put.{put}
 use Rattle.lane.proofs.Laws.Build.{put-join}
 use Rattle.lane.proofs.vector.put32.Statement.{statement}

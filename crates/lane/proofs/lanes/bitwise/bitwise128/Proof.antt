@@ -1,10 +1,9 @@
 -- The first i bytes are done; byte by byte is all 128 bits at once.
-use Prim.Native.Nat.{ℕ, _≤_, _-_, _+_, _*_, _<_, _^_}
+use Prim.Native.Nat.{ℕ, _≤_, _-_, _*_, _<_, _^_}
 use mathlib.Core.Path.{refl, _∙_, ap₂, subst}
 use mathlib.Core.List.{List}
 use native.Mathlib.Omega.{arith}
 use borrow.Author.Needs.{needs}
-use lib.ListN.{length}
 use mir.Syntax.{w8}
 use Rattle.lane.specs.Vector.{number, lane, Sixteen}
 use Rattle.lane.specs.Inner.Scalars.{bitwise}

@@ -1,5 +1,4 @@
 -- Each arm is what its number names.
-use borrow.Author.Needs.{needs}
 use mathlib.Core.Path.{refl, sym}
 use mathlib.Core.List.{_∷_, []}
 use Prim.Native.Nat.{_-_, _^_}

@@ -1,5 +1,4 @@
 -- The bytes of two vectors, one after the other.
-use borrow.Author.Needs.{needs}
 use mathlib.Core.Path.{_∙_, sym}
 use native.Mathlib.Omega.{arith}
 use Rattle.lane.specs.Shape.{i8x16}

@@ -1,6 +1,5 @@
 -- The lanes of two vectors, one after the other.
-use borrow.Author.Needs.{needs}
-use mathlib.Core.Path.{_∙_, sym, ap}
+use mathlib.Core.Path.{_∙_, sym}
 use native.Mathlib.Omega.{arith}
 use mir.Syntax.{w32}
 use Rattle.lane.proofs.Laws.Lane.{lane-first, lane-second}

@@ -1,6 +1,5 @@
 -- A lane of zeros is zero.
 use borrow.Author.Needs.{needs}
-use Prim.Native.Nat.{ℕ}
 use mathlib.Core.Path.{_∙_, ap}
 use mathlib.Core.Bool.{cond}
 use lib.Dec.{eqb}

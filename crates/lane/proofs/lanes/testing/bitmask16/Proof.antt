@@ -1,7 +1,6 @@
 -- The first i bits are the signs of the first i lanes.
 use Prim.Native.Nat.{ℕ, _+_, _≤_, _<_, _-_, _^_, _/_}
-use mathlib.Core.Path.{_≡_, refl, sym, _∙_, ap, subst}
-use mathlib.Core.Bool.{Bool}
+use mathlib.Core.Path.{_≡_, refl, _∙_, ap, subst}
 use native.Mathlib.Nat.{le-antisymm}
 use native.Mathlib.Omega.{arith}
 use borrow.Author.Needs.{needs}
@@ -11,7 +10,7 @@ use lib.Pow.{pow-mono}
 use mir.Syntax.{w16}
 use Rattle.lane.specs.Vector.{lane}
 use Rattle.lane.specs.Scalar.{S, value}
-use Rattle.lane.specs.Op.{truth, tally}
+use Rattle.lane.specs.Op.{tally}
 use Rattle.lane.proofs.Laws.Lane.{lane-lt}
 use Rattle.lane.proofs.Laws.Scan.{tally-more, sign-bit, bit-mul, double}
 use Rattle.lane.proofs.lanes.testing.bitmask16.Statement.{statement}

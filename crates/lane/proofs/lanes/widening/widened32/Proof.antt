@@ -1,6 +1,6 @@
 -- Each arm's call is what its number names.
 use borrow.Author.Needs.{needs}
-use mathlib.Core.Path.{_∙_, ap, sym}
+use mathlib.Core.Path.{_∙_, sym}
 use mathlib.Core.List.{_∷_, []}
 use lib.ListN.{List·getD-eq-default}
 use mir.Syntax.{w16, w32}

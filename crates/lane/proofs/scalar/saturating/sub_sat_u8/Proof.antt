@@ -1,6 +1,4 @@
 -- The difference, or 0.
-use borrow.Author.Needs.{needs}
-use native.Mathlib.Omega.{arith}
 use mir.Syntax.{w8}
 use Rattle.lane.specs.Scalar.{isubsat}
 use Rattle.lane.proofs.Laws.Saturate.{sat-difference, sat-below}

@@ -1,7 +1,7 @@
 -- The bits of a signed number of 8 bits.
 use mathlib.Core.Path.{_∙_, ap}
 use mir.Syntax.{w8}
-use mir.Val.{toZ, ofZ}
+use mir.Val.{ofZ}
 use mir.ValLaws.{toZ-ofZ}
 use Rattle.lane.proofs.Laws.Twos.{held, flip-sfits, bits-cast, bits-neg, bits-cast-pos, bits-pos}
 use Rattle.lane.proofs.scalar.sign.bits8.Statement.{statement}

@@ -1,7 +1,7 @@
 -- The bits of the exact sum.
 use borrow.Author.Needs.{needs}
 use mathlib.Core.Path.{_∙_, ap, sym}
-use mir.Syntax.{w16, w32}
+use mir.Syntax.{w32}
 use mir.Val.{ofZ}
 use Rattle.lane.specs.Scalar.{wrap, iextadd}
 use Rattle.lane.proofs.Laws.Twos.{crossed}

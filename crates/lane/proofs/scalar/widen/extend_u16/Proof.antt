@@ -1,5 +1,4 @@
 -- A lane of 16 bits fits 32.
-use borrow.Author.Needs.{needs}
 use native.Mathlib.Omega.{arith}
 use Rattle.lane.specs.Scalar.{iextend}
 use Rattle.lane.proofs.scalar.widen.extend_u16.Statement.{statement}

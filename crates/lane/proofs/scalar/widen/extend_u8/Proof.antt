@@ -1,5 +1,4 @@
 -- A lane of 8 bits fits 16.
-use borrow.Author.Needs.{needs}
 use native.Mathlib.Omega.{arith}
 use Rattle.lane.specs.Scalar.{iextend}
 use Rattle.lane.proofs.scalar.widen.extend_u8.Statement.{statement}

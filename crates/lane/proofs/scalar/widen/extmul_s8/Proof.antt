@@ -1,11 +1,8 @@
 -- The bits of the exact product.
 use borrow.Author.Needs.{needs}
-use mathlib.Core.Path.{_∙_, ap, sym, subst}
-use Prim.Native.Nat.{_^_, _<_}
-use mir.Syntax.{w8, w16}
-use lib.IntN.{ℤ}
-use lib.Signed.{mag}
-use mir.Val.{ofZ, hbits}
+use mathlib.Core.Path.{_∙_, ap, sym}
+use mir.Syntax.{w16}
+use mir.Val.{ofZ}
 use Rattle.lane.specs.Scalar.{wrap, iextmul}
 use Rattle.lane.proofs.Laws.Twos.{crossed}
 use Rattle.lane.proofs.Laws.Wrap.{wrap-held}

@@ -1,6 +1,6 @@
 -- Negated where it is negative; the least value stays.
 use borrow.Author.Needs.{needs}
-use mathlib.Core.Path.{_≡_, _∙_, ap, sym}
+use mathlib.Core.Path.{_∙_, ap, sym}
 use mir.Syntax.{w64}
 use lib.IntN.{ℤ, pos}
 use lib.Signed.{ltZ}

@@ -1,6 +1,6 @@
 -- The least value is its own negation; any other is negated as a signed number.
 use borrow.Author.Needs.{needs}
-use mathlib.Core.Path.{_≡_, _∙_, ap, sym}
+use mathlib.Core.Path.{_∙_, ap, sym}
 use mir.Syntax.{w16}
 use mir.Val.{ofZ}
 use mir.ValLaws.{ofZ-toZ}

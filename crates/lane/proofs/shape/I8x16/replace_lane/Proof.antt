@@ -1,6 +1,6 @@
 -- The vector with the lane replaced, or LANE.
 use borrow.Author.Needs.{needs}
-use mathlib.Core.Path.{_∙_, refl, sym}
+use mathlib.Core.Path.{_∙_, refl}
 use borrow.Author.Tests.{lt-ltb, le-ltb}
 use mir.Syntax.{w8}
 use Rattle.lane.specs.Op.{replaced}
