@@ -1,3 +1,6 @@
 -- What the proofs of this crate share.
 pub mod Copy
 pub mod Stored
+pub mod Rep
+pub mod Pops
+pub mod Ranges
