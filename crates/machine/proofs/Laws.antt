@@ -4,3 +4,4 @@ pub mod Stored
 pub mod Rep
 pub mod Pops
 pub mod Ranges
+pub mod Update

@@ -61,19 +61,19 @@ popScalar w32 st f = popI32 st f
 popScalar w64 st f = popI64 st f
 popScalar w128 st f = stuck
 
-abbrev pub scalarValue : Width → ℕ → Value
-scalarValue w8 x = I32 x
-scalarValue w16 x = I32 x
-scalarValue w32 x = I32 x
-scalarValue w64 x = I64 x
-scalarValue w128 x = I64 x
-
 -- go on; where more values would stand on the stack than it holds, it is full
 unfoldable pub goOn : List Value → List Value → List ℕ → Outcome
 goOn st ls m = cond (ltb stackLimit (length st)) stuck (goes (record { stack = st; locals = ls; memory = m }))
 
 abbrev pub push : State → List Value → Value → Outcome
 push c st v = goOn (v ∷ st) (c .locals) (c .memory)
+
+abbrev pub pushScalar : Width → State → List Value → ℕ → Outcome
+pushScalar w8 c st x = push c st (I32 x)
+pushScalar w16 c st x = push c st (I32 x)
+pushScalar w32 c st x = push c st (I32 x)
+pushScalar w64 c st x = push c st (I64 x)
+pushScalar w128 c st x = stuck
 
 -- ---- locals and memory
 
@@ -129,7 +129,7 @@ execVector (StoreLane w) i c =
 execVector Const i c = push c (c .stack) (V128 (i .bytes))
 execVector Shuffle i c = popV128 (c .stack) (λ b st. popV128 st (λ a st. push c st (V128 (shuffled a b (i .bytes)))))
 execVector (Splat w) i c = popScalar w (c .stack) (λ x st. push c st (V128 (splat w x)))
-execVector (ExtractLane s w) i c = popV128 (c .stack) (λ a st. push c st (scalarValue w (extracted s w a (i .lane))))
+execVector (ExtractLane s w) i c = popV128 (c .stack) (λ a st. pushScalar w c st (extracted s w a (i .lane)))
 execVector (ReplaceLane w) i c = popScalar w (c .stack) (λ x st. popV128 st (λ a st. push c st (V128 (replaced w a (i .lane) x))))
 execVector (Unary o) i c = popV128 (c .stack) (λ a st. push c st (V128 (unary o a)))
 execVector (Binary o) i c = popV128 (c .stack) (λ b st. popV128 st (λ a st. push c st (V128 (binary o a b))))

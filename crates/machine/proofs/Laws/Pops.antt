@@ -11,7 +11,7 @@ use mir.Syntax.{Width, w8, w16, w32, w64, w128}
 use Rattle.limits.specs.Limits.{stackLimit}
 use Rattle.opcode.specs.Kind.{kindByte}
 use Rattle.machine.specs.Value.{Value, I32, I64, V128, kindOf, InRange, AllInRange, bytesOf}
-use Rattle.machine.specs.Exec.{State, Outcome, goes, done, trap, stuck, popI32, popI64, popV128, popAny, popScalar, scalarValue, goOn, local, alike, access}
+use Rattle.machine.specs.Exec.{State, Outcome, goes, done, trap, stuck, popI32, popI64, popV128, popAny, popScalar, goOn, local, alike, access}
 use Rattle.machine.specs.Inner.Flat.{slotAt}
 use Rattle.machine.proofs.Laws.Rep.{Slots, state}
 
@@ -28,6 +28,14 @@ pub record Popped {A : Type 0} (bs : List ℕ) (vs : List Value) (mk : A → Val
   pub ok : InRange (mk value)
   pub under : Holds bs rest
   pub long : length vs ≡ suc (length rest)
+
+-- a scalar of a lane's width
+abbrev pub scalarOf : Width → ℕ → Value
+scalarOf w8 x = I32 x
+scalarOf w16 x = I32 x
+scalarOf w32 x = I32 x
+scalarOf w64 x = I64 x
+scalarOf w128 x = I64 x
 
 module _ (bs : List ℕ) (o : Outcome) (moves : o ≡ stuck → ⊥) where
   pub pop-i32 : (vs : List Value) (f : ℕ → List Value → Outcome) → Holds bs vs → popI32 vs f ≡ o → Popped bs vs I32 f o
@@ -56,7 +64,7 @@ module _ (bs : List ℕ) (o : Outcome) (moves : o ≡ stuck → ⊥) where
   pop-any [] f h e = absurd (moves (sym e))
   pop-any (v ∷ vs) f h e = record { value = v; rest = vs; next = e; at = h .slots .0; ok = h .range .0; under = record { slots = h .slots .1; range = h .range .1 }; long = refl }
 
-  pub pop-scalar : (w : Width) (vs : List Value) (f : ℕ → List Value → Outcome) → Holds bs vs → popScalar w vs f ≡ o → Popped bs vs (scalarValue w) f o
+  pub pop-scalar : (w : Width) (vs : List Value) (f : ℕ → List Value → Outcome) → Holds bs vs → popScalar w vs f ≡ o → Popped bs vs (scalarOf w) f o
   pop-scalar w8 vs f h e = pop-i32 vs f h e
   pop-scalar w16 vs f h e = pop-i32 vs f h e
   pop-scalar w32 vs f h e = pop-i32 vs f h e
