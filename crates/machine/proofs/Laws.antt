@@ -5,3 +5,4 @@ pub mod Rep
 pub mod Pops
 pub mod Ranges
 pub mod Update
+pub mod Numbers
