@@ -2,3 +2,5 @@
 mod access;
 mod bytes;
 mod slot;
+mod step;
+mod vector;
