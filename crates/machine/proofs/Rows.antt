@@ -1,0 +1,89 @@
+-- A `match` on an instruction's number, one arm an operation: an arm is right where the table has its operation at its number, and no
+-- other number has an operation of the class.
+use mathlib.Core.Path.{_≡_, refl, sym, ap, subst, _∙_}
+use mathlib.Core.Bool.{cond}
+use Prim.Native.Nat.{ℕ}
+use native.Mathlib.Omega.{arith}
+use lib.Dec.{T, eqb}
+use borrow.Author.Tests.{eq-eqb}
+use mir.Syntax.{Body}
+use Rattle.lane.specs.Op.{Unop, Binop, Testop, Shiftop, Loadop, Op, Load, LoadLane, Store, StoreLane, Const, Shuffle, Splat, ExtractLane, ReplaceLane, Unary, Binary, Bitselect, Test, Shift}
+use Rattle.opcode.specs.Table.{Row, carried, float, unassigned, plain, vector, does}
+use Rattle.opcode.specs.Number.{rowOf}
+use Rattle.opcode.proofs.Rows.{row-beyond}
+use Rattle.opcode.proofs.Arms.{arms, Missed, others, past-arms as number-past-arms}
+
+-- the class of an operation, as a number
+abbrev class : Op → ℕ
+class (Load l) = 1
+class (LoadLane w) = 2
+class Store = 3
+class (StoreLane w) = 4
+class Const = 5
+class Shuffle = 6
+class (Splat w) = 7
+class (ExtractLane s w) = 8
+class (ReplaceLane w) = 9
+class (Unary o) = 10
+class (Binary o) = 11
+class Bitselect = 12
+class (Test o) = 13
+class (Shift o) = 14
+
+-- 0 of a row that carries no vector operation
+abbrev classOf : Row → ℕ
+classOf (carried (plain p)) = 0
+classOf (carried (vector o)) = class o
+classOf float = 0
+classOf unassigned = 0
+
+-- 1 where the operation is of class n
+abbrev pub ofClass : ℕ → ℕ → ℕ
+ofClass n id = cond (eqb n (classOf (rowOf id))) 1 0
+
+-- the operations that one function of src/vector is for
+pub record Class (X : Type 0) : Type 0 where
+  pub op : X → Op
+  pub number : ℕ
+  pub is : (x : X) → class (op x) ≡ number
+  pub once : (x y : X) → does (op x) ≡ does (op y) → x ≡ y
+
+pub unary-once : (x y : Unop) → does (Unary x) ≡ does (Unary y) → x ≡ y
+unary-once x y e = cc
+
+pub binary-once : (x y : Binop) → does (Binary x) ≡ does (Binary y) → x ≡ y
+binary-once x y e = cc
+
+pub test-once : (x y : Testop) → does (Test x) ≡ does (Test y) → x ≡ y
+test-once x y e = cc
+
+pub shift-once : (x y : Shiftop) → does (Shift x) ≡ does (Shift y) → x ≡ y
+shift-once x y e = cc
+
+abbrev pub unaries : Class Unop
+unaries = record { op = Unary; number = 10; is = λ o. refl; once = unary-once }
+
+abbrev pub binaries : Class Binop
+binaries = record { op = Binary; number = 11; is = λ o. refl; once = binary-once }
+
+abbrev pub tests : Class Testop
+tests = record { op = Test; number = 13; is = λ o. refl; once = test-once }
+
+abbrev pub shifts : Class Shiftop
+shifts = record { op = Shift; number = 14; is = λ o. refl; once = shift-once }
+
+module _ {X : Type 0} (K : Class X) (P : X → Type 0) where
+  -- what a function of the class promises of an id
+  abbrev pub Right : ℕ → Type 0
+  Right id = (x : X) → rowOf id ≡ carried (vector (K .op x)) → P x
+
+  pub in-arm : {x : X} {k id : ℕ} → id ≡ k → rowOf k ≡ does (K .op x) → P x → Right id
+  in-arm {x} at row p y is = subst P (K .once x y (sym row ∙ ap rowOf (sym at) ∙ is)) p
+
+  -- no number but those of the arms has an operation of the class
+  pub past-arms : (b : Body) (id : ℕ) → T (others (ofClass (K .number)) 0 (arms b) 512) → Missed (Unit {0}) (arms b) id → Right id
+  past-arms b id t m x row =
+      let yes : ofClass (K .number) id ≡ 1 = simp (row, eq-eqb (K .number) (class (K .op x)) (sym (K .is x))) in
+      let no : 0 ≡ ofClass (K .number) id = number-past-arms (ofClass (K .number)) b 512 t (λ h. cc (row-beyond id h)) m in
+      let none : ⊥ = omega arith in
+      absurd none

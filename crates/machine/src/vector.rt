@@ -1,0 +1,2 @@
+// From an instruction's number to lane's function. Each answers zeros where the instruction is not of its class.
+pub(crate) mod unary;
