@@ -2,14 +2,16 @@
 -- other number has an operation of the class.
 use mathlib.Core.Path.{_≡_, refl, sym, ap, subst, _∙_}
 use mathlib.Core.Bool.{cond}
-use Prim.Native.Nat.{ℕ}
+use mathlib.Core.Logic.{⊎-elim}
+use Prim.Native.Nat.{ℕ, _≤_, _<_}
 use native.Mathlib.Omega.{arith}
-use lib.Dec.{T, eqb}
-use borrow.Author.Tests.{eq-eqb}
+use lib.Dec.{T, eqb, ltb}
+use borrow.Author.Tests.{eq-eqb, le-ltb}
 use mir.Syntax.{Body}
 use Rattle.lane.specs.Op.{Unop, Binop, Testop, Shiftop, Loadop, Op, Load, LoadLane, Store, StoreLane, Const, Shuffle, Splat, ExtractLane, ReplaceLane, Unary, Binary, Bitselect, Test, Shift}
-use Rattle.opcode.specs.Table.{Row, carried, float, unassigned, plain, vector, does}
+use Rattle.opcode.specs.Table.{Code, Row, carried, float, unassigned, plain, vector, does}
 use Rattle.opcode.specs.Number.{rowOf}
+use Rattle.opcode.proofs.Every.{below-or-past}
 use Rattle.opcode.proofs.Rows.{row-beyond}
 use Rattle.opcode.proofs.Arms.{arms, Missed, others, past-arms as number-past-arms}
 
@@ -37,9 +39,12 @@ classOf (carried (vector o)) = class o
 classOf float = 0
 classOf unassigned = 0
 
--- 1 where the operation is of class n
-abbrev pub ofClass : ℕ → ℕ → ℕ
-ofClass n id = cond (eqb n (classOf (rowOf id))) 1 0
+-- 1 where the operation is of class n, from lo on
+abbrev pub ofClass : ℕ → ℕ → ℕ → ℕ
+ofClass n lo id = cond (ltb id lo) 0 (cond (eqb n (classOf (rowOf id))) 1 0)
+
+in-table : (id : ℕ) {c : Code} → rowOf id ≡ carried c → id < 512
+in-table id row = ⊎-elim (λ l. l) (λ h. let wrong : _≡_ {A = ℕ} 0 1 = cc (row-beyond id h) in omega arith) (below-or-past 512 id)
 
 -- the operations that one function of src/vector is for
 pub record Class (X : Type 0) : Type 0 where
@@ -80,10 +85,16 @@ module _ {X : Type 0} (K : Class X) (P : X → Type 0) where
   pub in-arm : {x : X} {k id : ℕ} → id ≡ k → rowOf k ≡ does (K .op x) → P x → Right id
   in-arm {x} at row p y is = subst P (K .once x y (sym row ∙ ap rowOf (sym at) ∙ is)) p
 
-  -- no number but those of the arms has an operation of the class
-  pub past-arms : (b : Body) (id : ℕ) → T (others (ofClass (K .number)) 0 (arms b) 512) → Missed (Unit {0}) (arms b) id → Right id
-  past-arms b id t m x row =
-      let yes : ofClass (K .number) id ≡ 1 = simp (row, eq-eqb (K .number) (class (K .op x)) (sym (K .is x))) in
-      let no : 0 ≡ ofClass (K .number) id = number-past-arms (ofClass (K .number)) b 512 t (λ h. cc (row-beyond id h)) m in
-      let none : ⊥ = omega arith in
-      absurd none
+  -- of the numbers from lo and below hi, those of the arms alone have an operation of the class
+  pub past-between : (b : Body) (lo hi id : ℕ) → T (others (ofClass (K .number) lo) 0 (arms b) hi) → Missed (Unit {0}) (arms b) id → lo ≤ id → id < hi → Right id
+  past-between b lo hi id t m l h x row =
+      let yes : ofClass (K .number) lo id ≡ 1 = simp (le-ltb id lo l, row, eq-eqb (K .number) (class (K .op x)) (sym (K .is x))) in
+      let no : 0 ≡ ofClass (K .number) lo id = number-past-arms (ofClass (K .number) lo) b hi t (λ g. let wrong : ⊥ = omega arith in absurd wrong) m in
+      let wrong : ⊥ = omega arith in
+      absurd wrong
+
+  pub past-from : (b : Body) (lo id : ℕ) → T (others (ofClass (K .number) lo) 0 (arms b) 512) → Missed (Unit {0}) (arms b) id → lo ≤ id → Right id
+  past-from b lo id t m l x row = past-between b lo 512 id t m l (in-table id row) x row
+
+  pub past-arms : (b : Body) (id : ℕ) → T (others (ofClass (K .number) 0) 0 (arms b) 512) → Missed (Unit {0}) (arms b) id → Right id
+  past-arms b id t m = past-from b 0 id t m (omega arith)

@@ -1,2 +1,3 @@
 // From an instruction's number to lane's function. Each answers zeros where the instruction is not of its class.
+pub(crate) mod binary;
 pub(crate) mod unary;
