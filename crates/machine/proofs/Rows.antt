@@ -7,7 +7,8 @@ use Prim.Native.Nat.{ℕ, _≤_, _<_}
 use native.Mathlib.Omega.{arith}
 use lib.Dec.{T, eqb, ltb}
 use borrow.Author.Tests.{eq-eqb, le-ltb}
-use mir.Syntax.{Body}
+use mir.Syntax.{Width, Body}
+use Rattle.lane.specs.Scalar.{Sign}
 use Rattle.lane.specs.Op.{Unop, Binop, Testop, Shiftop, Loadop, Op, Load, LoadLane, Store, StoreLane, Const, Shuffle, Splat, ExtractLane, ReplaceLane, Unary, Binary, Bitselect, Test, Shift}
 use Rattle.opcode.specs.Table.{Code, Row, carried, float, unassigned, plain, vector, does}
 use Rattle.opcode.specs.Number.{rowOf}
@@ -53,6 +54,24 @@ pub record Class (X : Type 0) : Type 0 where
   pub is : (x : X) → class (op x) ≡ number
   pub once : (x y : X) → does (op x) ≡ does (op y) → x ≡ y
 
+pub load-once : (x y : Loadop) → does (Load x) ≡ does (Load y) → x ≡ y
+load-once x y e = cc
+
+pub lane-in-once : (x y : Width) → does (LoadLane x) ≡ does (LoadLane y) → x ≡ y
+lane-in-once x y e = cc
+
+pub lane-out-once : (x y : Width) → does (StoreLane x) ≡ does (StoreLane y) → x ≡ y
+lane-out-once x y e = cc
+
+pub splat-once : (x y : Width) → does (Splat x) ≡ does (Splat y) → x ≡ y
+splat-once x y e = cc
+
+pub replace-once : (x y : Width) → does (ReplaceLane x) ≡ does (ReplaceLane y) → x ≡ y
+replace-once x y e = cc
+
+pub extract-once : (x y : Sign × Width) → does (ExtractLane (x .0) (x .1)) ≡ does (ExtractLane (y .0) (y .1)) → x ≡ y
+extract-once (s, w) (s′, w′) e = cc
+
 pub unary-once : (x y : Unop) → does (Unary x) ≡ does (Unary y) → x ≡ y
 unary-once x y e = cc
 
@@ -64,6 +83,24 @@ test-once x y e = cc
 
 pub shift-once : (x y : Shiftop) → does (Shift x) ≡ does (Shift y) → x ≡ y
 shift-once x y e = cc
+
+abbrev pub loads : Class Loadop
+loads = record { op = Load; number = 1; is = λ o. refl; once = load-once }
+
+abbrev pub laneLoads : Class Width
+laneLoads = record { op = LoadLane; number = 2; is = λ o. refl; once = lane-in-once }
+
+abbrev pub laneStores : Class Width
+laneStores = record { op = StoreLane; number = 4; is = λ o. refl; once = lane-out-once }
+
+abbrev pub splats : Class Width
+splats = record { op = Splat; number = 7; is = λ o. refl; once = splat-once }
+
+abbrev pub replaces : Class Width
+replaces = record { op = ReplaceLane; number = 9; is = λ o. refl; once = replace-once }
+
+abbrev pub extracts : Class (Sign × Width)
+extracts = record { op = λ k. ExtractLane (k .0) (k .1); number = 8; is = λ k. refl; once = extract-once }
 
 abbrev pub unaries : Class Unop
 unaries = record { op = Unary; number = 10; is = λ o. refl; once = unary-once }
@@ -98,3 +135,11 @@ module _ {X : Type 0} (K : Class X) (P : X → Type 0) where
 
   pub past-arms : (b : Body) (id : ℕ) → T (others (ofClass (K .number) 0) 0 (arms b) 512) → Missed (Unit {0}) (arms b) id → Right id
   past-arms b id t m = past-from b 0 id t m (omega arith)
+
+-- the same of a class of two arguments
+module _ (P : Sign → Width → Type 0) where
+  pub in-arm₂ : {s : Sign} {w : Width} {k id : ℕ} → id ≡ k → rowOf k ≡ does (ExtractLane s w) → P s w → (t : Sign) (v : Width) → rowOf id ≡ carried (vector (ExtractLane t v)) → P t v
+  in-arm₂ at row p t v = in-arm extracts (λ x. P (x .0) (x .1)) at row p (t, v)
+
+  pub past-arms₂ : (b : Body) (id : ℕ) → T (others (ofClass (extracts .number) 0) 0 (arms b) 512) → Missed (Unit {0}) (arms b) id → (t : Sign) (v : Width) → rowOf id ≡ carried (vector (ExtractLane t v)) → P t v
+  past-arms₂ b id tests m t v = past-arms extracts (λ x. P (x .0) (x .1)) b id tests m (t, v)
