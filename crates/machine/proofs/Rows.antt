@@ -1,5 +1,5 @@
--- A `match` on an instruction's number, one arm an operation: an arm is right where the table has its operation at its number, and no
--- other number has an operation of the class.
+-- A `match` on an instruction's id with an arm for each operation of a class: an arm is right if the table has its operation at its
+-- number, and the default if no other number has an operation of the class, which antt computes.
 use mathlib.Core.Path.{_≡_, refl, sym, ap, subst, _∙_}
 use mathlib.Core.Bool.{cond}
 use mathlib.Core.Logic.{⊎-elim}
@@ -57,72 +57,73 @@ pub record Class (X : Type 0) : Type 0 where
 pub load-once : (x y : Loadop) → does (Load x) ≡ does (Load y) → x ≡ y
 load-once x y e = cc
 
-pub lane-in-once : (x y : Width) → does (LoadLane x) ≡ does (LoadLane y) → x ≡ y
-lane-in-once x y e = cc
+abbrev pub loads : Class Loadop
+loads = record { op = Load; number = 1; is = λ x. refl; once = load-once }
 
-pub lane-out-once : (x y : Width) → does (StoreLane x) ≡ does (StoreLane y) → x ≡ y
-lane-out-once x y e = cc
+pub lane-load-once : (x y : Width) → does (LoadLane x) ≡ does (LoadLane y) → x ≡ y
+lane-load-once x y e = cc
+
+abbrev pub laneLoads : Class Width
+laneLoads = record { op = LoadLane; number = 2; is = λ x. refl; once = lane-load-once }
+
+pub lane-store-once : (x y : Width) → does (StoreLane x) ≡ does (StoreLane y) → x ≡ y
+lane-store-once x y e = cc
+
+abbrev pub laneStores : Class Width
+laneStores = record { op = StoreLane; number = 4; is = λ x. refl; once = lane-store-once }
 
 pub splat-once : (x y : Width) → does (Splat x) ≡ does (Splat y) → x ≡ y
 splat-once x y e = cc
 
-pub replace-once : (x y : Width) → does (ReplaceLane x) ≡ does (ReplaceLane y) → x ≡ y
-replace-once x y e = cc
+abbrev pub splats : Class Width
+splats = record { op = Splat; number = 7; is = λ x. refl; once = splat-once }
 
 pub extract-once : (x y : Sign × Width) → does (ExtractLane (x .0) (x .1)) ≡ does (ExtractLane (y .0) (y .1)) → x ≡ y
 extract-once (s, w) (s′, w′) e = cc
 
+abbrev pub extracts : Class (Sign × Width)
+extracts = record { op = λ x. ExtractLane (x .0) (x .1); number = 8; is = λ x. refl; once = extract-once }
+
+pub replace-once : (x y : Width) → does (ReplaceLane x) ≡ does (ReplaceLane y) → x ≡ y
+replace-once x y e = cc
+
+abbrev pub replaces : Class Width
+replaces = record { op = ReplaceLane; number = 9; is = λ x. refl; once = replace-once }
+
 pub unary-once : (x y : Unop) → does (Unary x) ≡ does (Unary y) → x ≡ y
 unary-once x y e = cc
+
+abbrev pub unaries : Class Unop
+unaries = record { op = Unary; number = 10; is = λ x. refl; once = unary-once }
 
 pub binary-once : (x y : Binop) → does (Binary x) ≡ does (Binary y) → x ≡ y
 binary-once x y e = cc
 
+abbrev pub binaries : Class Binop
+binaries = record { op = Binary; number = 11; is = λ x. refl; once = binary-once }
+
 pub test-once : (x y : Testop) → does (Test x) ≡ does (Test y) → x ≡ y
 test-once x y e = cc
+
+abbrev pub tests : Class Testop
+tests = record { op = Test; number = 13; is = λ x. refl; once = test-once }
 
 pub shift-once : (x y : Shiftop) → does (Shift x) ≡ does (Shift y) → x ≡ y
 shift-once x y e = cc
 
-abbrev pub loads : Class Loadop
-loads = record { op = Load; number = 1; is = λ o. refl; once = load-once }
-
-abbrev pub laneLoads : Class Width
-laneLoads = record { op = LoadLane; number = 2; is = λ o. refl; once = lane-in-once }
-
-abbrev pub laneStores : Class Width
-laneStores = record { op = StoreLane; number = 4; is = λ o. refl; once = lane-out-once }
-
-abbrev pub splats : Class Width
-splats = record { op = Splat; number = 7; is = λ o. refl; once = splat-once }
-
-abbrev pub replaces : Class Width
-replaces = record { op = ReplaceLane; number = 9; is = λ o. refl; once = replace-once }
-
-abbrev pub extracts : Class (Sign × Width)
-extracts = record { op = λ k. ExtractLane (k .0) (k .1); number = 8; is = λ k. refl; once = extract-once }
-
-abbrev pub unaries : Class Unop
-unaries = record { op = Unary; number = 10; is = λ o. refl; once = unary-once }
-
-abbrev pub binaries : Class Binop
-binaries = record { op = Binary; number = 11; is = λ o. refl; once = binary-once }
-
-abbrev pub tests : Class Testop
-tests = record { op = Test; number = 13; is = λ o. refl; once = test-once }
-
 abbrev pub shifts : Class Shiftop
-shifts = record { op = Shift; number = 14; is = λ o. refl; once = shift-once }
+shifts = record { op = Shift; number = 14; is = λ x. refl; once = shift-once }
 
 module _ {X : Type 0} (K : Class X) (P : X → Type 0) where
   -- what a function of the class promises of an id
   abbrev pub Right : ℕ → Type 0
   Right id = (x : X) → rowOf id ≡ carried (vector (K .op x)) → P x
 
+  -- the arm of number k, at which the table has x
   pub in-arm : {x : X} {k id : ℕ} → id ≡ k → rowOf k ≡ does (K .op x) → P x → Right id
   in-arm {x} at row p y is = subst P (K .once x y (sym row ∙ ap rowOf (sym at) ∙ is)) p
 
-  -- of the numbers from lo and below hi, those of the arms alone have an operation of the class
+  -- the default: of the numbers from lo and below hi, those of the arms alone have an operation of the class
   pub past-between : (b : Body) (lo hi id : ℕ) → T (others (ofClass (K .number) lo) 0 (arms b) hi) → Missed (Unit {0}) (arms b) id → lo ≤ id → id < hi → Right id
   past-between b lo hi id t m l h x row =
       let yes : ofClass (K .number) lo id ≡ 1 = simp (le-ltb id lo l, row, eq-eqb (K .number) (class (K .op x)) (sym (K .is x))) in

@@ -1,4 +1,4 @@
--- Arm by arm.
+-- Each operation of the range, arm by arm.
 use mathlib.Core.Path.{refl}
 use Rattle.opcode.specs.Table.{vectors, vectorAt, plainAt}
 use Rattle.opcode.specs.Number.{rowOf}
