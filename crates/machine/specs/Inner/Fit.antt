@@ -88,6 +88,12 @@ pub record Fit (c : Code) (i : Instr) (st : List ℕ) (d : ℕ) : Type 0 where
   pub enough : takenBy c ≤ d
   pub deep : d ≤ stackLimit
 
+-- the instruction of this number, and the stack for it
+pub record Fits (id : ℕ) (i : Instr) (st : List ℕ) (d : ℕ) : Type 0 where
+  pub code : Code
+  pub row : rowOf id ≡ carried code
+  pub fit : Fit code i st d
+
 -- n bytes from an address on in a memory of this length: clear, or the first address out of reach
 abbrev pub boundsAt : ℕ → ℕ → ℕ → Bounds
 boundsAt at n len = cond (leb (at + n) len) Clear (Past (max at len))

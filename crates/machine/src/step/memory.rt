@@ -14,7 +14,7 @@ use crate::slot;
 use crate::vector;
 
 // The address in a slot, and the offset.
-fn address(offset: u32, stack: &[u8], depth: usize, j: usize) -> usize
+pub(crate) fn address(offset: u32, stack: &[u8], depth: usize, j: usize) -> usize
     requires { ⌜ (0 < j) × (j ≤ depth) × (depth ≤ 64) × (length (now stack) ≡ 1024) ⌝ }
     ensures { λ r. ⌜ (r ≡ low32 (topOf (now (stack .entry)) depth j) + offset) × (r < 2 ^ 33) ⌝ }
 {
