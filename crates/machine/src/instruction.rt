@@ -76,11 +76,13 @@ pub fn exec(id: u32, i: Instr, stack: &mut [u8], depth: usize, locals: &mut [u8]
             depth - 2
         }
         opcode::GROUP_CONST => {
-            slot::put(stack, depth, V128 { bytes: i.bytes });
+            let bytes = i.bytes;
+            slot::put(stack, depth, V128 { bytes: bytes });
             depth + 1
         }
         opcode::GROUP_SHUFFLE => {
-            step::vectors::shuffle(V128 { bytes: i.bytes }, stack, depth);
+            let bytes = i.bytes;
+            step::vectors::shuffle(V128 { bytes: bytes }, stack, depth);
             depth - 1
         }
         opcode::GROUP_SPLAT => {
