@@ -85,24 +85,28 @@ module _ (id : ℕ) {g : ℕ} (group : g ≡ groupOf (rowOf id)) where
   pub each : (P : Code → Type 0) {k : ℕ} → g ≡ k → Each (λ c. rowOf id ≡ carried c → P c) k → (c : Code) → rowOf id ≡ carried c → P c
   each P {k} at f c row = by-group (λ c. rowOf id ≡ carried c → P c) k f c (sym (group-of c row) ∙ at) row
 
-  module _ (i : Instr) (st : List ℕ) (d : ℕ) where
-    -- of the code that it has
-    pub fitting : (X : Type 0) → Fits id i st d → {k : ℕ} → g ≡ k → Each (λ c. rowOf id ≡ carried c → Fit c i st d → X) k → X
-    fitting X r at f = each (λ c. Fit c i st d → X) at f (r .code) (r .row) (r .fit)
+  -- of the code that it has
+  pub fitting : {i : Instr} {st : List ℕ} {d k : ℕ} {X : Type 0} → Fits id i st d → g ≡ k → Each (λ c. rowOf id ≡ carried c → Fit c i st d → X) k → X
+  fitting {i} {st} {d} {X = X} r at f = each (λ c. Fit c i st d → X) at f (r .code) (r .row) (r .fit)
 
-    module _ (ls m : List ℕ) (r : Ready id i st d ls m) where
-      pub record Asks (c : Code) : Type 0 where
-        pub fit : Fit c i st d
-        pub named : Named c i
-        pub room : flat c i st d ls m .depth ≤ stackLimit
-        pub clear : boundsOf c i st d (length m) ≡ Clear
+-- a code's part of Ready
+pub record Asks (c : Code) (i : Instr) (st : List ℕ) (d : ℕ) (ls m : List ℕ) : Type 0 where
+  pub fit : Fit c i st d
+  pub named : Named c i
+  pub room : flat c i st d ls m .depth ≤ stackLimit
+  pub clear : boundsOf c i st d (length m) ≡ Clear
 
-      asks : Asks (r .code)
-      asks = record { fit = r .fit; named = r .named; room = r .room; clear = r .clear }
+module _ {id : ℕ} {i : Instr} {st : List ℕ} {d : ℕ} {ls m : List ℕ} (r : Ready id i st d ls m) {g : ℕ} (group : g ≡ groupOf (rowOf id)) where
+  asks : Asks (r .code) i st d ls m
+  asks = record { fit = r .fit; named = r .named; room = r .room; clear = r .clear }
 
-      pub ready : (X : Type 0) {k : ℕ} → g ≡ k → Each (λ c. rowOf id ≡ carried c → Asks c → X) k → X
-      ready X at f = each (λ c. Asks c → X) at f (r .code) (r .row) asks
+  pub ready : {X : Type 0} {k : ℕ} → g ≡ k → Each (λ c. rowOf id ≡ carried c → Asks c i st d ls m → X) k → X
+  ready {X} at f = each id group (λ c. Asks c i st d ls m → X) at f (r .code) (r .row) asks
 
-      pub did : {k d′ : ℕ} {st′ ls′ m′ : List ℕ} → g ≡ k → Each (λ c. rowOf id ≡ carried c → Asks c → Did (flat c i st d ls m) d′ st′ ls′ m′) k → DidBy id i st d ls m d′ st′ ls′ m′
-      did {k} {d′} {st′} {ls′} {m′} at f =
-          record { does = λ c row. let same : r .code ≡ c = cc (r .row) in each (λ c. Asks c → Did (flat c i st d ls m) d′ st′ ls′ m′) at f c row (subst Asks same asks) }
+  pub did : {k d′ : ℕ} {st′ ls′ m′ : List ℕ} → g ≡ k → Each (λ c. rowOf id ≡ carried c → Asks c i st d ls m → Did (flat c i st d ls m) d′ st′ ls′ m′) k → DidBy id i st d ls m d′ st′ ls′ m′
+  did {k} {d′} {st′} {ls′} {m′} at f =
+      record {
+        does = λ c row.
+            let same : r .code ≡ c = cc (r .row) in
+            each id group (λ c. Asks c i st d ls m → Did (flat c i st d ls m) d′ st′ ls′ m′) at f c row (subst (λ c. Asks c i st d ls m) same asks);
+      }

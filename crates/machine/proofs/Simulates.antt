@@ -148,7 +148,7 @@ module _ (rs : List Kind) (i : Instr) (apt : Apt i) (σ σ′ : State) (st : Lis
       let t1 = top 1 (length (p .rest)) _ (omega (arith, rep .depth, p .long)) (p .at) in
       let t = address 2 (length (q .rest)) (q .value) (omega (arith, rep .depth, p .long, q .long)) (q .at) (q .ok) in
       let same : stored (σ .memory) (q .value + i .offset) (g (p .value)) ≡ stored m (reach i (topOf st d 2)) (g (topOf st d 1)) =
-          ap₂ (λ (bs v : List ℕ). stored bs (q .value + i .offset) (g v)) (rep .memory) (sym t1) ∙ ap (λ (a : ℕ). stored m a (g (topOf st d 1))) (sym t) in
+      ap₂ (λ (bs v : List ℕ). stored bs (q .value + i .offset) (g v)) (rep .memory) (sym t1) ∙ ap (λ (a : ℕ). stored m a (g (topOf st d 1))) (sym t) in
       subst (λ (bs : List ℕ). Rep σ′ st (d - 2) ls bs) same
       (popped (with-memory rep _ (bytes-stored (σ .memory) (q .value + i .offset) (g (p .value)) memory-bytes (small (p .value) (p .ok))))
       (q .rest) (q .under) (d - 2) (omega (arith, rep .depth, p .long, q .long)) (r .1))

@@ -17,5 +17,9 @@ pub(crate) fn bounds_at(at: usize, n: usize, len: usize) -> Bounds
     if at + n <= len {
         return Bounds::Clear;
     }
-    if at < len { Bounds::Past(len as u64) } else { Bounds::Past(at as u64) }
+    if at < len {
+        Bounds::Past(len as u64)
+    } else {
+        Bounds::Past(at as u64)
+    }
 }

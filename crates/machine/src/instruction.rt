@@ -16,16 +16,39 @@ pub fn bounds(id: u32, i: Instr, stack: &[u8], depth: usize, len: usize) -> Boun
     ensures { λ r. ⌜ ((c : Code) → rowOf id ≡ carried c → r ≡ boundsOf c i (now (stack .entry)) depth len) ⌝ }
 {
     match opcode::group(id) {
-        opcode::GROUP_LOAD => access::bounds_at(step::memory::address(i.offset, stack, depth, 1), opcode::moved(id) as usize, len),
-        opcode::GROUP_LOAD_LANE => access::bounds_at(step::memory::address(i.offset, stack, depth, 2), opcode::moved(id) as usize, len),
-        opcode::GROUP_STORE => access::bounds_at(step::memory::address(i.offset, stack, depth, 2), opcode::moved(id) as usize, len),
-        opcode::GROUP_STORE_LANE => access::bounds_at(step::memory::address(i.offset, stack, depth, 2), opcode::moved(id) as usize, len),
+        opcode::GROUP_LOAD => access::bounds_at(
+            step::memory::address(i.offset, stack, depth, 1),
+            opcode::moved(id) as usize,
+            len,
+        ),
+        opcode::GROUP_LOAD_LANE => access::bounds_at(
+            step::memory::address(i.offset, stack, depth, 2),
+            opcode::moved(id) as usize,
+            len,
+        ),
+        opcode::GROUP_STORE => access::bounds_at(
+            step::memory::address(i.offset, stack, depth, 2),
+            opcode::moved(id) as usize,
+            len,
+        ),
+        opcode::GROUP_STORE_LANE => access::bounds_at(
+            step::memory::address(i.offset, stack, depth, 2),
+            opcode::moved(id) as usize,
+            len,
+        ),
         _ => Bounds::Clear,
     }
 }
 
 // Answers how many values the stack holds then. What was asked before is not asked again.
-pub fn exec(id: u32, i: Instr, stack: &mut [u8], depth: usize, locals: &mut [u8], mem: &mut [u8]) -> usize
+pub fn exec(
+    id: u32,
+    i: Instr,
+    stack: &mut [u8],
+    depth: usize,
+    locals: &mut [u8],
+    mem: &mut [u8],
+) -> usize
     requires { ⌜ Ready id i (now stack) depth (now locals) (now mem) ⌝ }
     ensures { λ r. ⌜ DidBy id i (now (stack .entry)) depth (now (locals .entry)) (now (mem .entry)) r (now (stack .exit)) (now (locals .exit)) (now (mem .exit)) ⌝ }
 {
@@ -64,7 +87,15 @@ pub fn exec(id: u32, i: Instr, stack: &mut [u8], depth: usize, locals: &mut [u8]
             depth
         }
         opcode::GROUP_LOAD_LANE => {
-            step::memory::load_lane(id, i.offset, opcode::moved(id) as usize, i.lane, mem, stack, depth);
+            step::memory::load_lane(
+                id,
+                i.offset,
+                opcode::moved(id) as usize,
+                i.lane,
+                mem,
+                stack,
+                depth,
+            );
             depth - 1
         }
         opcode::GROUP_STORE => {
@@ -72,7 +103,15 @@ pub fn exec(id: u32, i: Instr, stack: &mut [u8], depth: usize, locals: &mut [u8]
             depth - 2
         }
         opcode::GROUP_STORE_LANE => {
-            step::memory::store_lane(id, i.offset, opcode::moved(id) as usize, i.lane, mem, stack, depth);
+            step::memory::store_lane(
+                id,
+                i.offset,
+                opcode::moved(id) as usize,
+                i.lane,
+                mem,
+                stack,
+                depth,
+            );
             depth - 2
         }
         opcode::GROUP_CONST => {

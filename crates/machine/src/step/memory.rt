@@ -30,7 +30,15 @@ pub(crate) fn load(id: u32, offset: u32, n: usize, mem: &[u8], stack: &mut [u8],
     slot::put(stack, depth - 1, vector::memory::load(id, m));
 }
 
-pub(crate) fn load_lane(id: u32, offset: u32, n: usize, index: u8, mem: &[u8], stack: &mut [u8], depth: usize)
+pub(crate) fn load_lane(
+    id: u32,
+    offset: u32,
+    n: usize,
+    index: u8,
+    mem: &[u8],
+    stack: &mut [u8],
+    depth: usize,
+)
     requires { ⌜ (2 ≤ depth) × (depth ≤ 64) × (length (now stack) ≡ 1024) × (n ≤ 16) × (low32 (topOf (now stack) depth 2) + offset + n ≤ length (now mem)) ⌝ }
     ensures { λ r. ⌜ ((w : Width) → rowOf id ≡ does (LoadLane w) → index < lanes w → now (stack .exit) ≡ putSlot (now (stack .entry)) (depth - 2) (laneIn w (padded (part n (low32 (topOf (now (stack .entry)) depth 2) + offset) (now (mem .entry)))) (topOf (now (stack .entry)) depth 1) index)) ⌝ }
 {
@@ -49,7 +57,15 @@ pub(crate) fn store(offset: u32, mem: &mut [u8], stack: &[u8], depth: usize)
     bytes::write(mem, at, v, 16);
 }
 
-pub(crate) fn store_lane(id: u32, offset: u32, n: usize, index: u8, mem: &mut [u8], stack: &[u8], depth: usize)
+pub(crate) fn store_lane(
+    id: u32,
+    offset: u32,
+    n: usize,
+    index: u8,
+    mem: &mut [u8],
+    stack: &[u8],
+    depth: usize,
+)
     requires { ⌜ (2 ≤ depth) × (depth ≤ 64) × (length (now stack) ≡ 1024) × (n ≤ 16) × (low32 (topOf (now stack) depth 2) + offset + n ≤ length (now mem)) ⌝ }
     ensures { λ r. ⌜ ((w : Width) → rowOf id ≡ does (StoreLane w) → index < lanes w → now (mem .exit) ≡ stored (now (mem .entry)) (low32 (topOf (now (stack .entry)) depth 2) + offset) (take n (laneOut w (topOf (now (stack .entry)) depth 1) index))) ⌝ }
 {

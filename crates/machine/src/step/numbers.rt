@@ -22,7 +22,11 @@ pub(crate) fn add(stack: &mut [u8], depth: usize)
 {
     let b = slot::word(slot::top(stack, depth, 1));
     let a = slot::word(slot::top(stack, depth, 2));
-    slot::put(stack, depth - 2, slot::of_number(std::num::wrapping_add_u32(a, b) as u64));
+    slot::put(
+        stack,
+        depth - 2,
+        slot::of_number(std::num::wrapping_add_u32(a, b) as u64),
+    );
 }
 
 pub(crate) fn sub(stack: &mut [u8], depth: usize)
@@ -31,7 +35,11 @@ pub(crate) fn sub(stack: &mut [u8], depth: usize)
 {
     let b = slot::word(slot::top(stack, depth, 1)) as u64;
     let a = slot::word(slot::top(stack, depth, 2)) as u64;
-    slot::put(stack, depth - 2, slot::of_number((a + (4294967296 - b)) % 4294967296));
+    slot::put(
+        stack,
+        depth - 2,
+        slot::of_number((a + (4294967296 - b)) % 4294967296),
+    );
 }
 
 pub(crate) fn get_local(index: u32, locals: &[u8], stack: &mut [u8], depth: usize)

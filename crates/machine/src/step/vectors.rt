@@ -57,7 +57,11 @@ pub(crate) fn test(id: u32, stack: &mut [u8], depth: usize)
     ensures { λ r. ⌜ ((o : Testop) → rowOf id ≡ does (Test o) → now (stack .exit) ≡ putSlot (now (stack .entry)) (depth - 1) (le 16 (test o (topOf (now (stack .entry)) depth 1)))) ⌝ }
 {
     let a = slot::top(stack, depth, 1);
-    slot::put(stack, depth - 1, slot::of_number(vector::unary::test(id, a) as u64));
+    slot::put(
+        stack,
+        depth - 1,
+        slot::of_number(vector::unary::test(id, a) as u64),
+    );
 }
 
 pub(crate) fn shift(id: u32, stack: &mut [u8], depth: usize)
@@ -82,7 +86,11 @@ pub(crate) fn extract(id: u32, index: u8, stack: &mut [u8], depth: usize)
     ensures { λ r. ⌜ ((s : Sign) (w : Width) → rowOf id ≡ does (ExtractLane s w) → index < lanes w → now (stack .exit) ≡ putSlot (now (stack .entry)) (depth - 1) (le 16 (extracted s w (topOf (now (stack .entry)) depth 1) index))) ⌝ }
 {
     let a = slot::top(stack, depth, 1);
-    slot::put(stack, depth - 1, slot::of_number(vector::single::extract(id, a, index)));
+    slot::put(
+        stack,
+        depth - 1,
+        slot::of_number(vector::single::extract(id, a, index)),
+    );
 }
 
 pub(crate) fn replace(id: u32, index: u8, stack: &mut [u8], depth: usize)

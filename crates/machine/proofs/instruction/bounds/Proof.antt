@@ -14,25 +14,25 @@ use Rattle.machine.proofs.instruction.bounds.Statement.{statement}
 use Rattle.machine.proofs.instruction.bounds.Tie as tie
 
 address-requires : tie.Need-address-requires
-address-requires c κs = let a = c .before .before .before .args in fitting (a .id) (c .before .group .ensures) (a .i) (a .stack .now) (a .depth) _ (c .before .before .before .pre) (c .match .keys1) (λ l row q. (omega arith, q .enough, q .deep, q .stack-long))
+address-requires c κs = fitting (c .before .before .before .args .id) (c .before .group .ensures) (c .before .before .before .pre) (c .match .keys1) (λ l row q. (omega arith, q .enough, q .deep, q .stack-long))
 
 bounds-at-requires : tie.Need-bounds-at-requires
 bounds-at-requires c κs = (c .before .address .ensures .1, omega (arith, c .moved .ensures, row-moved-small (rowOf (c .before .before .before .before .before .args .id))))
 
 address-requires-2 : tie.Need-address-requires-2
-address-requires-2 c κs = let a = c .before .before .before .args in fitting (a .id) (c .before .group .ensures) (a .i) (a .stack .now) (a .depth) _ (c .before .before .before .pre) (c .match .keys2) (λ w row q. (omega arith, q .enough, q .deep, q .stack-long))
+address-requires-2 c κs = fitting (c .before .before .before .args .id) (c .before .group .ensures) (c .before .before .before .pre) (c .match .keys2) (λ w row q. (omega arith, q .enough, q .deep, q .stack-long))
 
 bounds-at-requires-2 : tie.Need-bounds-at-requires-2
 bounds-at-requires-2 c κs = (c .before .address2 .ensures .1, omega (arith, c .moved2 .ensures, row-moved-small (rowOf (c .before .before .before .before .before .args .id))))
 
 address-requires-3 : tie.Need-address-requires-3
-address-requires-3 c κs = let a = c .before .before .before .args in fitting (a .id) (c .before .group .ensures) (a .i) (a .stack .now) (a .depth) _ (c .before .before .before .pre) (c .match .keys3) (λ row q. (omega arith, q .enough, q .deep, q .stack-long))
+address-requires-3 c κs = fitting (c .before .before .before .args .id) (c .before .group .ensures) (c .before .before .before .pre) (c .match .keys3) (λ row q. (omega arith, q .enough, q .deep, q .stack-long))
 
 bounds-at-requires-3 : tie.Need-bounds-at-requires-3
 bounds-at-requires-3 c κs = (c .before .address3 .ensures .1, omega (arith, c .moved3 .ensures, row-moved-small (rowOf (c .before .before .before .before .before .args .id))))
 
 address-requires-4 : tie.Need-address-requires-4
-address-requires-4 c κs = let a = c .before .before .before .args in fitting (a .id) (c .before .group .ensures) (a .i) (a .stack .now) (a .depth) _ (c .before .before .before .pre) (c .match .keys4) (λ w row q. (omega arith, q .enough, q .deep, q .stack-long))
+address-requires-4 c κs = fitting (c .before .before .before .args .id) (c .before .group .ensures) (c .before .before .before .pre) (c .match .keys4) (λ w row q. (omega arith, q .enough, q .deep, q .stack-long))
 
 bounds-at-requires-4 : tie.Need-bounds-at-requires-4
 bounds-at-requires-4 c κs = (c .before .address4 .ensures .1, omega (arith, c .moved4 .ensures, row-moved-small (rowOf (c .before .before .before .before .before .args .id))))

@@ -18,7 +18,7 @@ returns c =
     let x = c .before .before .before .before .before .word2 .result in let y = c .before .before .before .before .before .before .before .before .word .result in
     c .before .before .put .ensures ∙
     ap (putSlot s (d - 2)) (c .before .before .before .of-number .ensures ∙ ap (le 16) (sym (wrap-minus w32 x y (omega arith)) ∙
-        ap₂ (isub w32) (c .before .before .before .before .before .word2 .ensures ∙ ap low32 (c .before .before .before .before .before .before .top2 .ensures)) (c .before .before .before .before .before .before .before .before .word .ensures ∙ ap low32 (c .before .before .before .before .before .before .before .before .before .top .ensures))))
+    ap₂ (isub w32) (c .before .before .before .before .before .word2 .ensures ∙ ap low32 (c .before .before .before .before .before .before .top2 .ensures)) (c .before .before .before .before .before .before .before .before .word .ensures ∙ ap low32 (c .before .before .before .before .before .before .before .before .before .top .ensures))))
 
 pub sub-spec : {M : Type 1} → statement M
 sub-spec = tie.close (tie.spec (λ c κs. search needs) (λ c κs. search needs) (λ c. search needs) (λ c κs. search needs) (λ c κs. search needs) (λ c. search needs) (λ c. search needs) (λ c. search needs) (λ c. search needs) (λ c κs. search needs) (λ c κs. search needs) (λ c. search needs) returns)
