@@ -40,11 +40,12 @@ abbrev pub Missed : Type 0 → List (List ℕ) → ℕ → Type 0
 Missed N [] x = N
 Missed N (ks ∷ kss) x = Missed (N × (OneOf ks x → ⊥)) kss x
 
-abbrev anyKey : List (List ℕ) → ℕ → Bool
+-- some arm has the number
+abbrev pub anyKey : List (List ℕ) → ℕ → Bool
 anyKey [] x = false
 anyKey (ks ∷ kss) x = hasKey ks x || anyKey kss x
 
-missed : (N : Type 0) (kss : List (List ℕ)) (x : ℕ) → Missed N kss x → N × (T (anyKey kss x) → ⊥)
+pub missed : (N : Type 0) (kss : List (List ℕ)) (x : ℕ) → Missed N kss x → N × (T (anyKey kss x) → ⊥)
 missed N [] x n = (n, λ t. t)
 missed N (ks ∷ kss) x m =
     let deeper = missed (N × (OneOf ks x → ⊥)) kss x m in

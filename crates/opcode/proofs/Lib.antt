@@ -6,5 +6,6 @@ pub mod Inverse
 pub mod Id
 pub mod Classes
 pub mod Effects
+pub mod Groups
 pub mod Entries
 pub mod Unique

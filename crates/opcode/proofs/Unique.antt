@@ -4,6 +4,7 @@ use mathlib.Core.Path.{_≡_, sym, _∙_}
 use Prim.Native.Nat.{ℕ}
 use Rattle.opcode.proofs.id_of.Reads as id-of
 use Rattle.opcode.proofs.immediates.Reads as immediates
+use Rattle.opcode.proofs.group.Reads as group
 use Rattle.opcode.proofs.moved.Reads as moved
 use Rattle.opcode.proofs.lanes.Reads as lanes
 use Rattle.opcode.proofs.effect.Reads as effect
@@ -14,6 +15,9 @@ one-id first n p q = p ∙ sym q
 module _ (id : ℕ) {r r′ : ℕ} where
   pub one-class : immediates.Post tt (id, tt) r (id, tt) → immediates.Post tt (id, tt) r′ (id, tt) → r ≡ r′
   one-class p q = p ∙ sym q
+
+  pub one-group : group.Post tt (id, tt) r (id, tt) → group.Post tt (id, tt) r′ (id, tt) → r ≡ r′
+  one-group p q = p ∙ sym q
 
   pub one-moved : moved.Post tt (id, tt) r (id, tt) → moved.Post tt (id, tt) r′ (id, tt) → r ≡ r′
   one-moved p q = p ∙ sym q

@@ -6,7 +6,8 @@ use mathlib.Core.Option.{Option, none, some}
 use lib.Dec.{eqb, ltb}
 use Rattle.lane.specs.Vector.{number}
 use Rattle.opcode.specs.Kind.{kindByte}
-use Rattle.opcode.specs.Table.{Row, carried, float, unassigned, plain, vector, vectorAt, plainAt, PREFIX}
+use Rattle.lane.specs.Op.{Op, Load, LoadLane, Store, StoreLane, Const, Shuffle, Splat, ExtractLane, ReplaceLane, Unary, Binary, Bitselect, Test, Shift}
+use Rattle.opcode.specs.Table.{Plain, End, Drop, LocalGet, LocalSet, LocalTee, I32Const, I64Const, I32Add, I32Sub, Code, plain, vector, Row, carried, float, unassigned, vectorAt, plainAt, PREFIX}
 use Rattle.opcode.specs.Immediate.{Immediates, nothing, index, word, long, memory, memoryLane, laneIndex, sixteenBytes, sixteenLanes, immediates, moved, laneCount}
 use Rattle.opcode.specs.Effect.{Signature, _⇒_, effect}
 
@@ -61,3 +62,41 @@ abbrev pub effectOf : Row → ℕ
 effectOf (carried c) = packed (effect c)
 effectOf float = 0
 effectOf unassigned = 0
+
+-- ---- the groups: the nine plain opcodes, then those of the enumeration of operations
+
+abbrev pub groupOfPlain : Plain → ℕ
+groupOfPlain End = 0
+groupOfPlain Drop = 1
+groupOfPlain LocalGet = 2
+groupOfPlain LocalSet = 3
+groupOfPlain LocalTee = 4
+groupOfPlain I32Const = 5
+groupOfPlain I64Const = 6
+groupOfPlain I32Add = 7
+groupOfPlain I32Sub = 8
+
+abbrev pub groupOfOp : Op → ℕ
+groupOfOp (Load l) = 9
+groupOfOp (LoadLane w) = 10
+groupOfOp Store = 11
+groupOfOp (StoreLane w) = 12
+groupOfOp Const = 13
+groupOfOp Shuffle = 14
+groupOfOp (Splat w) = 15
+groupOfOp (ExtractLane s w) = 16
+groupOfOp (ReplaceLane w) = 17
+groupOfOp (Unary o) = 18
+groupOfOp (Binary o) = 19
+groupOfOp Bitselect = 20
+groupOfOp (Test o) = 21
+groupOfOp (Shift o) = 22
+
+abbrev pub groupOfCode : Code → ℕ
+groupOfCode (plain p) = groupOfPlain p
+groupOfCode (vector o) = groupOfOp o
+
+abbrev pub groupOf : Row → ℕ
+groupOf (carried c) = groupOfCode c
+groupOf float = 23
+groupOf unassigned = 23

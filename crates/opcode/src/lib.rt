@@ -3,7 +3,7 @@
 mod table;
 
 ghost use mathlib.Core.Path.{_≡_};
-ghost use Rattle.opcode.specs.Number.{idOf, rowOf, classOf, movedBy, lanesOf, effectOf};
+ghost use Rattle.opcode.specs.Number.{groupOf, idOf, rowOf, classOf, movedBy, lanesOf, effectOf};
 
 // The classes of immediates.
 pub const NOTHING: u8 = 0;
@@ -29,6 +29,55 @@ pub const FLOAT: u8 = 9;
 
 pub const UNASSIGNED: u8 = 10;
 
+// The groups: the nine plain opcodes, then those of lane's enumeration of operations, then what is not carried.
+pub const GROUP_END: u8 = 0;
+
+pub const GROUP_DROP: u8 = 1;
+
+pub const GROUP_LOCAL_GET: u8 = 2;
+
+pub const GROUP_LOCAL_SET: u8 = 3;
+
+pub const GROUP_LOCAL_TEE: u8 = 4;
+
+pub const GROUP_I32_CONST: u8 = 5;
+
+pub const GROUP_I64_CONST: u8 = 6;
+
+pub const GROUP_I32_ADD: u8 = 7;
+
+pub const GROUP_I32_SUB: u8 = 8;
+
+pub const GROUP_LOAD: u8 = 9;
+
+pub const GROUP_LOAD_LANE: u8 = 10;
+
+pub const GROUP_STORE: u8 = 11;
+
+pub const GROUP_STORE_LANE: u8 = 12;
+
+pub const GROUP_CONST: u8 = 13;
+
+pub const GROUP_SHUFFLE: u8 = 14;
+
+pub const GROUP_SPLAT: u8 = 15;
+
+pub const GROUP_EXTRACT: u8 = 16;
+
+pub const GROUP_REPLACE: u8 = 17;
+
+pub const GROUP_UNARY: u8 = 18;
+
+pub const GROUP_BINARY: u8 = 19;
+
+pub const GROUP_BITSELECT: u8 = 20;
+
+pub const GROUP_TEST: u8 = 21;
+
+pub const GROUP_SHIFT: u8 = 22;
+
+pub const GROUP_NOT_CARRIED: u8 = 23;
+
 // The first byte of the vector instructions.
 pub const PREFIX: u8 = 0xFD;
 
@@ -49,6 +98,13 @@ pub fn immediates(id: u32) -> u8
     ensures { λ r. ⌜ r ≡ classOf (rowOf id) ⌝ }
 {
     (table::entry(id) % 256) as u8
+}
+
+// The group that an instruction belongs to.
+pub fn group(id: u32) -> u8
+    ensures { λ r. ⌜ r ≡ groupOf (rowOf id) ⌝ }
+{
+    (table::entry(id) / 16777216 % 256) as u8
 }
 
 // The bytes that an access moves; 0 where memory is not touched.

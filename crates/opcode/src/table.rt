@@ -1,6 +1,6 @@
 // Document 002 in numbers: an entry of eight bytes for each id. From the highest: the kind of what is left on the stack; the kinds of the
-// third operand, the second and the top one; zero; the lanes that a lane index chooses among; the bytes that an access moves; the class
-// of the immediates.
+// third operand, the second and the top one; the group; the lanes that a lane index chooses among; the bytes that an access moves; the
+// class of the immediates.
 use crate::BYTES;
 use crate::FLOAT;
 use crate::INDEX;
@@ -16,81 +16,89 @@ ghost use mathlib.Core.Path.{_≡_};
 ghost use Rattle.opcode.specs.Number.{rowOf};
 ghost use Rattle.opcode.specs.Inner.Entry.{entryOf};
 
-const BARE: u64 = NOTHING as u64; // end, drop
+const END: u64 = NOTHING as u64;
 
-const LOCAL: u64 = INDEX as u64; // local.get, set, tee
+const DROP: u64 = 0x01_00_00_00 + NOTHING as u64;
 
-const I32_CONST: u64 = 0x7F_00_00_00_00_00_00_00 + WORD as u64; // -> i32
+const LOCAL_GET: u64 = 0x02_00_00_00 + INDEX as u64;
 
-const I64_CONST: u64 = 0x7E_00_00_00_00_00_00_00 + LONG as u64; // -> i64
+const LOCAL_SET: u64 = 0x03_00_00_00 + INDEX as u64;
 
-const I32_BINARY: u64 = 0x7F_00_7F_7F_00_00_00_00 + NOTHING as u64; // i32 i32 -> i32
+const LOCAL_TEE: u64 = 0x04_00_00_00 + INDEX as u64;
 
-const LOAD_8: u64 = 0x7B_00_00_7F_00_00_01_00 + MEMORY as u64; // i32 -> v128
+const I32_CONST: u64 = 0x7F_00_00_00_05_00_00_00 + WORD as u64; // -> i32
 
-const LOAD_16: u64 = 0x7B_00_00_7F_00_00_02_00 + MEMORY as u64; // i32 -> v128
+const I64_CONST: u64 = 0x7E_00_00_00_06_00_00_00 + LONG as u64; // -> i64
 
-const LOAD_32: u64 = 0x7B_00_00_7F_00_00_04_00 + MEMORY as u64; // i32 -> v128
+const I32_ADD: u64 = 0x7F_00_7F_7F_07_00_00_00 + NOTHING as u64; // i32 i32 -> i32
 
-const LOAD_64: u64 = 0x7B_00_00_7F_00_00_08_00 + MEMORY as u64; // i32 -> v128
+const I32_SUB: u64 = 0x7F_00_7F_7F_08_00_00_00 + NOTHING as u64; // i32 i32 -> i32
 
-const LOAD_128: u64 = 0x7B_00_00_7F_00_00_10_00 + MEMORY as u64; // i32 -> v128
+const LOAD_8: u64 = 0x7B_00_00_7F_09_00_01_00 + MEMORY as u64; // i32 -> v128
 
-const LOAD_LANE_8: u64 = 0x7B_00_7F_7B_00_10_01_00 + MEMORY_LANE as u64; // i32 v128 -> v128
+const LOAD_16: u64 = 0x7B_00_00_7F_09_00_02_00 + MEMORY as u64; // i32 -> v128
 
-const LOAD_LANE_16: u64 = 0x7B_00_7F_7B_00_08_02_00 + MEMORY_LANE as u64; // i32 v128 -> v128
+const LOAD_32: u64 = 0x7B_00_00_7F_09_00_04_00 + MEMORY as u64; // i32 -> v128
 
-const LOAD_LANE_32: u64 = 0x7B_00_7F_7B_00_04_04_00 + MEMORY_LANE as u64; // i32 v128 -> v128
+const LOAD_64: u64 = 0x7B_00_00_7F_09_00_08_00 + MEMORY as u64; // i32 -> v128
 
-const LOAD_LANE_64: u64 = 0x7B_00_7F_7B_00_02_08_00 + MEMORY_LANE as u64; // i32 v128 -> v128
+const LOAD_128: u64 = 0x7B_00_00_7F_09_00_10_00 + MEMORY as u64; // i32 -> v128
 
-const STORE_128: u64 = 0x00_00_7F_7B_00_00_10_00 + MEMORY as u64; // i32 v128 ->
+const LOAD_LANE_8: u64 = 0x7B_00_7F_7B_0A_10_01_00 + MEMORY_LANE as u64; // i32 v128 -> v128
 
-const STORE_LANE_8: u64 = 0x00_00_7F_7B_00_10_01_00 + MEMORY_LANE as u64; // i32 v128 ->
+const LOAD_LANE_16: u64 = 0x7B_00_7F_7B_0A_08_02_00 + MEMORY_LANE as u64; // i32 v128 -> v128
 
-const STORE_LANE_16: u64 = 0x00_00_7F_7B_00_08_02_00 + MEMORY_LANE as u64; // i32 v128 ->
+const LOAD_LANE_32: u64 = 0x7B_00_7F_7B_0A_04_04_00 + MEMORY_LANE as u64; // i32 v128 -> v128
 
-const STORE_LANE_32: u64 = 0x00_00_7F_7B_00_04_04_00 + MEMORY_LANE as u64; // i32 v128 ->
+const LOAD_LANE_64: u64 = 0x7B_00_7F_7B_0A_02_08_00 + MEMORY_LANE as u64; // i32 v128 -> v128
 
-const STORE_LANE_64: u64 = 0x00_00_7F_7B_00_02_08_00 + MEMORY_LANE as u64; // i32 v128 ->
+const STORE_128: u64 = 0x00_00_7F_7B_0B_00_10_00 + MEMORY as u64; // i32 v128 ->
 
-const CONST: u64 = 0x7B_00_00_00_00_00_00_00 + BYTES as u64; // -> v128
+const STORE_LANE_8: u64 = 0x00_00_7F_7B_0C_10_01_00 + MEMORY_LANE as u64; // i32 v128 ->
 
-const SHUFFLE: u64 = 0x7B_00_7B_7B_00_00_00_00 + LANES as u64; // v128 v128 -> v128
+const STORE_LANE_16: u64 = 0x00_00_7F_7B_0C_08_02_00 + MEMORY_LANE as u64; // i32 v128 ->
 
-const SPLAT: u64 = 0x7B_00_00_7F_00_00_00_00 + NOTHING as u64; // i32 -> v128
+const STORE_LANE_32: u64 = 0x00_00_7F_7B_0C_04_04_00 + MEMORY_LANE as u64; // i32 v128 ->
 
-const SPLAT_64: u64 = 0x7B_00_00_7E_00_00_00_00 + NOTHING as u64; // i64 -> v128
+const STORE_LANE_64: u64 = 0x00_00_7F_7B_0C_02_08_00 + MEMORY_LANE as u64; // i32 v128 ->
 
-const EXTRACT_8: u64 = 0x7F_00_00_7B_00_10_00_00 + LANE as u64; // v128 -> i32
+const CONST: u64 = 0x7B_00_00_00_0D_00_00_00 + BYTES as u64; // -> v128
 
-const EXTRACT_16: u64 = 0x7F_00_00_7B_00_08_00_00 + LANE as u64; // v128 -> i32
+const SHUFFLE: u64 = 0x7B_00_7B_7B_0E_00_00_00 + LANES as u64; // v128 v128 -> v128
 
-const EXTRACT_32: u64 = 0x7F_00_00_7B_00_04_00_00 + LANE as u64; // v128 -> i32
+const SPLAT: u64 = 0x7B_00_00_7F_0F_00_00_00 + NOTHING as u64; // i32 -> v128
 
-const EXTRACT_64: u64 = 0x7E_00_00_7B_00_02_00_00 + LANE as u64; // v128 -> i64
+const SPLAT_64: u64 = 0x7B_00_00_7E_0F_00_00_00 + NOTHING as u64; // i64 -> v128
 
-const REPLACE_8: u64 = 0x7B_00_7B_7F_00_10_00_00 + LANE as u64; // v128 i32 -> v128
+const EXTRACT_8: u64 = 0x7F_00_00_7B_10_10_00_00 + LANE as u64; // v128 -> i32
 
-const REPLACE_16: u64 = 0x7B_00_7B_7F_00_08_00_00 + LANE as u64; // v128 i32 -> v128
+const EXTRACT_16: u64 = 0x7F_00_00_7B_10_08_00_00 + LANE as u64; // v128 -> i32
 
-const REPLACE_32: u64 = 0x7B_00_7B_7F_00_04_00_00 + LANE as u64; // v128 i32 -> v128
+const EXTRACT_32: u64 = 0x7F_00_00_7B_10_04_00_00 + LANE as u64; // v128 -> i32
 
-const REPLACE_64: u64 = 0x7B_00_7B_7E_00_02_00_00 + LANE as u64; // v128 i64 -> v128
+const EXTRACT_64: u64 = 0x7E_00_00_7B_10_02_00_00 + LANE as u64; // v128 -> i64
 
-const UNARY: u64 = 0x7B_00_00_7B_00_00_00_00 + NOTHING as u64; // v128 -> v128
+const REPLACE_8: u64 = 0x7B_00_7B_7F_11_10_00_00 + LANE as u64; // v128 i32 -> v128
 
-const BINARY: u64 = 0x7B_00_7B_7B_00_00_00_00 + NOTHING as u64; // v128 v128 -> v128
+const REPLACE_16: u64 = 0x7B_00_7B_7F_11_08_00_00 + LANE as u64; // v128 i32 -> v128
 
-const BITSELECT: u64 = 0x7B_7B_7B_7B_00_00_00_00 + NOTHING as u64; // v128 v128 v128 -> v128
+const REPLACE_32: u64 = 0x7B_00_7B_7F_11_04_00_00 + LANE as u64; // v128 i32 -> v128
 
-const TEST: u64 = 0x7F_00_00_7B_00_00_00_00 + NOTHING as u64; // v128 -> i32
+const REPLACE_64: u64 = 0x7B_00_7B_7E_11_02_00_00 + LANE as u64; // v128 i64 -> v128
 
-const SHIFT: u64 = 0x7B_00_7B_7F_00_00_00_00 + NOTHING as u64; // v128 i32 -> v128
+const UNARY: u64 = 0x7B_00_00_7B_12_00_00_00 + NOTHING as u64; // v128 -> v128
 
-const FLOATS: u64 = FLOAT as u64;
+const BINARY: u64 = 0x7B_00_7B_7B_13_00_00_00 + NOTHING as u64; // v128 v128 -> v128
 
-const NONE: u64 = UNASSIGNED as u64;
+const BITSELECT: u64 = 0x7B_7B_7B_7B_14_00_00_00 + NOTHING as u64; // v128 v128 v128 -> v128
+
+const TEST: u64 = 0x7F_00_00_7B_15_00_00_00 + NOTHING as u64; // v128 -> i32
+
+const SHIFT: u64 = 0x7B_00_7B_7F_16_00_00_00 + NOTHING as u64; // v128 i32 -> v128
+
+const FLOATS: u64 = 0x17_00_00_00 + FLOAT as u64;
+
+const NONE: u64 = 0x17_00_00_00 + UNASSIGNED as u64;
 
 // No arm has two neighbours: the even numbers stand in one and the odd ones in another. Neighbours would be compiled to a search by
 // comparisons, and numbers that stand alone are compiled to a table in memory.
@@ -98,14 +106,15 @@ pub(crate) fn entry(id: u32) -> u64
     ensures { λ r. ⌜ r ≡ entryOf (rowOf id) ⌝ }
 {
     match id {
-        0x1A => BARE,
-        0x0B => BARE,
-        0x20 | 0x22 => LOCAL,
-        0x21 => LOCAL,
+        0x0B => END,
+        0x1A => DROP,
+        0x20 => LOCAL_GET,
+        0x21 => LOCAL_SET,
+        0x22 => LOCAL_TEE,
         0x41 => I32_CONST,
         0x42 => I64_CONST,
-        0x6A => I32_BINARY,
-        0x6B => I32_BINARY,
+        0x6A => I32_ADD,
+        0x6B => I32_SUB,
         0x107 => LOAD_8,
         0x108 => LOAD_16,
         0x15C => LOAD_32,

@@ -1,0 +1,28 @@
+-- The limits of a strip, each under its name (01, "The strip file", "Values and shapes", "Instructions"). No other file writes one as a numeral.
+use Prim.Native.Nat.{ℕ}
+
+-- a file's bytes
+abbrev pub fileLimit : ℕ
+fileLimit = 65536
+
+-- a lent memory's bytes
+abbrev pub memoryLimit : ℕ
+memoryLimit = 65536
+
+abbrev pub parameterLimit : ℕ
+parameterLimit = 16
+
+-- further locals
+abbrev pub localLimit : ℕ
+localLimit = 16
+
+abbrev pub resultLimit : ℕ
+resultLimit = 4
+
+-- values on the operand stack
+abbrev pub stackLimit : ℕ
+stackLimit = 64
+
+-- the bytes that a value takes on the stack, in arguments and in results
+abbrev pub slot : ℕ
+slot = 16

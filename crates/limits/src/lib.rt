@@ -1,0 +1,20 @@
+// The limits of a strip, each under its name (document 01, "The strip file", "Values and shapes", "Instructions").
+
+// A file's bytes.
+pub const FILE: usize = 65536;
+
+// A lent memory's bytes.
+pub const MEMORY: usize = 65536;
+
+pub const PARAMETERS: usize = 16;
+
+// Further locals.
+pub const LOCALS: usize = 16;
+
+pub const RESULTS: usize = 4;
+
+// Values on the operand stack.
+pub const STACK: usize = 64;
+
+// The bytes that a value takes on the stack, in arguments and in results.
+pub const SLOT: usize = 16;

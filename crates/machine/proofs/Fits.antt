@@ -1,0 +1,272 @@
+-- Where the standard's machine is not stuck, the code has what it asks before an instruction: enough values, a slot for the local, and the bounds that tell
+-- a trap from going on. Assumes nothing.
+use Prim.Native.Nat.{ℕ, suc, _+_, _*_, _-_, _^_, _≤_, _<_, max, zero-le}
+use mathlib.Core.Path.{_≡_, refl, ap, ap₂, sym, _∙_, subst}
+use mathlib.Core.Bool.{Bool, true, false, cond}
+use mathlib.Core.List.{List, [], _∷_, reverse}
+use native.Mathlib.Omega.{arith}
+use lib.Dec.{leb, ltb}
+use lib.ListN.{length, getD, take, set}
+use borrow.Author.Tests.{le-leb, lt-leb, leb-true, leb-false}
+use Rattle.machine.specs.Memory.{part, padded, stored}
+use mir.Syntax.{Width, w8, w16, w32, w64, w128}
+use Rattle.lane.specs.Vector.{le}
+use Rattle.lane.specs.Scalar.{Sign}
+use Rattle.lane.specs.Op.{Loadop, Op, Load, LoadLane, Store, StoreLane, Const, Shuffle, Splat, ExtractLane, ReplaceLane, Unary, Binary, Bitselect, Test, Shift, extracted}
+use Rattle.limits.specs.Limits.{slot, stackLimit, parameterLimit, localLimit}
+use Rattle.opcode.specs.Kind.{Kind}
+use Rattle.opcode.specs.Table.{Plain, End, Drop, LocalGet, LocalSet, LocalTee, I32Const, I64Const, I32Add, I32Sub, Code, plain, vector}
+use Rattle.opcode.specs.Immediate.{moved}
+use Rattle.instr.specs.declared.Instr.{Instr}
+use Rattle.machine.specs.Value.{Value, I32, I64, V128}
+use Rattle.machine.specs.Exec.{State, Outcome, goes, done, trap, stuck, push, pushScalar, goOn, access, fits, popI32, popV128, execPlain, execVector, exec}
+use Rattle.machine.specs.Inner.Flat.{slotAt, topOf, low32, reach}
+use Rattle.machine.specs.Inner.Fit.{takenByPlain, takenByOp, takenBy, Slotted, boundsAt, boundsOp, boundsOf}
+use Rattle.machine.specs.declared.access.Bounds.{Bounds}
+use Rattle.machine.specs.declared.access.Bounds.the-variants.{Clear, Past}
+use Rattle.machine.proofs.Laws.Rep.{Rep, low-i32}
+use Rattle.machine.proofs.Laws.Pops.{Holds, Popped, pop-i32, pop-i64, pop-v128, pop-any, pop-scalar, named, same-kind}
+use Rattle.machine.proofs.Laws.Update.{all-held}
+
+-- ---- what a push leads to
+
+on-not-trap : (vs ws : List Value) (m : List ℕ) (a n : ℕ) → goOn vs ws m ≡ trap a n → ⊥
+unfolding goOn
+on-not-trap vs ws m a n e = at (ltb stackLimit (length vs)) e
+  where
+    at : (t : Bool) → cond t stuck (goes (record { stack = vs; locals = ws; memory = m })) ≡ trap a n → ⊥
+    at true q = let z : _≡_ {A = ℕ} 0 1 = cc in omega arith
+    at false q = let z : _≡_ {A = ℕ} 0 1 = cc in omega arith
+
+scalar-not-trap : (w : Width) (c : State) (vs : List Value) (x a n : ℕ) → pushScalar w c vs x ≡ trap a n → ⊥
+scalar-not-trap w8 c vs x a n e = on-not-trap (I32 x ∷ vs) (c .locals) (c .memory) a n e
+scalar-not-trap w16 c vs x a n e = on-not-trap (I32 x ∷ vs) (c .locals) (c .memory) a n e
+scalar-not-trap w32 c vs x a n e = on-not-trap (I32 x ∷ vs) (c .locals) (c .memory) a n e
+scalar-not-trap w64 c vs x a n e = on-not-trap (I64 x ∷ vs) (c .locals) (c .memory) a n e
+scalar-not-trap w128 c vs x a n e = let z : _≡_ {A = ℕ} 0 1 = cc in omega arith
+
+-- ---- an access
+
+-- p is where it goes on to
+pub record Within (c : State) (at n : ℕ) (p o : Outcome) : Type 0 where
+  pub clear : boundsAt at n (length (c .memory)) ≡ Clear
+  pub next : p ≡ o
+
+pub data Access (c : State) (at n : ℕ) (p o : Outcome) : Type 0 where
+  within : Within c at n p o → Access c at n p o
+  past : length (c .memory) < at + n → trap at n ≡ o → Access c at n p o
+
+accessed : (c : State) (at n : ℕ) (p o : Outcome) → access c at n p ≡ o → Access c at n p o
+unfolding access
+accessed c at n p o e = go (leb (at + n) (length (c .memory))) refl e
+  where
+    go : (t : Bool) → leb (at + n) (length (c .memory)) ≡ t → cond t p (trap at n) ≡ o → Access c at n p o
+    go true q e = within (record { clear = ap (λ (t : Bool). cond t Clear (Past (max at (length (c .memory))))) q; next = e })
+    go false q e = past (leb-false (at + n) (length (c .memory)) q) e
+
+-- where it goes on, it is clear
+goes-clear : (c : State) (at n : ℕ) (p : Outcome) (σ : State) → Access c at n p (goes σ) → boundsAt at n (length (c .memory)) ≡ Clear
+goes-clear c at n p σ (within w) = w .clear
+goes-clear c at n p σ (past l e) = absurd (let z : _≡_ {A = ℕ} 0 1 = cc in omega arith)
+
+pub record Beyond (b : Bounds) (len a k : ℕ) : Type 0 where
+  pub bounds : b ≡ Past (max a len)
+  pub outside : len < a + k
+
+-- where it traps, it is past the end
+traps-past : (c : State) (at n : ℕ) (p : Outcome) (a k : ℕ) → (p ≡ trap a k → ⊥) → Access c at n p (trap a k) → Beyond (boundsAt at n (length (c .memory))) (length (c .memory)) a k
+traps-past c at n p a k never (within w) = absurd (never (w .next))
+traps-past c at n p a k never (past l e) =
+    let ea : at ≡ a = cc in let en : n ≡ k = cc in
+    record {
+      bounds = ap (λ (t : Bool). cond t Clear (Past (max at (length (c .memory))))) (lt-leb (at + n) (length (c .memory)) l) ∙ ap (λ (x : ℕ). Past (max x (length (c .memory)))) ea;
+      outside = omega arith;
+    }
+
+module _ (rs : List Kind) (i : Instr) (σ : State) (st : List ℕ) (d : ℕ) (ls m : List ℕ) (rep : Rep σ st d ls m) where
+  -- ---- enough values, and a slot for the local
+  module _ (o : Outcome) (moves : o ≡ stuck → ⊥) where
+    pub slotted : (p : Plain) → execPlain rs p i σ ≡ o → Slotted p i
+    slotted End e = tt
+    slotted Drop e = tt
+    slotted LocalGet e = omega (arith, named st o moves σ (i .index) _ e .declared, rep .few)
+    slotted LocalSet e = omega (arith, named st o moves σ (i .index) _ (pop-any st o moves (σ .stack) _ (all-held rep) e .next) .declared, rep .few)
+    slotted LocalTee e = omega (arith, named st o moves σ (i .index) _ (pop-any st o moves (σ .stack) _ (all-held rep) e .next) .declared, rep .few)
+    slotted I32Const e = tt
+    slotted I64Const e = tt
+    slotted I32Add e = tt
+    slotted I32Sub e = tt
+
+    enough-plain : (p : Plain) → execPlain rs p i σ ≡ o → takenByPlain p ≤ d
+    enough-plain End e = zero-le
+    enough-plain Drop e = omega (arith, pop-any st o moves (σ .stack) _ (all-held rep) e .long, rep .depth)
+    enough-plain LocalGet e = zero-le
+    enough-plain LocalSet e = omega (arith, pop-any st o moves (σ .stack) _ (all-held rep) e .long, rep .depth)
+    enough-plain LocalTee e = omega (arith, pop-any st o moves (σ .stack) _ (all-held rep) e .long, rep .depth)
+    enough-plain I32Const e = zero-le
+    enough-plain I64Const e = zero-le
+    enough-plain I32Add e = let p = pop-i32 st o moves (σ .stack) _ (all-held rep) e in omega (arith, p .long, pop-i32 st o moves (p .rest) _ (p .under) (p .next) .long, rep .depth)
+    enough-plain I32Sub e = let p = pop-i32 st o moves (σ .stack) _ (all-held rep) e in omega (arith, p .long, pop-i32 st o moves (p .rest) _ (p .under) (p .next) .long, rep .depth)
+
+    enough-vector : (v : Op) → execVector v i σ ≡ o → takenByOp v ≤ d
+    enough-vector (Load l) e = omega (arith, pop-i32 st o moves (σ .stack) _ (all-held rep) e .long, rep .depth)
+    enough-vector (LoadLane w) e = let p = pop-v128 st o moves (σ .stack) _ (all-held rep) e in omega (arith, p .long, pop-i32 st o moves (p .rest) _ (p .under) (p .next) .long, rep .depth)
+    enough-vector Store e = let p = pop-v128 st o moves (σ .stack) _ (all-held rep) e in omega (arith, p .long, pop-i32 st o moves (p .rest) _ (p .under) (p .next) .long, rep .depth)
+    enough-vector (StoreLane w) e = let p = pop-v128 st o moves (σ .stack) _ (all-held rep) e in omega (arith, p .long, pop-i32 st o moves (p .rest) _ (p .under) (p .next) .long, rep .depth)
+    enough-vector Const e = zero-le
+    enough-vector Shuffle e = let p = pop-v128 st o moves (σ .stack) _ (all-held rep) e in omega (arith, p .long, pop-v128 st o moves (p .rest) _ (p .under) (p .next) .long, rep .depth)
+    enough-vector (Splat w) e = omega (arith, pop-scalar st o moves w (σ .stack) _ (all-held rep) e .long, rep .depth)
+    enough-vector (ExtractLane s w) e = omega (arith, pop-v128 st o moves (σ .stack) _ (all-held rep) e .long, rep .depth)
+    enough-vector (ReplaceLane w) e = let p = pop-scalar st o moves w (σ .stack) _ (all-held rep) e in omega (arith, p .long, pop-v128 st o moves (p .rest) _ (p .under) (p .next) .long, rep .depth)
+    enough-vector (Unary f) e = omega (arith, pop-v128 st o moves (σ .stack) _ (all-held rep) e .long, rep .depth)
+    enough-vector (Binary f) e = let p = pop-v128 st o moves (σ .stack) _ (all-held rep) e in omega (arith, p .long, pop-v128 st o moves (p .rest) _ (p .under) (p .next) .long, rep .depth)
+    enough-vector Bitselect e =
+        let p = pop-v128 st o moves (σ .stack) _ (all-held rep) e in let q = pop-v128 st o moves (p .rest) _ (p .under) (p .next) in
+        omega (arith, p .long, q .long, pop-v128 st o moves (q .rest) _ (q .under) (q .next) .long, rep .depth)
+    enough-vector (Test f) e = omega (arith, pop-v128 st o moves (σ .stack) _ (all-held rep) e .long, rep .depth)
+    enough-vector (Shift f) e = let p = pop-i32 st o moves (σ .stack) _ (all-held rep) e in omega (arith, p .long, pop-v128 st o moves (p .rest) _ (p .under) (p .next) .long, rep .depth)
+
+    pub enough : (c : Code) → exec rs c i σ ≡ o → takenBy c ≤ d
+    enough (plain p) e = enough-plain p e
+    enough (vector v) e = enough-vector v e
+
+    -- ---- the address of an access is the one in the slot
+    address : (j n a : ℕ) → d - j ≡ n → slotAt st n ≡ le slot a → a < 2 ^ 32 → reach i (topOf st d j) ≡ a + i .offset
+    address j n a e f h = ap (λ (x : ℕ). x + i .offset) (ap low32 (ap (slotAt st) e ∙ f) ∙ low-i32 a h)
+
+    pub record Reaches (v : Op) : Type 0 where
+      pub at : ℕ
+      pub next : Outcome
+      pub access : Access σ at (moved v) next o
+      pub bounds : boundsOp v i st d (length m) ≡ boundsAt at (moved v) (length (σ .memory))
+      pub goes-on : (a k : ℕ) → next ≡ trap a k → ⊥
+
+    reach-load : (l : Loadop) → execVector (Load l) i σ ≡ o → Reaches (Load l)
+    reach-load l e =
+        let p = pop-i32 st o moves (σ .stack) _ (all-held rep) e in
+        record {
+          at = p .value + i .offset;
+          next = _;
+          access = accessed σ (p .value + i .offset) (moved (Load l)) _ o (p .next);
+          bounds = ap₂ (λ (x n : ℕ). boundsAt x (moved (Load l)) n) (address 1 (length (p .rest)) (p .value) (omega (arith, rep .depth, p .long)) (p .at) (p .ok)) (ap length (sym (rep .memory)));
+          goes-on = λ a k. on-not-trap _ (σ .locals) (σ .memory) a k;
+        }
+
+    -- a vector above the address
+    reach-under : (v : Op) (next : List ℕ → ℕ → List Value → Outcome) → ((x : List ℕ) (a : ℕ) (vs : List Value) (b k : ℕ) → next x a vs ≡ trap b k → ⊥)
+        → boundsOp v i st d (length m) ≡ boundsAt (reach i (topOf st d 2)) (moved v) (length m)
+        → popV128 (σ .stack) (λ x vs. popI32 vs (λ a vs. access σ (a + i .offset) (moved v) (next x a vs))) ≡ o → Reaches v
+    reach-under v next never b e =
+        let p = pop-v128 st o moves (σ .stack) _ (all-held rep) e in let q = pop-i32 st o moves (p .rest) _ (p .under) (p .next) in
+        record {
+          at = q .value + i .offset;
+          next = next (p .value) (q .value) (q .rest);
+          access = accessed σ (q .value + i .offset) (moved v) _ o (q .next);
+          bounds = b ∙ ap₂ (λ (x n : ℕ). boundsAt x (moved v) n) (address 2 (length (q .rest)) (q .value) (omega (arith, rep .depth, p .long, q .long)) (q .at) (q .ok)) (ap length (sym (rep .memory)));
+          goes-on = never (p .value) (q .value) (q .rest);
+        }
+
+    reach-lane : (w : Width) → execVector (LoadLane w) i σ ≡ o → Reaches (LoadLane w)
+    reach-lane w e = reach-under (LoadLane w) _ (λ x a vs b k. on-not-trap _ (σ .locals) (σ .memory) b k) refl e
+
+    reach-store : execVector Store i σ ≡ o → Reaches Store
+    reach-store e = reach-under Store _ (λ x a vs b k. on-not-trap vs (σ .locals) _ b k) refl e
+
+    reach-store-lane : (w : Width) → execVector (StoreLane w) i σ ≡ o → Reaches (StoreLane w)
+    reach-store-lane w e = reach-under (StoreLane w) _ (λ x a vs b k. on-not-trap vs (σ .locals) _ b k) refl e
+
+  -- ---- going on is clear
+  module _ (σ′ : State) where
+    moves-on : goes σ′ ≡ stuck → ⊥
+    moves-on e = let z : _≡_ {A = ℕ} 0 1 = cc in omega arith
+
+    clear-by : (v : Op) → Reaches (goes σ′) moves-on v → boundsOp v i st d (length m) ≡ Clear
+    clear-by v r = r .bounds ∙ goes-clear σ (r .at) (moved v) (r .next) σ′ (r .access)
+
+    clear-op : (v : Op) → execVector v i σ ≡ goes σ′ → boundsOp v i st d (length m) ≡ Clear
+    clear-op (Load l) e = clear-by (Load l) (reach-load (goes σ′) moves-on l e)
+    clear-op (LoadLane w) e = clear-by (LoadLane w) (reach-lane (goes σ′) moves-on w e)
+    clear-op Store e = clear-by Store (reach-store (goes σ′) moves-on e)
+    clear-op (StoreLane w) e = clear-by (StoreLane w) (reach-store-lane (goes σ′) moves-on w e)
+    clear-op Const e = refl
+    clear-op Shuffle e = refl
+    clear-op (Splat w) e = refl
+    clear-op (ExtractLane s w) e = refl
+    clear-op (ReplaceLane w) e = refl
+    clear-op (Unary f) e = refl
+    clear-op (Binary f) e = refl
+    clear-op Bitselect e = refl
+    clear-op (Test f) e = refl
+    clear-op (Shift f) e = refl
+
+    pub clear : (c : Code) → exec rs c i σ ≡ goes σ′ → boundsOf c i st d (length m) ≡ Clear
+    clear (plain p) e = refl
+    clear (vector v) e = clear-op v e
+
+  -- ---- a trap is past the end
+  module _ (a k : ℕ) where
+    traps-on : trap a k ≡ stuck → ⊥
+    traps-on e = let z : _≡_ {A = ℕ} 0 1 = cc in omega arith
+
+    past-by : (v : Op) → Reaches (trap a k) traps-on v → Beyond (boundsOp v i st d (length m)) (length (σ .memory)) a k
+    past-by v r =
+        let b = traps-past σ (r .at) (moved v) (r .next) a k (r .goes-on a k) (r .access) in
+        record { bounds = r .bounds ∙ b .bounds; outside = b .outside }
+
+    not-plain : (p : Plain) → execPlain rs p i σ ≡ trap a k → ⊥
+    not-plain End e = at (fits (σ .stack) (reverse rs)) e
+      where
+        at : (t : Bool) → cond t (done (reverse (σ .stack))) stuck ≡ trap a k → ⊥
+        at true q = let z : _≡_ {A = ℕ} 0 1 = cc in omega arith
+        at false q = traps-on (sym q)
+    not-plain Drop e = on-not-trap _ (σ .locals) (σ .memory) a k (pop-any st (trap a k) traps-on (σ .stack) _ (all-held rep) e .next)
+    not-plain LocalGet e = on-not-trap _ (σ .locals) (σ .memory) a k (named st (trap a k) traps-on σ (i .index) _ e .next)
+    not-plain LocalSet e =
+        let p = pop-any st (trap a k) traps-on (σ .stack) _ (all-held rep) e in let n = named st (trap a k) traps-on σ (i .index) _ (p .next) in
+        on-not-trap (p .rest) _ (σ .memory) a k (same-kind st (trap a k) traps-on (p .value) _ _ (n .next) .1)
+    not-plain LocalTee e =
+        let p = pop-any st (trap a k) traps-on (σ .stack) _ (all-held rep) e in let n = named st (trap a k) traps-on σ (i .index) _ (p .next) in
+        on-not-trap (p .value ∷ p .rest) _ (σ .memory) a k (same-kind st (trap a k) traps-on (p .value) _ _ (n .next) .1)
+    not-plain I32Const e = on-not-trap _ (σ .locals) (σ .memory) a k e
+    not-plain I64Const e = on-not-trap _ (σ .locals) (σ .memory) a k e
+    not-plain I32Add e =
+        let p = pop-i32 st (trap a k) traps-on (σ .stack) _ (all-held rep) e in
+        on-not-trap _ (σ .locals) (σ .memory) a k (pop-i32 st (trap a k) traps-on (p .rest) _ (p .under) (p .next) .next)
+    not-plain I32Sub e =
+        let p = pop-i32 st (trap a k) traps-on (σ .stack) _ (all-held rep) e in
+        on-not-trap _ (σ .locals) (σ .memory) a k (pop-i32 st (trap a k) traps-on (p .rest) _ (p .under) (p .next) .next)
+
+    -- one vector, or two
+    not-one : (f : List ℕ → List Value → Outcome) → ((x : List ℕ) (vs : List Value) → f x vs ≡ trap a k → ⊥) → popV128 (σ .stack) f ≡ trap a k → ⊥
+    not-one f never e = let p = pop-v128 st (trap a k) traps-on (σ .stack) f (all-held rep) e in never (p .value) (p .rest) (p .next)
+
+    not-two : (f : List ℕ → List ℕ → List Value → Outcome) → ((x y : List ℕ) (vs : List Value) → f x y vs ≡ trap a k → ⊥) → popV128 (σ .stack) (λ y vs. popV128 vs (λ x vs. f x y vs)) ≡ trap a k → ⊥
+    not-two f never e =
+        let p = pop-v128 st (trap a k) traps-on (σ .stack) _ (all-held rep) e in let q = pop-v128 st (trap a k) traps-on (p .rest) _ (p .under) (p .next) in
+        never (q .value) (p .value) (q .rest) (q .next)
+
+    pub past-op : (v : Op) → execVector v i σ ≡ trap a k → Beyond (boundsOp v i st d (length m)) (length (σ .memory)) a k
+    past-op (Load l) e = past-by (Load l) (reach-load (trap a k) traps-on l e)
+    past-op (LoadLane w) e = past-by (LoadLane w) (reach-lane (trap a k) traps-on w e)
+    past-op Store e = past-by Store (reach-store (trap a k) traps-on e)
+    past-op (StoreLane w) e = past-by (StoreLane w) (reach-store-lane (trap a k) traps-on w e)
+    past-op Const e = absurd (on-not-trap _ (σ .locals) (σ .memory) a k e)
+    past-op Shuffle e = absurd (not-two _ (λ x y vs. on-not-trap _ (σ .locals) (σ .memory) a k) e)
+    past-op (Splat w) e = absurd (on-not-trap _ (σ .locals) (σ .memory) a k (pop-scalar st (trap a k) traps-on w (σ .stack) _ (all-held rep) e .next))
+    past-op (ExtractLane s w) e = absurd (not-one _ (λ x vs. scalar-not-trap w σ vs (extracted s w x (i .lane)) a k) e)
+    past-op (ReplaceLane w) e =
+        let p = pop-scalar st (trap a k) traps-on w (σ .stack) _ (all-held rep) e in
+        absurd (on-not-trap _ (σ .locals) (σ .memory) a k (pop-v128 st (trap a k) traps-on (p .rest) _ (p .under) (p .next) .next))
+    past-op (Unary f) e = absurd (not-one _ (λ x vs. on-not-trap _ (σ .locals) (σ .memory) a k) e)
+    past-op (Binary f) e = absurd (not-two _ (λ x y vs. on-not-trap _ (σ .locals) (σ .memory) a k) e)
+    past-op Bitselect e =
+        let p = pop-v128 st (trap a k) traps-on (σ .stack) _ (all-held rep) e in let q = pop-v128 st (trap a k) traps-on (p .rest) _ (p .under) (p .next) in
+        absurd (on-not-trap _ (σ .locals) (σ .memory) a k (pop-v128 st (trap a k) traps-on (q .rest) _ (q .under) (q .next) .next))
+    past-op (Test f) e = absurd (not-one _ (λ x vs. on-not-trap _ (σ .locals) (σ .memory) a k) e)
+    past-op (Shift f) e =
+        let p = pop-i32 st (trap a k) traps-on (σ .stack) _ (all-held rep) e in
+        absurd (on-not-trap _ (σ .locals) (σ .memory) a k (pop-v128 st (trap a k) traps-on (p .rest) _ (p .under) (p .next) .next))
+
+    pub past-end : (c : Code) → exec rs c i σ ≡ trap a k → Beyond (boundsOf c i st d (length m)) (length (σ .memory)) a k
+    past-end (plain p) e = absurd (not-plain p e)
+    past-end (vector v) e = past-op v e

@@ -1,0 +1,112 @@
+-- A group's number tells what the instruction asks and does: what is shown of each code of the group holds of this one. Assumes nothing.
+use Prim.Native.Nat.{ℕ, _+_, _≤_, max}
+use mathlib.Core.Path.{_≡_, refl, ap, sym, _∙_, subst}
+use mathlib.Core.Bool.{Bool, true, false, cond}
+use mathlib.Core.List.{List, map, [], _∷_}
+use native.Mathlib.Omega.{arith}
+use lib.Dec.{T, leb}
+use lib.ListN.{length}
+use borrow.Author.Tests.{leb-true}
+use mir.Syntax.{Width}
+use Rattle.lane.specs.Op.{Op, Load, LoadLane, Store, StoreLane, Const, Shuffle, Splat, ExtractLane, ReplaceLane, Unary, Binary, Bitselect, Test, Shift}
+use Rattle.limits.specs.Limits.{stackLimit}
+use Rattle.opcode.specs.Table.{Plain, End, Drop, LocalGet, LocalSet, LocalTee, I32Const, I64Const, I32Add, I32Sub, Code, plain, vector, carried}
+use Rattle.opcode.specs.Number.{rowOf, groupOf, groupOfCode}
+use Rattle.opcode.specs.Lists.{_to_}
+use Rattle.opcode.proofs.Groups.{Each, by-group}
+use Rattle.opcode.proofs.Arms.{anyKey}
+use Rattle.instr.specs.declared.Instr.{Instr}
+use Rattle.machine.specs.Inner.Flat.{flat}
+use Rattle.machine.specs.Inner.Fit.{Fit, Fits, Named, Ready, Did, DidBy, boundsAt, boundsOf}
+use Rattle.machine.specs.declared.access.Bounds.{Bounds}
+use Rattle.machine.specs.declared.access.Bounds.the-variants.{Clear, Past}
+
+-- an access that is clear lies within the memory
+pub within : (at n len : ℕ) → boundsAt at n len ≡ Clear → at + n ≤ len
+within at n len e = go (leb (at + n) len) refl e
+  where
+    go : (t : Bool) → leb (at + n) len ≡ t → cond t Clear (Past (max at len)) ≡ Clear → at + n ≤ len
+    go true q e = leb-true (at + n) len q
+    go false q e = let wrong : _≡_ {A = ℕ} 0 1 = cc in omega arith
+
+-- the keys of arms of one number each
+abbrev pub alone : List ℕ → List (List ℕ)
+alone = map (λ k. k ∷ [])
+
+-- past the arms of 1 to 22 is `end`
+pub only-end : (c : Code) → (T (anyKey (alone (1 to 22)) (groupOfCode c)) → ⊥) → c ≡ plain End
+only-end (plain End) h = refl
+only-end (plain Drop) h = absurd (h tt)
+only-end (plain LocalGet) h = absurd (h tt)
+only-end (plain LocalSet) h = absurd (h tt)
+only-end (plain LocalTee) h = absurd (h tt)
+only-end (plain I32Const) h = absurd (h tt)
+only-end (plain I64Const) h = absurd (h tt)
+only-end (plain I32Add) h = absurd (h tt)
+only-end (plain I32Sub) h = absurd (h tt)
+only-end (vector (Load l)) h = absurd (h tt)
+only-end (vector (LoadLane w)) h = absurd (h tt)
+only-end (vector Store) h = absurd (h tt)
+only-end (vector (StoreLane w)) h = absurd (h tt)
+only-end (vector Const) h = absurd (h tt)
+only-end (vector Shuffle) h = absurd (h tt)
+only-end (vector (Splat w)) h = absurd (h tt)
+only-end (vector (ExtractLane s w)) h = absurd (h tt)
+only-end (vector (ReplaceLane w)) h = absurd (h tt)
+only-end (vector (Unary o)) h = absurd (h tt)
+only-end (vector (Binary o)) h = absurd (h tt)
+only-end (vector Bitselect) h = absurd (h tt)
+only-end (vector (Test o)) h = absurd (h tt)
+only-end (vector (Shift o)) h = absurd (h tt)
+
+-- past the arms of 9 to 12 is what leaves the memory alone
+pub untouched : (i : Instr) (st : List ℕ) (d len : ℕ) (c : Code) → (T (anyKey (alone (9 to 12)) (groupOfCode c)) → ⊥) → Clear ≡ boundsOf c i st d len
+untouched i st d len (plain p) h = refl
+untouched i st d len (vector (Load l)) h = absurd (h tt)
+untouched i st d len (vector (LoadLane w)) h = absurd (h tt)
+untouched i st d len (vector Store) h = absurd (h tt)
+untouched i st d len (vector (StoreLane w)) h = absurd (h tt)
+untouched i st d len (vector Const) h = refl
+untouched i st d len (vector Shuffle) h = refl
+untouched i st d len (vector (Splat w)) h = refl
+untouched i st d len (vector (ExtractLane s w)) h = refl
+untouched i st d len (vector (ReplaceLane w)) h = refl
+untouched i st d len (vector (Unary o)) h = refl
+untouched i st d len (vector (Binary o)) h = refl
+untouched i st d len (vector Bitselect) h = refl
+untouched i st d len (vector (Test o)) h = refl
+untouched i st d len (vector (Shift o)) h = refl
+
+module _ (id : ℕ) {g : ℕ} (group : g ≡ groupOf (rowOf id)) where
+  pub group-of : (c : Code) → rowOf id ≡ carried c → g ≡ groupOfCode c
+  group-of c row = group ∙ ap groupOf row
+
+  -- of every code that the number may have
+  pub each : (P : Code → Type 0) {k : ℕ} → g ≡ k → Each (λ c. rowOf id ≡ carried c → P c) k → (c : Code) → rowOf id ≡ carried c → P c
+  each P {k} at f c row = by-group (λ c. rowOf id ≡ carried c → P c) k f c (sym (group-of c row) ∙ at) row
+
+  -- of the code that it has
+  pub fitting : {i : Instr} {st : List ℕ} {d k : ℕ} {X : Type 0} → Fits id i st d → g ≡ k → Each (λ c. rowOf id ≡ carried c → Fit c i st d → X) k → X
+  fitting {i} {st} {d} {X = X} r at f = each (λ c. Fit c i st d → X) at f (r .code) (r .row) (r .fit)
+
+-- a code's part of Ready
+pub record Asks (c : Code) (i : Instr) (st : List ℕ) (d : ℕ) (ls m : List ℕ) : Type 0 where
+  pub fit : Fit c i st d
+  pub named : Named c i
+  pub room : flat c i st d ls m .depth ≤ stackLimit
+  pub clear : boundsOf c i st d (length m) ≡ Clear
+
+module _ {id : ℕ} {i : Instr} {st : List ℕ} {d : ℕ} {ls m : List ℕ} (r : Ready id i st d ls m) {g : ℕ} (group : g ≡ groupOf (rowOf id)) where
+  asks : Asks (r .code) i st d ls m
+  asks = record { fit = r .fit; named = r .named; room = r .room; clear = r .clear }
+
+  pub ready : {X : Type 0} {k : ℕ} → g ≡ k → Each (λ c. rowOf id ≡ carried c → Asks c i st d ls m → X) k → X
+  ready {X} at f = each id group (λ c. Asks c i st d ls m → X) at f (r .code) (r .row) asks
+
+  pub did : {k d′ : ℕ} {st′ ls′ m′ : List ℕ} → g ≡ k → Each (λ c. rowOf id ≡ carried c → Asks c i st d ls m → Did (flat c i st d ls m) d′ st′ ls′ m′) k → DidBy id i st d ls m d′ st′ ls′ m′
+  did {k} {d′} {st′} {ls′} {m′} at f =
+      record {
+        does = λ c row.
+            let same : r .code ≡ c = cc (r .row) in
+            each id group (λ c. Asks c i st d ls m → Did (flat c i st d ls m) d′ st′ ls′ m′) at f c row (subst (λ c. Asks c i st d ls m) same asks);
+      }

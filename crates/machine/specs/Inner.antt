@@ -1,0 +1,3 @@
+-- What only contracts inside the project cite; no promise to a user does.
+pub mod Flat
+pub mod Fit

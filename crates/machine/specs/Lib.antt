@@ -1,0 +1,4 @@
+pub mod Value
+pub mod Memory
+pub mod Exec
+pub mod Inner

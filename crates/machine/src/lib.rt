@@ -1,0 +1,11 @@
+// One instruction: what the standard's machine does, over flat bytes.
+mod access;
+mod bytes;
+mod instruction;
+mod slot;
+mod step;
+mod vector;
+
+pub use access::Bounds;
+pub use instruction::bounds;
+pub use instruction::exec;

@@ -1,0 +1,51 @@
+// Slots of sixteen bytes: values of the operand stack and the locals, and the numbers in them.
+ghost use mathlib.Core.Path.{_≡_};
+ghost use Prim.Native.Nat.{_+_, _*_, _≤_, _<_};
+ghost use lib.ListN.{length};
+ghost use Rattle.lane.specs.Vector.{le};
+ghost use Rattle.machine.specs.Inner.Flat.{slotAt, putSlot, topOf, low32, low64};
+use crate::bytes;
+use lane::I32x4;
+use lane::I64x2;
+use lane::V128;
+
+pub(crate) fn get(s: &[u8], n: usize) -> V128
+    requires { ⌜ (n < 64) × (16 * n + 16 ≤ length (now s)) ⌝ }
+    ensures { λ r. ⌜ r .bytes ≡ slotAt (now (s .entry)) n ⌝ }
+{
+    bytes::read(s, 16 * n, 16)
+}
+
+pub(crate) fn put(s: &mut [u8], n: usize, v: V128)
+    requires { ⌜ (n < 64) × (16 * n + 16 ≤ length (now s)) ⌝ }
+    ensures { λ r. ⌜ now (s .exit) ≡ putSlot (now (s .entry)) n (v .bytes) ⌝ }
+{
+    bytes::write(s, 16 * n, v, 16)
+}
+
+// Of the values on the stack, the j-th from the top.
+pub(crate) fn top(stack: &[u8], depth: usize, j: usize) -> V128
+    requires { ⌜ (0 < j) × (j ≤ depth) × (depth ≤ 64) × (length (now stack) ≡ 1024) ⌝ }
+    ensures { λ r. ⌜ r .bytes ≡ topOf (now (stack .entry)) depth j ⌝ }
+{
+    get(stack, depth - j)
+}
+
+pub(crate) fn word(v: V128) -> u32
+    ensures { λ r. ⌜ r ≡ low32 (v .bytes) ⌝ }
+{
+    (I32x4::extract_lane(v, 0).value % 4294967296) as u32
+}
+
+pub(crate) fn long(v: V128) -> u64
+    ensures { λ r. ⌜ r ≡ low64 (v .bytes) ⌝ }
+{
+    I64x2::extract_lane(v, 0).value
+}
+
+// A number's bytes, with zeros behind them.
+pub(crate) fn of_number(x: u64) -> V128
+    ensures { λ r. ⌜ r .bytes ≡ le 16 x ⌝ }
+{
+    I64x2::replace_lane(V128 { bytes: [0u8; 16] }, 0, x).value
+}
