@@ -1,0 +1,18 @@
+-- One answer, and one content of each buffer, for the code that the number has.
+use Prim.Native.Nat.{ℕ}
+use mathlib.Core.Path.{_≡_, sym, _∙_}
+use mathlib.Core.List.{List}
+use Rattle.opcode.specs.Table.{Code, carried}
+use Rattle.opcode.specs.Number.{rowOf}
+use Rattle.instr.specs.declared.Instr.{Instr}
+use Rattle.machine.specs.Inner.Fit.{DidBy, boundsOf}
+use Rattle.machine.specs.declared.access.Bounds.{Bounds}
+
+module _ (id : ℕ) (i : Instr) (st : List ℕ) (d : ℕ) (c : Code) (row : rowOf id ≡ carried c) where
+  pub one-bounds : (len : ℕ) (r r′ : Bounds) → ((c : Code) → rowOf id ≡ carried c → r ≡ boundsOf c i st d len) → ((c : Code) → rowOf id ≡ carried c → r′ ≡ boundsOf c i st d len) → r ≡ r′
+  one-bounds len r r′ p q = p c row ∙ sym (q c row)
+
+  pub one-exec : (ls m : List ℕ) (d₁ d₂ : ℕ) (st₁ st₂ ls₁ ls₂ m₁ m₂ : List ℕ) → DidBy id i st d ls m d₁ st₁ ls₁ m₁ → DidBy id i st d ls m d₂ st₂ ls₂ m₂ → (d₁ ≡ d₂) × (st₁ ≡ st₂) × (ls₁ ≡ ls₂) × (m₁ ≡ m₂)
+  one-exec ls m d₁ d₂ st₁ st₂ ls₁ ls₂ m₁ m₂ p q =
+      let x = p .does c row in let y = q .does c row in
+      (x .depth ∙ sym (y .depth), x .stack ∙ sym (y .stack), x .locals ∙ sym (y .locals), x .memory ∙ sym (y .memory))
