@@ -1,4 +1,10 @@
--- What the steps of decoding and encoding lean on.
+-- For those who call: exactness, round trip, what encoding does not read, bounds, one answer.
+pub mod Stands
+pub mod Encodes
+pub mod Lacking
+pub mod Ranges
+pub mod Unique
+-- What these and the functions' proofs lean on.
 pub mod Classes
 pub mod Items
 pub mod Memory
@@ -9,8 +15,3 @@ pub mod Fields
 pub mod Places
 pub mod Decodes
 pub mod Finds
-pub mod Stands
-pub mod Encodes
-pub mod Lacking
-pub mod Ranges
-pub mod Unique

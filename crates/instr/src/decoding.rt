@@ -1,6 +1,13 @@
 // Decoding: from left to right, each item judged as soon as it is read.
 use crate::Decoded;
 use crate::Instr;
+use crate::immediates::with_bytes;
+use crate::immediates::with_index;
+use crate::immediates::with_lane;
+use crate::immediates::with_lanes;
+use crate::immediates::with_long;
+use crate::immediates::with_memory;
+use crate::immediates::with_word;
 use leb128::Leb;
 ghost use mathlib.Core.Path.{_≡_};
 ghost use Prim.Native.Nat.{_≤_};
@@ -91,7 +98,7 @@ fn opcode_number(s: &[u8], p: usize, first: u8) -> Leb
     }
 }
 
-// What follows the opcode. It is called once, and each function below once by it, so that all become one.
+// What follows the opcode. One caller, so that it becomes part of it; MEMORY and MEMORY_LANE share an arm for the same reason.
 fn body(s: &[u8], at: usize, p: usize, first: u8, number: u32) -> Decoded
     requires { ⌜ (at ≤ p) × (p ≤ length (now s)) ⌝ }
     ensures { λ r. ⌜ r ≡ bodyOf (rowAt first number) (now (s .entry)) at p (head first number) ⌝ }
@@ -100,12 +107,12 @@ fn body(s: &[u8], at: usize, p: usize, first: u8, number: u32) -> Decoded
     let class = opcode::immediates(id);
     match class {
         opcode::NOTHING => whole(at, p, first, number, 0, 0, 0, 0, 0, 0, [0; 16]),
-        opcode::INDEX => crate::immediates::with_index(s, at, p, first, number),
-        opcode::WORD => crate::immediates::with_word(s, at, p, first, number),
-        opcode::LONG => crate::immediates::with_long(s, at, p, first, number),
+        opcode::INDEX => with_index(s, at, p, first, number),
+        opcode::WORD => with_word(s, at, p, first, number),
+        opcode::LONG => with_long(s, at, p, first, number),
         opcode::MEMORY | opcode::MEMORY_LANE => {
             let laned = class == opcode::MEMORY_LANE;
-            crate::immediates::with_memory(
+            with_memory(
                 s,
                 at,
                 p,
@@ -116,18 +123,9 @@ fn body(s: &[u8], at: usize, p: usize, first: u8, number: u32) -> Decoded
                 laned,
             )
         }
-        opcode::LANE => crate::immediates::with_lane(
-            s,
-            at,
-            p,
-            first,
-            number,
-            opcode::lanes(id),
-            0,
-            0,
-        ),
-        opcode::BYTES => crate::immediates::with_bytes(s, at, p, first, number),
-        opcode::LANES => crate::immediates::with_lanes(s, at, p, first, number),
+        opcode::LANE => with_lane(s, at, p, first, number, opcode::lanes(id), 0, 0),
+        opcode::BYTES => with_bytes(s, at, p, first, number),
+        opcode::LANES => with_lanes(s, at, p, first, number),
         opcode::FLOAT => refused(card::FLOAT, at),
         _ => refused(card::OPCODE, at),
     }

@@ -1,5 +1,7 @@
 // Decoding what follows the opcode: one function for each class of immediates. `at` is the instruction's place, `p` that of its first immediate.
 use crate::Decoded;
+use crate::decoding::refused;
+use crate::decoding::whole;
 use leb128::Leb;
 ghost use mathlib.Core.Path.{_≡_};
 ghost use Prim.Native.Nat.{_+_, _≤_};
@@ -14,21 +16,9 @@ pub(crate) fn with_index(s: &[u8], at: usize, p: usize, first: u8, number: u32) 
     ensures { λ r. ⌜ r ≡ immediatesAt Class.index 0 0 (now (s .entry)) at p (head first number) ⌝ }
 {
     match leb128::read_u32(s, p) {
-        Leb::Val(v, n) => crate::decoding::whole(
-            at,
-            p + n,
-            first,
-            number,
-            v as u32,
-            0,
-            0,
-            0,
-            0,
-            0,
-            [0; 16],
-        ),
-        Leb::Short => crate::decoding::refused(card::SHORT, s.len()),
-        Leb::Number => crate::decoding::refused(card::NUMBER, p),
+        Leb::Val(v, n) => whole(at, p + n, first, number, v as u32, 0, 0, 0, 0, 0, [0; 16]),
+        Leb::Short => refused(card::SHORT, s.len()),
+        Leb::Number => refused(card::NUMBER, p),
     }
 }
 
@@ -37,21 +27,9 @@ pub(crate) fn with_word(s: &[u8], at: usize, p: usize, first: u8, number: u32) -
     ensures { λ r. ⌜ r ≡ immediatesAt Class.word 0 0 (now (s .entry)) at p (head first number) ⌝ }
 {
     match leb128::read_s32(s, p) {
-        Leb::Val(v, n) => crate::decoding::whole(
-            at,
-            p + n,
-            first,
-            number,
-            0,
-            v as u32,
-            0,
-            0,
-            0,
-            0,
-            [0; 16],
-        ),
-        Leb::Short => crate::decoding::refused(card::SHORT, s.len()),
-        Leb::Number => crate::decoding::refused(card::NUMBER, p),
+        Leb::Val(v, n) => whole(at, p + n, first, number, 0, v as u32, 0, 0, 0, 0, [0; 16]),
+        Leb::Short => refused(card::SHORT, s.len()),
+        Leb::Number => refused(card::NUMBER, p),
     }
 }
 
@@ -60,21 +38,9 @@ pub(crate) fn with_long(s: &[u8], at: usize, p: usize, first: u8, number: u32) -
     ensures { λ r. ⌜ r ≡ immediatesAt Class.long 0 0 (now (s .entry)) at p (head first number) ⌝ }
 {
     match leb128::read_s64(s, p) {
-        Leb::Val(v, n) => crate::decoding::whole(
-            at,
-            p + n,
-            first,
-            number,
-            0,
-            0,
-            v,
-            0,
-            0,
-            0,
-            [0; 16],
-        ),
-        Leb::Short => crate::decoding::refused(card::SHORT, s.len()),
-        Leb::Number => crate::decoding::refused(card::NUMBER, p),
+        Leb::Val(v, n) => whole(at, p + n, first, number, 0, 0, v, 0, 0, 0, [0; 16]),
+        Leb::Short => refused(card::SHORT, s.len()),
+        Leb::Number => refused(card::NUMBER, p),
     }
 }
 
@@ -95,7 +61,7 @@ pub(crate) fn with_memory(
         Leb::Val(a, n) => {
             let align = a as u32;
             if !crate::exponent_fits(align, moved) {
-                return crate::decoding::refused(card::ALIGN, p);
+                return refused(card::ALIGN, p);
             }
             let q = p + n;
             match leb128::read_u32(s, q) {
@@ -104,27 +70,15 @@ pub(crate) fn with_memory(
                     if laned {
                         with_lane(s, at, q + k, first, number, lanes, align, offset)
                     } else {
-                        crate::decoding::whole(
-                            at,
-                            q + k,
-                            first,
-                            number,
-                            0,
-                            0,
-                            0,
-                            align,
-                            offset,
-                            0,
-                            [0; 16],
-                        )
+                        whole(at, q + k, first, number, 0, 0, 0, align, offset, 0, [0; 16])
                     }
                 }
-                Leb::Short => crate::decoding::refused(card::SHORT, s.len()),
-                Leb::Number => crate::decoding::refused(card::NUMBER, q),
+                Leb::Short => refused(card::SHORT, s.len()),
+                Leb::Number => refused(card::NUMBER, q),
             }
         }
-        Leb::Short => crate::decoding::refused(card::SHORT, s.len()),
-        Leb::Number => crate::decoding::refused(card::NUMBER, p),
+        Leb::Short => refused(card::SHORT, s.len()),
+        Leb::Number => refused(card::NUMBER, p),
     }
 }
 
@@ -143,11 +97,11 @@ pub(crate) fn with_lane(
     ensures { λ r. ⌜ r ≡ laneEnds lanes (now (s .entry)) at p (head first number) align offset ⌝ }
 {
     if s.len() <= p {
-        return crate::decoding::refused(card::SHORT, s.len());
+        return refused(card::SHORT, s.len());
     }
     let lane = s[p];
     if crate::wide(lane) < lanes {
-        crate::decoding::whole(
+        whole(
             at,
             p + 1,
             first,
@@ -161,7 +115,7 @@ pub(crate) fn with_lane(
             [0; 16],
         )
     } else {
-        crate::decoding::refused(card::LANE, p)
+        refused(card::LANE, p)
     }
 }
 
@@ -170,9 +124,9 @@ pub(crate) fn with_bytes(s: &[u8], at: usize, p: usize, first: u8, number: u32) 
     ensures { λ r. ⌜ r ≡ immediatesAt Class.sixteenBytes 0 0 (now (s .entry)) at p (head first number) ⌝ }
 {
     if s.len() - p < 16 {
-        return crate::decoding::refused(card::SHORT, s.len());
+        return refused(card::SHORT, s.len());
     }
-    crate::decoding::whole(at, p + 16, first, number, 0, 0, 0, 0, 0, 0, sixteen(s, p))
+    whole(at, p + 16, first, number, 0, 0, 0, 0, 0, 0, sixteen(s, p))
 }
 
 pub(crate) fn with_lanes(s: &[u8], at: usize, p: usize, first: u8, number: u32) -> Decoded
@@ -182,11 +136,11 @@ pub(crate) fn with_lanes(s: &[u8], at: usize, p: usize, first: u8, number: u32) 
     let k = good_lanes(s, p);
     if k < 16 {
         if p + k < s.len() {
-            return crate::decoding::refused(card::LANE, p + k);
+            return refused(card::LANE, p + k);
         }
-        return crate::decoding::refused(card::SHORT, s.len());
+        return refused(card::SHORT, s.len());
     }
-    crate::decoding::whole(at, p + 16, first, number, 0, 0, 0, 0, 0, 0, sixteen(s, p))
+    whole(at, p + 16, first, number, 0, 0, 0, 0, 0, 0, sixteen(s, p))
 }
 
 // How many of sixteen shuffle indices are below 32, up to the first that is not.
