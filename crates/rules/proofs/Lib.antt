@@ -1,0 +1,9 @@
+pub mod Lists
+pub mod Headers
+pub mod Typings
+pub mod Onward
+pub mod Ranks
+pub mod Events
+pub mod Ends
+pub mod Heads
+pub mod Verdicts

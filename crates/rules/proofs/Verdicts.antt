@@ -1,0 +1,179 @@
+-- Of every strip at most one thing is said: one breach at most, and none of a strip that keeps the rules.
+use Prim.Native.Nat.{ℕ, zero, suc, _+_, _<_}
+use mathlib.Core.Path.{_≡_, refl, ap, ap₂, sym, _∙_, subst}
+use mathlib.Core.List.{List, [], _∷_, _++_, map, append-nil}
+use native.Mathlib.Omega.{arith}
+use lib.ListN.{length}
+use Rattle.card.specs.Card.{DONE, LONG, SHORT, MARK, VERSION, COUNT, KIND}
+use Rattle.opcode.specs.Kind.{Kind, kindByte}
+use Rattle.rules.specs.Header.{Header, Few, Declares}
+use Rattle.rules.specs.Strip.{Valid, Reaches}
+use Rattle.rules.specs.Breach.{Sized, front, Refused, Breach, long, stub, unmarked, other-version, parameters, further, results, kind, kinds-short, short, opcode, float, number, lane, align, local, operand, deep, result, trailing, Says, valid, breach}
+use Rattle.rules.proofs.Ranks.{Stop, stop-once}
+use Rattle.rules.proofs.Headers.{declares-once}
+use Rattle.rules.proofs.Onward.{declared}
+use Rattle.rules.proofs.Events.{Asked, unread, undeclared, missing, too-deep, other-results, followed, ends-well}
+use Rattle.rules.proofs.Ends.{Ended, codeAt, placeAt, ended-once}
+use Rattle.rules.proofs.Heads.{NoKind, none-left, other, kinds-part, HeadAsked, too-long, a-stub, no-mark, no-version, many-parameters, many-further, many-results, bad-kinds, whole-header}
+
+-- code and place of a rank of the header
+abbrev headCode : ℕ → ℕ
+headCode zero = LONG
+headCode (suc zero) = SHORT
+headCode (suc (suc zero)) = MARK
+headCode (suc (suc (suc zero))) = VERSION
+headCode (suc (suc (suc (suc k)))) = COUNT
+
+abbrev headPlace : List ℕ → ℕ → ℕ
+headPlace s zero = 0
+headPlace s (suc zero) = length s
+headPlace s (suc (suc zero)) = 0
+headPlace s (suc (suc (suc zero))) = 3
+headPlace s (suc (suc (suc (suc k)))) = 5 + k
+
+abbrev kindCode : List ℕ → ℕ
+kindCode [] = SHORT
+kindCode (b ∷ t) = KIND
+
+abbrev kindPlace : List ℕ → List Kind → List ℕ → ℕ
+kindPlace s ks [] = length s
+kindPlace s ks (b ∷ t) = 8 + length ks
+
+record KindEnd (s : List ℕ) (code place : ℕ) : Type 0 where
+  sized : Sized s
+  p : ℕ
+  l : ℕ
+  r : ℕ
+  ks : List Kind
+  t : List ℕ
+  here : s ≡ front ++ p ∷ l ∷ r ∷ map kindByte ks ++ t
+  few : Few p l r
+  no-kind : NoKind t
+  missing-some : length ks < p + l + r
+  code-is : code ≡ kindCode t
+  place-is : place ≡ kindPlace s ks t
+
+kind-end-stop : {s : List ℕ} {c l : ℕ} → KindEnd s c l → Stop (HeadAsked s) 7
+kind-end-stop {s} k = bad-kinds s (k .sized) (k .p) (k .l) (k .r) (k .ks) (k .t) (k .here) (k .few) (k .no-kind) (k .missing-some)
+
+kind-end-once : {s : List ℕ} {c l c′ l′ : ℕ} → KindEnd s c l → KindEnd s c′ l′ → (c ≡ c′) × (l ≡ l′)
+kind-end-once {s} a b =
+    let rest : map kindByte (a .ks) ++ a .t ≡ map kindByte (b .ks) ++ b .t = cc (a .here, b .here) in
+    let same = kinds-part (a .ks) (b .ks) (a .t) (b .t) (a .no-kind) (b .no-kind) rest in
+    (a .code-is ∙ ap kindCode (same .1) ∙ sym (b .code-is), a .place-is ∙ ap₂ (kindPlace s) (same .0) (same .1) ∙ sym (b .place-is))
+
+data Verdict (s : List ℕ) (c l : ℕ) : Type 0 where
+  in-head : (k : ℕ) → k < 7 → Stop (HeadAsked s) k → c ≡ headCode k → l ≡ headPlace s k → Verdict s c l
+  in-kinds : KindEnd s c l → Verdict s c l
+  in-body : {h : Header} {p k : ℕ} {κs : List Kind} → Ended s h p κs k → c ≡ codeAt s p k → l ≡ placeAt s p k → Verdict s c l
+
+body-stop : {s : List ℕ} {h : Header} {p k : ℕ} {κs : List Kind} → Ended s h p κs k → Stop (HeadAsked s) 8
+body-stop e = whole-header (declared (e .reached))
+
+verdict-once : {s : List ℕ} {c l c′ l′ : ℕ} → Verdict s c l → Verdict s c′ l′ → (c ≡ c′) × (l ≡ l′)
+verdict-once {s} (in-head j lj a cj pj) (in-head k lk b ck pk) =
+    let same = stop-once a b in (cj ∙ ap headCode same ∙ sym ck, pj ∙ ap (headPlace s) same ∙ sym pk)
+verdict-once (in-head j lj a cj pj) (in-kinds b) = absurd (let same = stop-once a (kind-end-stop b) in let z : ⊥ = omega arith in z)
+verdict-once (in-head j lj a cj pj) (in-body b ck pk) = absurd (let same = stop-once a (body-stop b) in let z : ⊥ = omega arith in z)
+verdict-once (in-kinds a) (in-head k lk b ck pk) = absurd (let same = stop-once (kind-end-stop a) b in let z : ⊥ = omega arith in z)
+verdict-once (in-kinds a) (in-kinds b) = kind-end-once a b
+verdict-once (in-kinds a) (in-body b ck pk) = absurd (let same = stop-once (kind-end-stop a) (body-stop b) in let z : ⊥ = omega arith in z)
+verdict-once (in-body a ca pa) (in-head k lk b ck pk) = absurd (let same = stop-once (body-stop a) b in let z : ⊥ = omega arith in z)
+verdict-once (in-body a ca pa) (in-kinds b) = absurd (let same = stop-once (body-stop a) (kind-end-stop b) in let z : ⊥ = omega arith in z)
+verdict-once {s} (in-body {h = h} a ca pa) (in-body {h = h′} {p = q} {k = k} {κs = λs} b cb pb) =
+    let same-header : h′ ≡ h = declares-once s h′ h (declared (b .reached)) (declared (a .reached)) in
+    let same = ended-once a (subst (λ (x : Header). Ended s x q λs k) same-header b) in
+    (ca ∙ ap₂ (codeAt s) (same .0) (same .1) ∙ sym cb, pa ∙ ap₂ (placeAt s) (same .0) (same .1) ∙ sym pb)
+
+-- ---- each thing that is said is a verdict
+
+refused : {s : List ℕ} {code place : ℕ} → Refused s (suc code) place → Verdict s (suc code) place
+refused {s} f =
+    in-body (record { reached = f .reached; stop = unread s (f .header) (f .at) (f .stack) (f .code-is); last = λ e. omega arith }) (sym (f .code-is)) (sym (f .place-is))
+
+of-breach : {s : List ℕ} {c l : ℕ} → Breach s c l → Verdict s c l
+of-breach {s} (long g) = in-head 0 (omega arith) (too-long s g) refl refl
+of-breach {s} (stub g) = in-head 1 (omega arith) (a-stub s g) refl refl
+of-breach {s} (unmarked z f) = in-head 2 (omega arith) (no-mark s z f) refl refl
+of-breach {s} (other-version rest z e f) = in-head 3 (omega arith) (no-version s z rest e f) refl refl
+of-breach {s} (parameters p rest z e g) = in-head 4 (omega arith) (many-parameters s z p rest e g) refl refl
+of-breach {s} (further p l rest z e a g) = in-head 5 (omega arith) (many-further s z p l rest e a g) refl refl
+of-breach {s} (results p l r rest z e a b g) = in-head 6 (omega arith) (many-results s z p l r rest e a b g) refl refl
+of-breach {s} (kind p l r b ks rest z e few m f) =
+    in-kinds (record {
+      sized = z;
+      p = p;
+      l = l;
+      r = r;
+      ks = ks;
+      t = b ∷ rest;
+      here = e;
+      few = few;
+      no-kind = other f;
+      missing-some = m;
+      code-is = refl;
+      place-is = refl;
+    })
+of-breach {s} (kinds-short p l r ks z e few m) =
+    in-kinds (record {
+      sized = z;
+      p = p;
+      l = l;
+      r = r;
+      ks = ks;
+      t = [];
+      here = e ∙ ap (λ (x : List ℕ). front ++ p ∷ l ∷ r ∷ x) (sym (append-nil (map kindByte ks)));
+      few = few;
+      no-kind = none-left;
+      missing-some = m;
+      code-is = refl;
+      place-is = refl;
+    })
+of-breach (short f) = refused f
+of-breach (opcode f) = refused f
+of-breach (float f) = refused f
+of-breach (number f) = refused f
+of-breach (lane f) = refused f
+of-breach (align f) = refused f
+of-breach {s} (local {h} {p} {κs} a names f) = in-body (record { reached = a .reached; stop = undeclared s h p κs (a .reads) names f; last = λ e. omega arith }) refl refl
+of-breach {s} (operand {h} {p} {κs} a o d f) = in-body (record { reached = a .reached; stop = missing s h p κs (a .reads) o d f; last = λ e. omega arith }) refl refl
+of-breach {s} (deep {h} {p} {κs} a t g) = in-body (record { reached = a .reached; stop = too-deep s h p κs (a .reads) t g; last = λ e. omega arith }) refl refl
+of-breach {s} (result {h} {p} {κs} a f) = in-body (record { reached = a .reached; stop = other-results s h p κs (a .reads) f; last = λ e. omega arith }) refl refl
+of-breach {s} (trailing {h} {p} a g) = in-body (record { reached = a .reached; stop = followed s h p (h .results) (a .reads) refl g; last = λ e. omega arith }) refl refl
+
+verdict : {s : List ℕ} {c l : ℕ} → Says s c l → Verdict s c l
+verdict {s} (valid v) =
+    in-body (record { reached = v .reached; stop = ends-well s (v .header) (v .place) (v .header .results) (v .ends) refl (v .last); last = λ e. omega arith }) refl refl
+verdict (breach b) = of-breach b
+
+-- whatever is said, it is one code at one place
+pub says-once : {s : List ℕ} {c l c′ l′ : ℕ} → Says s c l → Says s c′ l′ → (c ≡ c′) × (l ≡ l′)
+says-once a b = verdict-once (verdict a) (verdict b)
+
+pub one-breach : {s : List ℕ} {c l c′ l′ : ℕ} → Breach s c l → Breach s c′ l′ → (c ≡ c′) × (l ≡ l′)
+one-breach a b = verdict-once (of-breach a) (of-breach b)
+
+breach-coded : {s : List ℕ} {c l : ℕ} → Breach s c l → c ≡ DONE → ⊥
+breach-coded (long g) e = omega arith
+breach-coded (stub g) e = omega arith
+breach-coded (unmarked z f) e = omega arith
+breach-coded (other-version rest z q f) e = omega arith
+breach-coded (parameters p rest z q g) e = omega arith
+breach-coded (further p l rest z q a g) e = omega arith
+breach-coded (results p l r rest z q a b g) e = omega arith
+breach-coded (kind p l r b ks rest z q few m f) e = omega arith
+breach-coded (kinds-short p l r ks z q few m) e = omega arith
+breach-coded (short f) e = omega arith
+breach-coded (opcode f) e = omega arith
+breach-coded (float f) e = omega arith
+breach-coded (number f) e = omega arith
+breach-coded (lane f) e = omega arith
+breach-coded (align f) e = omega arith
+breach-coded (local a names f) e = omega arith
+breach-coded (operand a o d f) e = omega arith
+breach-coded (deep a t g) e = omega arith
+breach-coded (result a f) e = omega arith
+breach-coded (trailing a g) e = omega arith
+
+pub valid-no-breach : {s : List ℕ} {c l : ℕ} → Valid s → Breach s c l → ⊥
+valid-no-breach v b = breach-coded b (says-once (breach b) (valid v) .0)

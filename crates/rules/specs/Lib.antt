@@ -1,0 +1,4 @@
+pub mod Header
+pub mod Typing
+pub mod Strip
+pub mod Breach

@@ -1,0 +1,1 @@
+// The rules of a whole strip, and the check.
