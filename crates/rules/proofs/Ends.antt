@@ -1,9 +1,8 @@
 -- Among the instructions the check ends at one place, for one reason.
 use Prim.Native.Nat.{ℕ, zero, suc, _+_}
-use mathlib.Core.Path.{_≡_, refl, ap, ap₂, sym, _∙_, subst}
+use mathlib.Core.Path.{_≡_, refl, sym}
 use mathlib.Core.List.{List}
-use mathlib.Core.Logic.{_⊎_, inl, inr, ⊎-elim}
-use native.Mathlib.Omega.{arith}
+use mathlib.Core.Logic.{_⊎_, ⊎-elim}
 use Rattle.card.specs.Card.{DONE, LOCAL, OPERAND, DEEP, RESULT, TRAILING}
 use Rattle.opcode.specs.Kind.{Kind}
 use Rattle.instr.specs.Decode.{decodeAt}

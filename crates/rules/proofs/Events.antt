@@ -1,14 +1,14 @@
 -- What is asked at a place of the instructions, in 01's order: each line of the card is one rank.
 use Prim.Native.Nat.{ℕ, zero, suc, _+_, _≤_, _<_}
-use mathlib.Core.Path.{_≡_, refl, ap, sym, _∙_, subst}
-use mathlib.Core.List.{List, [], _∷_}
+use mathlib.Core.Path.{_≡_, refl, ap, subst}
+use mathlib.Core.List.{List}
 use mathlib.Core.Logic.{_⊎_, inl, inr}
 use native.Mathlib.Omega.{arith}
 use lib.ListN.{length}
 use Rattle.card.specs.Card.{DONE}
 use Rattle.limits.specs.Limits.{stackLimit}
 use Rattle.opcode.specs.Kind.{Kind}
-use Rattle.opcode.specs.Table.{End, LocalGet, LocalSet, LocalTee, Code, plain}
+use Rattle.opcode.specs.Table.{End, Code, plain}
 use Rattle.instr.specs.declared.Instr.{Instr}
 use Rattle.instr.specs.declared.Decoded.{Decoded}
 use Rattle.instr.specs.Decode.{decodeAt}
@@ -16,9 +16,9 @@ use Rattle.instr.proofs.Decodes.{stands-decodes}
 use Rattle.rules.specs.Header.{Header, locals}
 use Rattle.rules.specs.Typing.{Local, Typed, signed, dropped, got, set, teed, Types, Names, get-names, set-names, tee-names}
 use Rattle.rules.specs.Strip.{Reads}
-use Rattle.rules.proofs.Ranks.{Stop}
+use Rattle.rules.proofs.Ranks.{Kept, none-asked, more, Stop}
 use Rattle.rules.proofs.Typings.{types-once}
-use Rattle.rules.proofs.Onward.{reads-once, only}
+use Rattle.rules.proofs.Onward.{only}
 
 -- `end` has no typing
 pub end-untyped : {ls ins outs : List Kind} {n : ℕ} {c : Code} → Typed ls n c ins outs → c ≡ plain End → ⊥
@@ -70,87 +70,54 @@ module _ (s : List ℕ) (h : Header) (p : ℕ) (κs : List Kind) where
   -- ---- each line of the card at its rank
 
   pub unread : {code : ℕ} → decodeAt s p .code ≡ suc code → Stop Asked 0
-  unread e = record { kept = λ j l. absurd (let z : ⊥ = omega arith in z); broken = λ q. omega arith }
+  unread e = record { kept = none-asked Asked; broken = λ q. omega arith }
 
   module _ {i : Instr} {c : Code} {n : ℕ} (r : Reads s p i c n) where
-    read : Asked 0
-    read = ap (λ (d : Decoded). d .code) (stands-decodes s p i n (r .stands))
+    read : Kept Asked 1
+    read = more Asked 0 (none-asked Asked) (ap (λ (d : Decoded). d .code) (stands-decodes s p i n (r .stands)))
 
     pub undeclared : Names c → ((k : Kind) → Local (locals h) (i .index) k → ⊥) → Stop Asked 1
-    undeclared names no-local = record { kept = below; broken = λ q. let it = q i c n r names in no-local (it .0) (it .1) }
-      where
-        below : (j : ℕ) → j < 1 → Asked j
-        below zero l = read
-        below (suc j) l = absurd (let z : ⊥ = omega arith in z)
+    undeclared names no-local = record { kept = read; broken = λ q. let it = q i c n r names in no-local (it .0) (it .1) }
 
     pub missing : (c ≡ plain End → ⊥) → DeclaredP i c → ((κs′ : List Kind) → Types (locals h) (i .index) c κs κs′ → ⊥) → Stop Asked 2
-    missing other declared untyped = record { kept = below; broken = λ q. out (q i c n r) }
+    missing other declared untyped = record { kept = more Asked 1 read (only DeclaredP r declared); broken = λ q. out (q i c n r) }
       where
         out : OperandsP i c → ⊥
         out (inl e) = other e
         out (inr t) = untyped (t .0) (t .1)
 
-        below : (j : ℕ) → j < 2 → Asked j
-        below zero l = read
-        below (suc zero) l = only DeclaredP r declared
-        below (suc (suc j)) l = absurd (let z : ⊥ = omega arith in z)
-
     module _ {κs′ : List Kind} (t : Types (locals h) (i .index) c κs κs′) where
-      -- what every typed instruction keeps
-      typed-kept : (j : ℕ) → j < 3 → Asked j
-      typed-kept zero l = read
-      typed-kept (suc zero) l = only DeclaredP r (declared-local (t .typed))
-      typed-kept (suc (suc zero)) l = only OperandsP r (inr (κs′, t))
-      typed-kept (suc (suc (suc j))) l = absurd (let z : ⊥ = omega arith in z)
+      typed-kept : Kept Asked 3
+      typed-kept = more Asked 2 (more Asked 1 read (only DeclaredP r (declared-local (t .typed)))) (only OperandsP r (inr (κs′, t)))
 
       pub too-deep : stackLimit < length κs′ → Stop Asked 3
       too-deep g = record { kept = typed-kept; broken = λ q. let small = q i c n r κs′ t in omega arith }
 
       -- and it is not the last
       pub goes-on : length κs′ ≤ stackLimit → Stop Asked 4
-      goes-on g = record { kept = below; broken = λ q. end-untyped (t .typed) (q i c n r) }
-        where
-          below : (j : ℕ) → j < 4 → Asked j
-          below zero l = typed-kept 0 (omega arith)
-          below (suc zero) l = typed-kept 1 (omega arith)
-          below (suc (suc zero)) l = typed-kept 2 (omega arith)
-          below (suc (suc (suc zero))) l = only ShallowP r (λ λs u. subst (λ (x : List Kind). length x ≤ stackLimit) (types-once t u) g)
-          below (suc (suc (suc (suc j)))) l = absurd (let z : ⊥ = omega arith in z)
+      goes-on g =
+          record {
+            kept = more Asked 3 typed-kept (only ShallowP r (λ λs u. subst (λ (x : List Kind). length x ≤ stackLimit) (types-once t u) g));
+            broken = λ q. end-untyped (t .typed) (q i c n r);
+          }
 
   module _ {i : Instr} {n : ℕ} (r : Reads s p i (plain End) n) where
-    end-kept : (j : ℕ) → j < 5 → Asked j
-    end-kept zero l = read r
-    end-kept (suc zero) l = only DeclaredP r (λ names. absurd (end-nameless names refl))
-    end-kept (suc (suc zero)) l = only OperandsP r (inl refl)
-    end-kept (suc (suc (suc zero))) l = only ShallowP r (λ λs t. absurd (end-untyped (t .typed) refl))
-    end-kept (suc (suc (suc (suc zero)))) l = only (λ i c. c ≡ plain End) r refl
-    end-kept (suc (suc (suc (suc (suc j))))) l = absurd (let z : ⊥ = omega arith in z)
+    end-kept : Kept Asked 5
+    end-kept =
+        more Asked 4
+        (more Asked 3
+        (more Asked 2
+        (more Asked 1 (read r) (only DeclaredP r (λ names. absurd (end-nameless names refl))))
+        (only OperandsP r (inl refl)))
+        (only ShallowP r (λ λs t. absurd (end-untyped (t .typed) refl))))
+        (only (λ i c. c ≡ plain End) r refl)
 
     pub other-results : (κs ≡ h .results → ⊥) → Stop Asked 5
     other-results no-match = record { kept = end-kept; broken = no-match }
 
     module _ (match : κs ≡ h .results) where
-      result-kept : (j : ℕ) → j < 6 → Asked j
-      result-kept zero l = end-kept 0 (omega arith)
-      result-kept (suc zero) l = end-kept 1 (omega arith)
-      result-kept (suc (suc zero)) l = end-kept 2 (omega arith)
-      result-kept (suc (suc (suc zero))) l = end-kept 3 (omega arith)
-      result-kept (suc (suc (suc (suc zero)))) l = end-kept 4 (omega arith)
-      result-kept (suc (suc (suc (suc (suc zero))))) l = match
-      result-kept (suc (suc (suc (suc (suc (suc j)))))) l = absurd (let z : ⊥ = omega arith in z)
-
       pub followed : p + 1 < length s → Stop Asked 6
-      followed g = record { kept = result-kept; broken = λ q. omega arith }
+      followed g = record { kept = more Asked 5 end-kept match; broken = λ q. omega arith }
 
       pub ends-well : p + 1 ≡ length s → Stop Asked 7
-      ends-well e = record { kept = below; broken = λ q. q }
-        where
-          below : (j : ℕ) → j < 7 → Asked j
-          below zero l = result-kept 0 (omega arith)
-          below (suc zero) l = result-kept 1 (omega arith)
-          below (suc (suc zero)) l = result-kept 2 (omega arith)
-          below (suc (suc (suc zero))) l = result-kept 3 (omega arith)
-          below (suc (suc (suc (suc zero)))) l = result-kept 4 (omega arith)
-          below (suc (suc (suc (suc (suc zero))))) l = result-kept 5 (omega arith)
-          below (suc (suc (suc (suc (suc (suc zero)))))) l = e
-          below (suc (suc (suc (suc (suc (suc (suc j))))))) l = absurd (let z : ⊥ = omega arith in z)
+      ends-well e = record { kept = more Asked 6 (more Asked 5 end-kept match) e; broken = λ q. q }

@@ -6,7 +6,7 @@ use native.Mathlib.Omega.{arith}
 use lib.ListN.{length, length-append}
 use Rattle.opcode.specs.Kind.{Kind, kindByte}
 use Rattle.opcode.proofs.Effects.{kind-once}
-use Rattle.rules.specs.Header.{Header, Declares, headerBytes, kinds, locals}
+use Rattle.rules.specs.Header.{Header, Declares, kinds, locals}
 use Rattle.rules.proofs.Lists.{parts-once}
 
 kinds-once : (ks ks′ : List Kind) (b b′ : List ℕ) → length ks ≡ length ks′ → map kindByte ks ++ b ≡ map kindByte ks′ ++ b′ → ks ≡ ks′

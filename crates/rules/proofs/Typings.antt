@@ -1,13 +1,13 @@
 -- An instruction leaves one stack at most.
-use Prim.Native.Nat.{ℕ, zero, suc}
-use mathlib.Core.Path.{_≡_, refl, ap, ap₂, sym, _∙_, subst}
+use Prim.Native.Nat.{ℕ}
+use mathlib.Core.Path.{_≡_, refl, ap, ap₂, sym, _∙_}
 use mathlib.Core.List.{List, [], _∷_, _++_}
-use mathlib.Core.Option.{Option, some, none}
+use mathlib.Core.Option.{Option, some}
 use native.Mathlib.Omega.{arith}
 use lib.ListN.{length}
 use Rattle.opcode.specs.Kind.{Kind}
-use Rattle.opcode.specs.Table.{Drop, LocalGet, LocalSet, LocalTee, Code, plain}
-use Rattle.opcode.specs.Effect.{Signature, _⇒_, effect}
+use Rattle.opcode.specs.Table.{Code}
+use Rattle.opcode.specs.Effect.{Signature, _⇒_}
 use Rattle.rules.specs.Typing.{Local, first, later, Typed, signed, dropped, got, set, teed, Types}
 use Rattle.rules.proofs.Lists.{ends-once}
 

@@ -6,13 +6,13 @@ use native.Mathlib.Omega.{arith}
 use lib.ListN.{length}
 use Rattle.card.specs.Card.{DONE, LONG, SHORT, MARK, VERSION, COUNT, KIND}
 use Rattle.opcode.specs.Kind.{Kind, kindByte}
-use Rattle.rules.specs.Header.{Header, Few, Declares}
-use Rattle.rules.specs.Strip.{Valid, Reaches}
+use Rattle.rules.specs.Header.{Header, Few}
+use Rattle.rules.specs.Strip.{Valid}
 use Rattle.rules.specs.Breach.{Sized, front, Refused, Breach, long, stub, unmarked, other-version, parameters, further, results, kind, kinds-short, short, opcode, float, number, lane, align, local, operand, deep, result, trailing, Says, valid, breach}
 use Rattle.rules.proofs.Ranks.{Stop, stop-once}
 use Rattle.rules.proofs.Headers.{declares-once}
 use Rattle.rules.proofs.Onward.{declared}
-use Rattle.rules.proofs.Events.{Asked, unread, undeclared, missing, too-deep, other-results, followed, ends-well}
+use Rattle.rules.proofs.Events.{unread, undeclared, missing, too-deep, other-results, followed, ends-well}
 use Rattle.rules.proofs.Ends.{Ended, codeAt, placeAt, ended-once}
 use Rattle.rules.proofs.Heads.{NoKind, none-left, other, kinds-part, HeadAsked, too-long, a-stub, no-mark, no-version, many-parameters, many-further, many-results, bad-kinds, whole-header}
 

@@ -1,7 +1,7 @@
 -- The first rule that a strip breaks: one constructor a line of the card (01, "Numbers on the inspector's card"), which asks what 01 asks before it.
 use Prim.Native.Nat.{ℕ, _+_, _≤_, _<_}
 use mathlib.Core.Path.{_≡_}
-use mathlib.Core.List.{List, [], _∷_, _++_, map}
+use mathlib.Core.List.{List, _∷_, _++_, map}
 use lib.ListN.{length}
 use Rattle.card.specs.Card.{DONE, LONG, SHORT, MARK, VERSION, COUNT, KIND, OPCODE, FLOAT, NUMBER, LANE, ALIGN, LOCAL, OPERAND, DEEP, RESULT, TRAILING}
 use Rattle.limits.specs.Limits.{fileLimit, parameterLimit, localLimit, resultLimit, stackLimit}

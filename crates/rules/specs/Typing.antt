@@ -2,10 +2,10 @@
 use Prim.Native.Nat.{ℕ, zero, suc}
 use mathlib.Core.Path.{_≡_}
 use mathlib.Core.List.{List, [], _∷_, _++_}
-use mathlib.Core.Option.{Option, some}
+use mathlib.Core.Option.{some}
 use Rattle.opcode.specs.Kind.{Kind}
 use Rattle.opcode.specs.Table.{Drop, LocalGet, LocalSet, LocalTee, Code, plain}
-use Rattle.opcode.specs.Effect.{Signature, _⇒_, effect}
+use Rattle.opcode.specs.Effect.{_⇒_, effect}
 
 -- the n-th of the locals is of kind k
 pub data Local : List Kind → ℕ → Kind → Type 0 where
