@@ -1,31 +1,29 @@
 -- Where the standard's machine is not stuck, the code has what it asks before an instruction: enough values, a slot for the local, and the bounds that tell
 -- a trap from going on. Assumes nothing.
-use Prim.Native.Nat.{ℕ, suc, _+_, _*_, _-_, _^_, _≤_, _<_, max, zero-le}
-use mathlib.Core.Path.{_≡_, refl, ap, ap₂, sym, _∙_, subst}
+use Prim.Native.Nat.{ℕ, _+_, _-_, _^_, _≤_, _<_, max, zero-le}
+use mathlib.Core.Path.{_≡_, refl, ap, ap₂, sym, _∙_}
 use mathlib.Core.Bool.{Bool, true, false, cond}
-use mathlib.Core.List.{List, [], _∷_, reverse}
+use mathlib.Core.List.{List, _∷_, reverse}
 use native.Mathlib.Omega.{arith}
 use lib.Dec.{leb, ltb}
-use lib.ListN.{length, getD, take, set}
-use borrow.Author.Tests.{le-leb, lt-leb, leb-true, leb-false}
-use Rattle.machine.specs.Memory.{part, padded, stored}
+use lib.ListN.{length}
+use borrow.Author.Tests.{lt-leb, leb-false}
 use mir.Syntax.{Width, w8, w16, w32, w64, w128}
 use Rattle.lane.specs.Vector.{le}
-use Rattle.lane.specs.Scalar.{Sign}
 use Rattle.lane.specs.Op.{Loadop, Op, Load, LoadLane, Store, StoreLane, Const, Shuffle, Splat, ExtractLane, ReplaceLane, Unary, Binary, Bitselect, Test, Shift, extracted}
-use Rattle.limits.specs.Limits.{slot, stackLimit, parameterLimit, localLimit}
+use Rattle.limits.specs.Limits.{slot, stackLimit}
 use Rattle.opcode.specs.Kind.{Kind}
 use Rattle.opcode.specs.Table.{Plain, End, Drop, LocalGet, LocalSet, LocalTee, I32Const, I64Const, I32Add, I32Sub, Code, plain, vector}
 use Rattle.opcode.specs.Immediate.{moved}
 use Rattle.instr.specs.declared.Instr.{Instr}
-use Rattle.machine.specs.Value.{Value, I32, I64, V128}
+use Rattle.machine.specs.Value.{Value, I32, I64}
 use Rattle.machine.specs.Exec.{State, Outcome, goes, done, trap, stuck, push, pushScalar, goOn, access, fits, popI32, popV128, execPlain, execVector, exec}
 use Rattle.machine.specs.Inner.Flat.{slotAt, topOf, low32, reach}
 use Rattle.machine.specs.Inner.Fit.{takenByPlain, takenByOp, takenBy, Slotted, boundsAt, boundsOp, boundsOf}
 use Rattle.machine.specs.declared.access.Bounds.{Bounds}
 use Rattle.machine.specs.declared.access.Bounds.the-variants.{Clear, Past}
 use Rattle.machine.proofs.Laws.Rep.{Rep, low-i32}
-use Rattle.machine.proofs.Laws.Pops.{Holds, Popped, pop-i32, pop-i64, pop-v128, pop-any, pop-scalar, named, same-kind}
+use Rattle.machine.proofs.Laws.Pops.{pop-i32, pop-v128, pop-any, pop-scalar, named, same-kind}
 use Rattle.machine.proofs.Laws.Update.{all-held}
 
 -- ---- what a push leads to

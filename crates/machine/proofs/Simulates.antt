@@ -1,20 +1,18 @@
 -- One instruction over flat bytes does what the standard's machine does. Assumes nothing.
-use Prim.Native.Nat.{ℕ, suc, _+_, _*_, _-_, _^_, _≤_, _<_}
+use Prim.Native.Nat.{ℕ, _+_, _-_, _^_, _≤_, _<_}
 use mathlib.Core.Path.{_≡_, refl, ap, ap₂, sym, _∙_, subst}
 use mathlib.Core.Bool.{Bool, true, false, cond}
-use mathlib.Core.List.{List, [], _∷_, reverse}
+use mathlib.Core.List.{List, _∷_, reverse}
 use native.Mathlib.Omega.{arith}
-use lib.ListN.{length, getD, take, set}
+use lib.ListN.{length, getD, take}
 use mir.Syntax.{Width, w8, w16, w32, w64, w128}
-use mir.Val.{bits}
 use lib.IntN.{pos, _+ℤ_, _-ℤ_}
-use Rattle.lane.specs.Shape.{i32x4}
 use Rattle.lane.specs.Vector.{le, Sixteen}
 use Rattle.lane.specs.Scalar.{Sign, iadd, isub}
-use Rattle.lane.specs.Op.{Loadop, Unop, Binop, Testop, Shiftop, Op, Load, LoadLane, Store, StoreLane, Const, Shuffle, Splat, ExtractLane, ReplaceLane, Unary, Binary, Bitselect, Test, Shift, unary, binary, bitselect, test, shift, splat, extracted, replaced, shuffled, loaded, laneIn, laneOut, unpack}
+use Rattle.lane.specs.Op.{Loadop, Shiftop, Op, Load, LoadLane, Store, StoreLane, Const, Shuffle, Splat, ExtractLane, ReplaceLane, Unary, Binary, Bitselect, Test, Shift, unary, binary, bitselect, test, shift, splat, extracted, replaced, shuffled, loaded, laneIn, laneOut}
 use Rattle.lane.proofs.Laws.Number.{Bytes, bytes-take}
 use Rattle.lane.proofs.Laws.Vectors.{wrap-lt, test-lt, extracted-lt, sixteen-unary, sixteen-binary, sixteen-bitselect, sixteen-shift, sixteen-splat, sixteen-replaced, sixteen-shuffled, sixteen-loaded, sixteen-laneIn, sixteen-laneOut}
-use Rattle.limits.specs.Limits.{slot, stackLimit}
+use Rattle.limits.specs.Limits.{slot}
 use Rattle.opcode.specs.Kind.{Kind}
 use Rattle.opcode.specs.Table.{Plain, End, Drop, LocalGet, LocalSet, LocalTee, I32Const, I64Const, I32Add, I32Sub, Code, plain, vector}
 use Rattle.opcode.specs.Immediate.{moved}
@@ -22,10 +20,10 @@ use Rattle.opcode.proofs.Classes.{moved-small}
 use Rattle.instr.specs.declared.Instr.{Instr}
 use Rattle.machine.specs.Value.{Value, I32, I64, V128, InRange, bytesOf}
 use Rattle.machine.specs.Memory.{part, padded, stored}
-use Rattle.machine.specs.Exec.{State, Outcome, goes, done, trap, stuck, goOn, access, fits, popI32, popV128, popScalar, pushScalar, execPlain, execVector, exec}
+use Rattle.machine.specs.Exec.{State, goes, done, stuck, goOn, access, fits, popI32, popV128, execPlain, execVector, exec}
 use Rattle.machine.specs.Inner.Flat.{slotAt, putSlot, topOf, low32, low64, lowest, reach, Flat, flatPlain, flatVector, flat}
-use Rattle.machine.proofs.Laws.Rep.{Rep, low-i32, low-i64, rep-pop, state}
-use Rattle.machine.proofs.Laws.Pops.{Holds, Popped, scalarOf, pop-i32, pop-i64, pop-v128, pop-any, pop-scalar, named, same-kind, going, reached}
+use Rattle.machine.proofs.Laws.Rep.{Rep, low-i32, low-i64, state}
+use Rattle.machine.proofs.Laws.Pops.{scalarOf, pop-i32, pop-v128, pop-any, pop-scalar, named, same-kind, reached}
 use Rattle.machine.proofs.Laws.Ranges.{bytes-part, length-part, sixteen-padded, bytes-stored, range-at}
 use Rattle.machine.proofs.Laws.Update.{all-held, with-memory, with-local, pushed, popped}
 

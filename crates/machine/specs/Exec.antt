@@ -1,7 +1,7 @@
 -- The standard's machine, one instruction (Core 2.0, 4.4.1, 4.4.3, 4.4.5, 4.4.7). Each instruction pops what it needs, and is stuck
 -- where that is not there. No signature is read here, and nothing of the rules.
 use Prim.Native.Nat.{ℕ, _+_}
-use mathlib.Core.List.{List, [], _∷_, reverse, map}
+use mathlib.Core.List.{List, [], _∷_, reverse}
 use mathlib.Core.Bool.{Bool, true, false, cond, _&&_}
 use lib.Dec.{eqb, leb, ltb}
 use lib.ListN.{length, getD, take, set}
@@ -9,7 +9,7 @@ use mir.Syntax.{Width, w8, w16, w32, w64, w128}
 use Rattle.lane.specs.Scalar.{iadd, isub}
 use Rattle.lane.specs.Op.{Op, Load, LoadLane, Store, StoreLane, Const, Shuffle, Splat, ExtractLane, ReplaceLane, Unary, Binary, Bitselect, Test, Shift, unary, binary, bitselect, test, shift, splat, extracted, replaced, shuffled, loaded, laneIn, laneOut}
 use Rattle.limits.specs.Limits.{stackLimit}
-use Rattle.opcode.specs.Kind.{Kind, i32, i64, v128, kindByte}
+use Rattle.opcode.specs.Kind.{Kind, i32, i64, kindByte}
 use Rattle.opcode.specs.Table.{Plain, End, Drop, LocalGet, LocalSet, LocalTee, I32Const, I64Const, I32Add, I32Sub, Code, plain, vector}
 use Rattle.opcode.specs.Immediate.{moved}
 use Rattle.instr.specs.declared.Instr.{Instr}

@@ -1,9 +1,9 @@
 -- Numbers in slots: their bytes, and the lanes that read them again. Assumes nothing.
-use Prim.Native.Nat.{ℕ, zero, suc, _+_, _*_, _-_, _%_, _/_, _^_, _<_}
+use Prim.Native.Nat.{ℕ, zero, suc, _+_, _-_, _%_, _^_, _<_}
 use mathlib.Core.Path.{_≡_, refl, ap, ap₂, sym, _∙_}
 use mathlib.Core.Bool.{Bool, true, _&&_}
-use mathlib.Core.List.{List, [], _∷_, _++_, append-nil}
-use native.Mathlib.Nat.{sub-self, div-eq-of-lt, mod-eq-of-lt}
+use mathlib.Core.List.{List, _++_, append-nil}
+use native.Mathlib.Nat.{div-eq-of-lt, mod-eq-of-lt}
 use native.Mathlib.Omega.{arith}
 use lib.Dec.{ltb}
 use borrow.Author.Tests.{lt-ltb}
@@ -12,7 +12,7 @@ use mir.Syntax.{Width, w8, w16, w32, w64, w128}
 use Rattle.lane.specs.Shape.{i8x16}
 use Rattle.lane.specs.Vector.{le, lane, build}
 use Rattle.lane.specs.Scalar.{S}
-use Rattle.lane.specs.Op.{all, extracted, replaced, splat, shuffled}
+use Rattle.lane.specs.Op.{all, replaced, splat, shuffled}
 use Rattle.lane.specs.Answer.{extractLane, replaceLane, shuffle}
 use Rattle.lane.specs.declared.answer.LaneAnswer.{LaneAnswer}
 use Rattle.lane.specs.declared.answer.VectorAnswer.{VectorAnswer}

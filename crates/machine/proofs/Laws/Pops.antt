@@ -1,6 +1,6 @@
 -- Popping from a stack that is held in slots: the value popped lies in the highest slot. Assumes nothing.
-use Prim.Native.Nat.{ℕ, suc, _+_, _^_, _≤_, _<_}
-use mathlib.Core.Path.{_≡_, refl, ap, sym, _∙_, subst}
+use Prim.Native.Nat.{ℕ, suc, _+_, _≤_, _<_}
+use mathlib.Core.Path.{_≡_, refl, sym}
 use mathlib.Core.Bool.{Bool, true, false, cond}
 use mathlib.Core.List.{List, [], _∷_}
 use native.Mathlib.Omega.{arith}
@@ -11,7 +11,7 @@ use mir.Syntax.{Width, w8, w16, w32, w64, w128}
 use Rattle.limits.specs.Limits.{stackLimit}
 use Rattle.opcode.specs.Kind.{kindByte}
 use Rattle.machine.specs.Value.{Value, I32, I64, V128, kindOf, InRange, AllInRange, bytesOf}
-use Rattle.machine.specs.Exec.{State, Outcome, goes, done, trap, stuck, popI32, popI64, popV128, popAny, popScalar, goOn, local, alike, access}
+use Rattle.machine.specs.Exec.{State, Outcome, goes, trap, stuck, popI32, popI64, popV128, popAny, popScalar, goOn, local, alike, access}
 use Rattle.machine.specs.Inner.Flat.{slotAt}
 use Rattle.machine.proofs.Laws.Rep.{Slots, state}
 

@@ -1,5 +1,5 @@
 -- How the code holds a state of the standard's machine: slots of sixteen bytes for the operand stack and the locals, and the memory as it is. Assumes nothing.
-use Prim.Native.Nat.{ℕ, zero, suc, _+_, _*_, _-_, _^_, _%_, _/_, _≤_, _<_}
+use Prim.Native.Nat.{ℕ, suc, _+_, _*_, _-_, _^_, _%_, _/_, _≤_, _<_}
 use mathlib.Core.Path.{_≡_, refl, ap, sym, _∙_, subst}
 use mathlib.Core.List.{List, [], _∷_}
 use mathlib.Core.Logic.{_⊎_, inl, inr}
@@ -10,18 +10,16 @@ use lib.Arith.{lt-of-le-ne}
 use lib.Dec.{T, ltb, leb, leb→le}
 use lib.Pow.{pow-mono}
 use borrow.Author.Tests.{ltb-true, ltb-false}
-use lib.ListN.{length, getD, take, drop, set, length-set, length-drop}
-use lib.Seq.{getD-set-same, getD-set-other, length-take-le}
-use mir.Syntax.{Width, w8, w16, w32, w64}
+use lib.ListN.{length, getD}
+use mir.Syntax.{Width, w32, w64}
 use mir.Val.{bits}
 use Rattle.lane.specs.Vector.{number, le, lane, Sixteen}
 use Rattle.lane.proofs.Laws.Number.{Bytes, number-le}
 use Rattle.lane.proofs.Laws.Vectors.{sixteen-le}
 use Rattle.limits.specs.Limits.{slot, stackLimit, parameterLimit, localLimit}
 use Rattle.machine.specs.Value.{Value, I32, I64, V128, InRange, AllInRange, bytesOf}
-use Rattle.machine.specs.Memory.{part, stored}
 use Rattle.machine.specs.Exec.{State}
-use Rattle.machine.specs.Inner.Flat.{slotAt, putSlot, topOf, low32, low64}
+use Rattle.machine.specs.Inner.Flat.{slotAt, putSlot, low32, low64}
 use Rattle.machine.proofs.Laws.Stored.{length-stored, part-same, part-other}
 
 -- ---- one value

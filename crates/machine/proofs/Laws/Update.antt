@@ -2,7 +2,7 @@
 use Prim.Native.Nat.{ℕ, suc, _+_, _*_, _-_, _≤_, _<_}
 use mathlib.Core.Path.{_≡_, refl, ap, sym, _∙_, subst}
 use mathlib.Core.Bool.{Bool, true, false}
-use mathlib.Core.List.{List, [], _∷_}
+use mathlib.Core.List.{List, _∷_}
 use native.Mathlib.Omega.{arith}
 use lib.Dec.{eqb}
 use lib.ListN.{length, getD, set, length-set}
@@ -10,7 +10,7 @@ use lib.Seq.{getD-set-same, getD-set-other}
 use borrow.Author.Tests.{eqb-true, eqb-false}
 use Rattle.lane.proofs.Laws.Number.{Bytes}
 use Rattle.limits.specs.Limits.{slot, stackLimit, parameterLimit, localLimit}
-use Rattle.machine.specs.Value.{Value, I32, InRange, AllInRange, bytesOf}
+use Rattle.machine.specs.Value.{Value, I32, InRange, bytesOf}
 use Rattle.machine.specs.Exec.{State, goes, goOn}
 use Rattle.machine.specs.Inner.Flat.{slotAt, putSlot}
 use Rattle.machine.proofs.Laws.Rep.{Rep, state, sixteen-bytes, length-put, slot-same, slot-other, rep-push, rep-pop}

@@ -1,18 +1,18 @@
 -- Inner: what the code asks of an instruction before it does it, and what it answers. Proofs show that the standard's machine going on implies the first.
 use Prim.Native.Nat.{ℕ, _+_, _-_, _≤_, _<_, max}
 use mathlib.Core.Path.{_≡_}
-use mathlib.Core.Bool.{Bool, true, false, cond}
+use mathlib.Core.Bool.{cond}
 use mathlib.Core.List.{List}
 use lib.Dec.{leb}
 use lib.ListN.{length}
 use Rattle.lane.specs.Shape.{lanes}
-use Rattle.lane.specs.Vector.{Sixteen, lane}
+use Rattle.lane.specs.Vector.{lane}
 use Rattle.lane.specs.Shape.{i8x16}
-use Rattle.lane.specs.Op.{all, Op, Load, LoadLane, Store, StoreLane, Const, Shuffle, Splat, ExtractLane, ReplaceLane, Unary, Binary, Bitselect, Test, Shift}
+use Rattle.lane.specs.Op.{Op, Load, LoadLane, Store, StoreLane, Const, Shuffle, Splat, ExtractLane, ReplaceLane, Unary, Binary, Bitselect, Test, Shift}
 use Rattle.limits.specs.Limits.{slot, stackLimit, parameterLimit, localLimit}
 use Rattle.opcode.specs.Table.{Plain, End, Drop, LocalGet, LocalSet, LocalTee, I32Const, I64Const, I32Add, I32Sub, Code, plain, vector, carried}
 use Rattle.opcode.specs.Number.{rowOf}
-use Rattle.opcode.specs.Immediate.{moved, laneCount}
+use Rattle.opcode.specs.Immediate.{moved}
 use Rattle.instr.specs.declared.Instr.{Instr}
 use Rattle.machine.specs.Inner.Flat.{Flat, flat, topOf, reach}
 use Rattle.machine.specs.declared.access.Bounds.{Bounds}

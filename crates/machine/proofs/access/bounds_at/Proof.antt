@@ -3,10 +3,8 @@ use borrow.Author.Needs.{needs}
 use Prim.Native.Nat.{_+_, max}
 use mathlib.Core.Path.{_∙_, ap, sym}
 use mathlib.Core.Bool.{Bool, cond}
-use native.Mathlib.Omega.{arith}
 use native.Mathlib.Nat.{max-eq-left, max-eq-right, le-of-lt}
 use borrow.Author.Tests.{le-leb, lt-leb}
-use Rattle.machine.specs.declared.access.Bounds.{Bounds}
 use Rattle.machine.specs.declared.access.Bounds.the-variants.{Clear, Past}
 use Rattle.machine.proofs.access.bounds_at.Statement.{statement}
 use Rattle.machine.proofs.access.bounds_at.Tie as tie

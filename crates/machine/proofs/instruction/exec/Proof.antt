@@ -1,11 +1,11 @@
 -- One arm a group: the step's promise is what the flat model says of each code of the group.
 use borrow.Author.Needs.{needs}
 use Prim.Native.Nat.{ℕ, _+_, _-_, _≤_}
-use mathlib.Core.Path.{_≡_, refl, sym, _∙_, ap, subst}
+use mathlib.Core.Path.{refl, sym, _∙_, ap, subst}
 use native.Mathlib.Omega.{arith}
 use lib.Dec.{T}
 use lib.ListN.{length, take}
-use Rattle.lane.specs.Op.{Load, LoadLane, Store, StoreLane, loaded, laneIn, laneOut}
+use Rattle.lane.specs.Op.{Load, LoadLane, StoreLane, loaded, laneIn, laneOut}
 use Rattle.opcode.specs.Number.{rowOf, movedBy}
 use Rattle.opcode.specs.Immediate.{moved}
 use Rattle.opcode.specs.Lists.{_to_}
