@@ -1,5 +1,5 @@
 -- The limits of a strip, each under its name (01, "The strip file", "Values and shapes", "Instructions"). No other file writes one as a numeral.
-use Prim.Native.Nat.{ℕ}
+use Prim.Native.Nat.{ℕ, _+_, _*_}
 
 -- a file's bytes
 abbrev pub fileLimit : ℕ
@@ -26,3 +26,14 @@ stackLimit = 64
 -- the bytes that a value takes on the stack, in arguments and in results
 abbrev pub slot : ℕ
 slot = 16
+
+-- parameters and further locals
+abbrev pub localCount : ℕ
+localCount = parameterLimit + localLimit
+
+-- the operand stack and the locals, a slot each
+abbrev pub stackBytes : ℕ
+stackBytes = slot * stackLimit
+
+abbrev pub localBytes : ℕ
+localBytes = slot * localCount

@@ -6,3 +6,4 @@ pub mod Pops
 pub mod Ranges
 pub mod Update
 pub mod Numbers
+pub mod LowHalf

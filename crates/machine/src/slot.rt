@@ -2,6 +2,7 @@
 ghost use mathlib.Core.Path.{_≡_};
 ghost use Prim.Native.Nat.{_+_, _*_, _≤_, _<_};
 ghost use lib.ListN.{length};
+ghost use Rattle.limits.specs.Limits.{stackLimit, stackBytes};
 ghost use Rattle.lane.specs.Vector.{le};
 ghost use Rattle.machine.specs.Inner.Flat.{slotAt, putSlot, topOf, low32, low64};
 use crate::bytes;
@@ -10,14 +11,14 @@ use lane::I64x2;
 use lane::V128;
 
 pub(crate) fn get(s: &[u8], n: usize) -> V128
-    requires { ⌜ (n < 64) × (16 * n + 16 ≤ length (now s)) ⌝ }
+    requires { ⌜ (n < stackLimit) × (16 * n + 16 ≤ length (now s)) ⌝ }
     ensures { λ r. ⌜ r .bytes ≡ slotAt (now (s .entry)) n ⌝ }
 {
     bytes::read(s, 16 * n, 16)
 }
 
 pub(crate) fn put(s: &mut [u8], n: usize, v: V128)
-    requires { ⌜ (n < 64) × (16 * n + 16 ≤ length (now s)) ⌝ }
+    requires { ⌜ (n < stackLimit) × (16 * n + 16 ≤ length (now s)) ⌝ }
     ensures { λ r. ⌜ now (s .exit) ≡ putSlot (now (s .entry)) n (v .bytes) ⌝ }
 {
     bytes::write(s, 16 * n, v, 16)
@@ -25,7 +26,7 @@ pub(crate) fn put(s: &mut [u8], n: usize, v: V128)
 
 // Of the values on the stack, the j-th from the top.
 pub(crate) fn top(stack: &[u8], depth: usize, j: usize) -> V128
-    requires { ⌜ (0 < j) × (j ≤ depth) × (depth ≤ 64) × (length (now stack) ≡ 1024) ⌝ }
+    requires { ⌜ (0 < j) × (j ≤ depth) × (depth ≤ stackLimit) × (length (now stack) ≡ stackBytes) ⌝ }
     ensures { λ r. ⌜ r .bytes ≡ topOf (now (stack .entry)) depth j ⌝ }
 {
     get(stack, depth - j)

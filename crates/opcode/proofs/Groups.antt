@@ -1,5 +1,6 @@
 -- The groups: a group's number tells what the code is, so that what is said of each code of a group is said of the number. Assumes nothing.
 use mathlib.Core.Path.{_≡_, sym, subst}
+use mathlib.Core.List.{List, [], _∷_}
 use Prim.Native.Nat.{ℕ, zero, suc, _≤_}
 use lib.Dec.{lit≤}
 use mir.Syntax.{Width}
@@ -8,32 +9,40 @@ use Rattle.lane.specs.Op.{Loadop, Unop, Binop, Testop, Shiftop, Op, Load, LoadL
 use Rattle.opcode.specs.Table.{Plain, End, Drop, LocalGet, LocalSet, LocalTee, I32Const, I64Const, I32Add, I32Sub, Code, plain, vector, Row, carried, float, unassigned}
 use Rattle.opcode.specs.Number.{groupOfPlain, groupOfOp, groupOfCode, groupOf}
 
+-- the k-th, and nothing past the last
+abbrev pick : List {1} (Type 0) → ℕ → Type 0
+pick [] k = Unit {0}
+pick (p ∷ ps) zero = p
+pick (p ∷ ps) (suc k) = pick ps k
+
 -- what P says of every code of group k
 abbrev pub Each : (Code → Type 0) → ℕ → Type 0
-Each P zero = P (plain End)
-Each P (suc zero) = P (plain Drop)
-Each P (suc (suc zero)) = P (plain LocalGet)
-Each P (suc (suc (suc zero))) = P (plain LocalSet)
-Each P (suc (suc (suc (suc zero)))) = P (plain LocalTee)
-Each P (suc (suc (suc (suc (suc zero))))) = P (plain I32Const)
-Each P (suc (suc (suc (suc (suc (suc zero)))))) = P (plain I64Const)
-Each P (suc (suc (suc (suc (suc (suc (suc zero))))))) = P (plain I32Add)
-Each P (suc (suc (suc (suc (suc (suc (suc (suc zero)))))))) = P (plain I32Sub)
-Each P (suc (suc (suc (suc (suc (suc (suc (suc (suc zero))))))))) = (l : Loadop) → P (vector (Load l))
-Each P (suc (suc (suc (suc (suc (suc (suc (suc (suc (suc zero)))))))))) = (w : Width) → P (vector (LoadLane w))
-Each P (suc (suc (suc (suc (suc (suc (suc (suc (suc (suc (suc zero))))))))))) = P (vector Store)
-Each P (suc (suc (suc (suc (suc (suc (suc (suc (suc (suc (suc (suc zero)))))))))))) = (w : Width) → P (vector (StoreLane w))
-Each P (suc (suc (suc (suc (suc (suc (suc (suc (suc (suc (suc (suc (suc zero))))))))))))) = P (vector Const)
-Each P (suc (suc (suc (suc (suc (suc (suc (suc (suc (suc (suc (suc (suc (suc zero)))))))))))))) = P (vector Shuffle)
-Each P (suc (suc (suc (suc (suc (suc (suc (suc (suc (suc (suc (suc (suc (suc (suc zero))))))))))))))) = (w : Width) → P (vector (Splat w))
-Each P (suc (suc (suc (suc (suc (suc (suc (suc (suc (suc (suc (suc (suc (suc (suc (suc zero)))))))))))))))) = (s : Sign) (w : Width) → P (vector (ExtractLane s w))
-Each P (suc (suc (suc (suc (suc (suc (suc (suc (suc (suc (suc (suc (suc (suc (suc (suc (suc zero))))))))))))))))) = (w : Width) → P (vector (ReplaceLane w))
-Each P (suc (suc (suc (suc (suc (suc (suc (suc (suc (suc (suc (suc (suc (suc (suc (suc (suc (suc zero)))))))))))))))))) = (o : Unop) → P (vector (Unary o))
-Each P (suc (suc (suc (suc (suc (suc (suc (suc (suc (suc (suc (suc (suc (suc (suc (suc (suc (suc (suc zero))))))))))))))))))) = (o : Binop) → P (vector (Binary o))
-Each P (suc (suc (suc (suc (suc (suc (suc (suc (suc (suc (suc (suc (suc (suc (suc (suc (suc (suc (suc (suc zero)))))))))))))))))))) = P (vector Bitselect)
-Each P (suc (suc (suc (suc (suc (suc (suc (suc (suc (suc (suc (suc (suc (suc (suc (suc (suc (suc (suc (suc (suc zero))))))))))))))))))))) = (o : Testop) → P (vector (Test o))
-Each P (suc (suc (suc (suc (suc (suc (suc (suc (suc (suc (suc (suc (suc (suc (suc (suc (suc (suc (suc (suc (suc (suc zero)))))))))))))))))))))) = (o : Shiftop) → P (vector (Shift o))
-Each P (suc (suc (suc (suc (suc (suc (suc (suc (suc (suc (suc (suc (suc (suc (suc (suc (suc (suc (suc (suc (suc (suc (suc k))))))))))))))))))))))) = Unit {0}
+Each P =
+    pick (
+    P (plain End)
+    ∷ P (plain Drop)
+    ∷ P (plain LocalGet)
+    ∷ P (plain LocalSet)
+    ∷ P (plain LocalTee)
+    ∷ P (plain I32Const)
+    ∷ P (plain I64Const)
+    ∷ P (plain I32Add)
+    ∷ P (plain I32Sub)
+    ∷ ((l : Loadop) → P (vector (Load l)))
+    ∷ ((w : Width) → P (vector (LoadLane w)))
+    ∷ P (vector Store)
+    ∷ ((w : Width) → P (vector (StoreLane w)))
+    ∷ P (vector Const)
+    ∷ P (vector Shuffle)
+    ∷ ((w : Width) → P (vector (Splat w)))
+    ∷ ((s : Sign) (w : Width) → P (vector (ExtractLane s w)))
+    ∷ ((w : Width) → P (vector (ReplaceLane w)))
+    ∷ ((o : Unop) → P (vector (Unary o)))
+    ∷ ((o : Binop) → P (vector (Binary o)))
+    ∷ P (vector Bitselect)
+    ∷ ((o : Testop) → P (vector (Test o)))
+    ∷ ((o : Shiftop) → P (vector (Shift o)))
+    ∷ [])
 
 pub by-group : (P : Code → Type 0) (k : ℕ) → Each P k → (c : Code) → groupOfCode c ≡ k → P c
 by-group P k h (plain End) e = subst (Each P) (sym e) h

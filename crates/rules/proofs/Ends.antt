@@ -1,8 +1,9 @@
 -- Among the instructions the check ends at one place, for one reason.
-use Prim.Native.Nat.{ℕ, zero, suc, _+_}
+use Prim.Native.Nat.{ℕ, _+_}
 use mathlib.Core.Path.{_≡_, refl, sym}
-use mathlib.Core.List.{List}
+use mathlib.Core.List.{List, [], _∷_}
 use mathlib.Core.Logic.{_⊎_, ⊎-elim}
+use lib.ListN.{getD}
 use Rattle.card.specs.Card.{DONE, LOCAL, OPERAND, DEEP, RESULT, TRAILING}
 use Rattle.opcode.specs.Kind.{Kind}
 use Rattle.instr.specs.Decode.{decodeAt}
@@ -20,24 +21,10 @@ pub record Ended (s : List ℕ) (h : Header) (p : ℕ) (κs : List Kind) (k : �
 
 -- code and place at a rank
 abbrev pub codeAt : List ℕ → ℕ → ℕ → ℕ
-codeAt s p zero = decodeAt s p .code
-codeAt s p (suc zero) = LOCAL
-codeAt s p (suc (suc zero)) = OPERAND
-codeAt s p (suc (suc (suc zero))) = DEEP
-codeAt s p (suc (suc (suc (suc zero)))) = DONE
-codeAt s p (suc (suc (suc (suc (suc zero))))) = RESULT
-codeAt s p (suc (suc (suc (suc (suc (suc zero)))))) = TRAILING
-codeAt s p (suc (suc (suc (suc (suc (suc (suc k))))))) = DONE
+codeAt s p k = getD (decodeAt s p .code ∷ LOCAL ∷ OPERAND ∷ DEEP ∷ DONE ∷ RESULT ∷ TRAILING ∷ []) k DONE
 
 abbrev pub placeAt : List ℕ → ℕ → ℕ → ℕ
-placeAt s p zero = decodeAt s p .place
-placeAt s p (suc zero) = p
-placeAt s p (suc (suc zero)) = p
-placeAt s p (suc (suc (suc zero))) = p
-placeAt s p (suc (suc (suc (suc zero)))) = 0
-placeAt s p (suc (suc (suc (suc (suc zero))))) = p
-placeAt s p (suc (suc (suc (suc (suc (suc zero)))))) = p + 1
-placeAt s p (suc (suc (suc (suc (suc (suc (suc k))))))) = 0
+placeAt s p k = getD (decodeAt s p .place ∷ p ∷ p ∷ p ∷ 0 ∷ p ∷ (p + 1) ∷ []) k 0
 
 pub record SameEnd (s : List ℕ) (h : Header) (p q k : ℕ) (λs : List Kind) : Type 0 where
   pub place : p ≡ q

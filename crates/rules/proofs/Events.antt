@@ -1,7 +1,7 @@
 -- What is asked at a place of the instructions, in 01's order: each line of the card is one rank.
-use Prim.Native.Nat.{ℕ, zero, suc, _+_, _≤_, _<_}
+use Prim.Native.Nat.{ℕ, suc, _+_, _≤_, _<_}
 use mathlib.Core.Path.{_≡_, refl, ap, subst}
-use mathlib.Core.List.{List}
+use mathlib.Core.List.{List, [], _∷_}
 use mathlib.Core.Logic.{_⊎_, inl, inr}
 use native.Mathlib.Omega.{arith}
 use lib.ListN.{length}
@@ -16,7 +16,7 @@ use Rattle.instr.proofs.Decodes.{stands-decodes}
 use Rattle.rules.specs.Header.{Header, locals}
 use Rattle.rules.specs.Typing.{Local, Typed, signed, dropped, got, set, teed, Types, Names, get-names, set-names, tee-names}
 use Rattle.rules.specs.Strip.{Reads}
-use Rattle.rules.proofs.Ranks.{Kept, none-asked, more, Stop}
+use Rattle.rules.proofs.Ranks.{asked, Kept, none-asked, more, Stop}
 use Rattle.rules.proofs.Typings.{types-once}
 use Rattle.rules.proofs.Onward.{only}
 
@@ -56,16 +56,17 @@ module _ (s : List ℕ) (h : Header) (p : ℕ) (κs : List Kind) where
   abbrev pub ShallowP : Instr → Code → Type 0
   ShallowP i c = (κs′ : List Kind) → Types (locals h) (i .index) c κs κs′ → length κs′ ≤ stackLimit
 
-  -- it is read; its local is declared; its operands are there; not too many values after it; it is `end`; the results are there; nothing follows
   abbrev pub Asked : ℕ → Type 0
-  Asked zero = decodeAt s p .code ≡ DONE
-  Asked (suc zero) = Every DeclaredP
-  Asked (suc (suc zero)) = Every OperandsP
-  Asked (suc (suc (suc zero))) = Every ShallowP
-  Asked (suc (suc (suc (suc zero)))) = Every (λ i c. c ≡ plain End)
-  Asked (suc (suc (suc (suc (suc zero))))) = κs ≡ h .results
-  Asked (suc (suc (suc (suc (suc (suc zero)))))) = p + 1 ≡ length s
-  Asked (suc (suc (suc (suc (suc (suc (suc k))))))) = ⊥
+  Asked =
+      asked (
+      (decodeAt s p .code ≡ DONE)  -- it is read
+      ∷ Every DeclaredP  -- its local is declared
+      ∷ Every OperandsP  -- its operands are there
+      ∷ Every ShallowP  -- not too many values stand after it
+      ∷ Every (λ i c. c ≡ plain End)  -- it is `end`
+      ∷ (κs ≡ h .results)  -- the results are there
+      ∷ (p + 1 ≡ length s)  -- nothing follows
+      ∷ [])
 
   -- ---- each line of the card at its rank
 

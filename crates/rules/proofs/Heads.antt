@@ -1,5 +1,5 @@
 -- What is asked of the header, in 01's order: each line of the card is one rank, and the kind bytes are the last.
-use Prim.Native.Nat.{ℕ, zero, suc, _+_, _≤_, _<_}
+use Prim.Native.Nat.{ℕ, _+_, _≤_, _<_}
 use mathlib.Core.Path.{_≡_, refl, ap, ap₂}
 use mathlib.Core.List.{List, [], _∷_, _++_, map}
 use native.Mathlib.Omega.{arith}
@@ -9,7 +9,7 @@ use Rattle.opcode.specs.Kind.{Kind, kindByte}
 use Rattle.opcode.proofs.Effects.{kind-once}
 use Rattle.rules.specs.Header.{Header, Few, Declares, mark, version, kinds, locals}
 use Rattle.rules.specs.Breach.{Sized, front}
-use Rattle.rules.proofs.Ranks.{Kept, none-asked, more, Stop}
+use Rattle.rules.proofs.Ranks.{asked, Kept, none-asked, more, Stop}
 
 -- no kind byte is first
 pub data NoKind : List ℕ → Type 0 where
@@ -28,18 +28,18 @@ kinds-part (k ∷ ks) (k′ ∷ ks′) t t′ n n′ e =
     (ap₂ _∷_ (kind-once same) (deeper .0), deeper .1)
 
 module _ (s : List ℕ) where
-  -- small enough; long enough; the mark; the version; the three counts; the kind bytes
   abbrev pub HeadAsked : ℕ → Type 0
-  HeadAsked zero = length s ≤ fileLimit
-  HeadAsked (suc zero) = 8 ≤ length s
-  HeadAsked (suc (suc zero)) = (rest : List ℕ) × (s ≡ mark ++ rest)
-  HeadAsked (suc (suc (suc zero))) = (rest : List ℕ) × (s ≡ front ++ rest)
-  HeadAsked (suc (suc (suc (suc zero)))) = (p : ℕ) (rest : List ℕ) → s ≡ front ++ p ∷ rest → p ≤ parameterLimit
-  HeadAsked (suc (suc (suc (suc (suc zero))))) = (p l : ℕ) (rest : List ℕ) → s ≡ front ++ p ∷ l ∷ rest → l ≤ localLimit
-  HeadAsked (suc (suc (suc (suc (suc (suc zero)))))) = (p l r : ℕ) (rest : List ℕ) → s ≡ front ++ p ∷ l ∷ r ∷ rest → r ≤ resultLimit
-  HeadAsked (suc (suc (suc (suc (suc (suc (suc zero))))))) =
-      (p l r : ℕ) (ks : List Kind) (t : List ℕ) → s ≡ front ++ p ∷ l ∷ r ∷ map kindByte ks ++ t → NoKind t → p + l + r ≤ length ks
-  HeadAsked (suc (suc (suc (suc (suc (suc (suc (suc k)))))))) = ⊥
+  HeadAsked =
+      asked (
+      (length s ≤ fileLimit)
+      ∷ (8 ≤ length s)
+      ∷ ((rest : List ℕ) × (s ≡ mark ++ rest))
+      ∷ ((rest : List ℕ) × (s ≡ front ++ rest))
+      ∷ ((p : ℕ) (rest : List ℕ) → s ≡ front ++ p ∷ rest → p ≤ parameterLimit)
+      ∷ ((p l : ℕ) (rest : List ℕ) → s ≡ front ++ p ∷ l ∷ rest → l ≤ localLimit)
+      ∷ ((p l r : ℕ) (rest : List ℕ) → s ≡ front ++ p ∷ l ∷ r ∷ rest → r ≤ resultLimit)
+      ∷ ((p l r : ℕ) (ks : List Kind) (t : List ℕ) → s ≡ front ++ p ∷ l ∷ r ∷ map kindByte ks ++ t → NoKind t → p + l + r ≤ length ks)
+      ∷ [])
 
   pub too-long : fileLimit < length s → Stop HeadAsked 0
   too-long g = record { kept = none-asked HeadAsked; broken = λ q. omega arith }

@@ -1,10 +1,17 @@
 -- Rules in an order: the first that is broken is one.
-use Prim.Native.Nat.{ℕ, suc, _<_}
+use Prim.Native.Nat.{ℕ, zero, suc, _<_}
 use mathlib.Core.Path.{_≡_, sym, subst}
+use mathlib.Core.List.{List, [], _∷_}
 use mathlib.Core.Logic.{⊎-elim}
 use native.Mathlib.Nat.{eq-or-lt-of-le}
 use native.Mathlib.Omega.{arith}
 use Rattle.opcode.proofs.Every.{below-or-past}
+
+-- rules in the order in which they are asked; past the last nothing is kept
+abbrev pub asked : List {1} (Type 0) → ℕ → Type 0
+asked [] k = ⊥
+asked (q ∷ qs) zero = q
+asked (q ∷ qs) (suc k) = asked qs k
 
 -- the rules below k are kept
 abbrev pub Kept : (ℕ → Type 0) → ℕ → Type 0

@@ -1,9 +1,9 @@
 -- Of every strip at most one thing is said: one breach at most, and none of a strip that keeps the rules.
-use Prim.Native.Nat.{ℕ, zero, suc, _+_, _<_}
+use Prim.Native.Nat.{ℕ, suc, _+_, _<_}
 use mathlib.Core.Path.{_≡_, refl, ap, ap₂, sym, _∙_, subst}
 use mathlib.Core.List.{List, [], _∷_, _++_, map, append-nil}
 use native.Mathlib.Omega.{arith}
-use lib.ListN.{length}
+use lib.ListN.{length, getD}
 use Rattle.card.specs.Card.{DONE, LONG, SHORT, MARK, VERSION, COUNT, KIND}
 use Rattle.opcode.specs.Kind.{Kind, kindByte}
 use Rattle.rules.specs.Header.{Header, Few}
@@ -18,18 +18,10 @@ use Rattle.rules.proofs.Heads.{NoKind, none-left, other, kinds-part, He
 
 -- code and place of a rank of the header
 abbrev headCode : ℕ → ℕ
-headCode zero = LONG
-headCode (suc zero) = SHORT
-headCode (suc (suc zero)) = MARK
-headCode (suc (suc (suc zero))) = VERSION
-headCode (suc (suc (suc (suc k)))) = COUNT
+headCode k = getD (LONG ∷ SHORT ∷ MARK ∷ VERSION ∷ COUNT ∷ COUNT ∷ COUNT ∷ []) k DONE
 
 abbrev headPlace : List ℕ → ℕ → ℕ
-headPlace s zero = 0
-headPlace s (suc zero) = length s
-headPlace s (suc (suc zero)) = 0
-headPlace s (suc (suc (suc zero))) = 3
-headPlace s (suc (suc (suc (suc k)))) = 5 + k
+headPlace s k = getD (0 ∷ length s ∷ 0 ∷ 3 ∷ 5 ∷ 6 ∷ 7 ∷ []) k 0
 
 abbrev kindCode : List ℕ → ℕ
 kindCode [] = SHORT

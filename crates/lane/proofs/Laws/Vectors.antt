@@ -1,21 +1,24 @@
 -- For callers: a vector is given by its lanes, every operation gives sixteen bytes, and every scalar has its bound. Assumes nothing.
-use mathlib.Core.Path.{_≡_, refl, sym, ap, _∙_, subst}
-use mathlib.Core.Bool.{Bool, true, false, not}
+use mathlib.Core.Path.{_≡_, refl, sym, ap, ap₂, _∙_, subst}
+use mathlib.Core.Bool.{Bool, true, false, not, _&&_}
 use mathlib.Core.List.{List}
 use Prim.Native.Nat.{ℕ, zero, suc, _+_, _*_, _-_, _/_, _%_, _^_, _≤_, _<_}
 use native.Mathlib.Nat.{mod-lt, zero-lt-suc, div-add-mod', suc-mul, pow-suc, lt-of-lt-of-le}
 use native.Mathlib.Omega.{arith}
-use lib.Dec.{T, leb, leb→le, eqb}
+use lib.Dec.{T, leb, leb→le, eqb, ltb}
+use borrow.Author.Tests.{lt-ltb}
 use lib.IntN.{ℤ, pos, negsuc, _+ℤ_, _-ℤ_, _*ℤ_}
 use lib.Pow.{pow-pos, pow-mono}
 use mir.Syntax.{Width, w8, w16, w32, w64, w128}
 use mir.Val.{bits, bytes}
 use mir.ValLaws.{toZ-pos}
-use Rattle.lane.specs.Shape.{lanes, allOnes}
+use Rattle.lane.specs.Shape.{lanes, allOnes, i8x16}
 use Rattle.lane.specs.Vector.{number, le, lane, build, vec, Sixteen}
 use Rattle.lane.specs.Scalar.{Sign, S, value, wrap, iextend}
 use Rattle.lane.specs.Op.{Unop, Not, Abs, Neg, Popcnt, Extend, ExtaddPairwise, unary, Binop, And, Andnot, Or, Xor, Swizzle, Eq, Ne, Lt, Gt, Le, Ge, Add, Sub, Mul, AddSat, SubSat, Min, Max, AvgrU, Q15mulrSatS, DotS, Narrow, Extmul, binary, bitselect, Testop, AnyTrue, AllTrue, Bitmask, truth, all, tally, test, Shiftop, Shl, Shr, shift, splat, unpack, extracted, replaced, shuffled, Loadop, Whole, Widen, Repeat, ZeroPad, loaded, laneIn, laneOut}
-use Rattle.lane.specs.Answer.{scalarIf, vectorIf}
+use Rattle.lane.specs.Answer.{scalarIf, vectorIf, shuffle}
+use Rattle.lane.specs.declared.answer.LaneAnswer.{LaneAnswer}
+use Rattle.lane.specs.declared.answer.VectorAnswer.{VectorAnswer}
 use Rattle.lane.proofs.Laws.Number.{Bytes, length-le, bytes-le, bytes-append, fieldOf}
 use Rattle.lane.proofs.Laws.Build.{length-build, field-build, in-lanes}
 use Rattle.lane.proofs.Laws.Saturate.{minus-lt}
@@ -183,10 +186,20 @@ pub extracted-lt : (s : Sign) (w : Width) (a : List ℕ) (i : ℕ) → extracted
 unfolding iextend
 extracted-lt s w a i = wrap-lt (unpack w) (value s w (lane w a i))
 
--- ---- answers
+-- ---- answers with an index, where it is in range
 
-pub vector-value : (v : List ℕ) → vectorIf true v .value .bytes ≡ v
-vector-value v = refl
+module _ (w : Width) (i : ℕ) (in-range : i < lanes w) where
+  pub scalar-value : {r : LaneAnswer} (x : ℕ) → r ≡ scalarIf (ltb i (lanes w)) x → r .value ≡ x
+  scalar-value x e = ap (λ (q : LaneAnswer). q .value) e ∙ rw (lt-ltb i (lanes w) in-range)
 
-pub scalar-value : (x : ℕ) → scalarIf true x .value ≡ x
-scalar-value x = refl
+  pub vector-value : {r : VectorAnswer} (v : List ℕ) → r ≡ vectorIf (ltb i (lanes w)) v → r .value .bytes ≡ v
+  vector-value v e = ap (λ (q : VectorAnswer). q .value .bytes) e ∙ rw (lt-ltb i (lanes w) in-range)
+
+all-of : (n : ℕ) (P : ℕ → Bool) → ((k : ℕ) → k < n → P k ≡ true) → all n P ≡ true
+all-of zero P h = refl
+all-of (suc n) P h = ap₂ _&&_ (h n (omega arith)) (all-of n P (λ k l. h k (omega arith)))
+
+-- all sixteen are
+pub shuffle-value : (a b s : List ℕ) {r : VectorAnswer} → ((k : ℕ) → k < 16 → lane i8x16 s k < 32) → r ≡ shuffle a b s → r .value .bytes ≡ shuffled a b s
+shuffle-value a b s h e =
+    ap (λ (q : VectorAnswer). q .value .bytes) e ∙ rw (all-of 16 (λ n. ltb (lane i8x16 s n) 32) (λ k l. lt-ltb (lane i8x16 s k) 32 (h k l)))

@@ -1,19 +1,15 @@
 -- Numbers in slots: their bytes, and the lanes that read them again. Assumes nothing.
-use Prim.Native.Nat.{ℕ, zero, suc, _+_, _-_, _%_, _^_, _<_}
+use Prim.Native.Nat.{ℕ, _+_, _-_, _%_, _^_, _<_}
 use mathlib.Core.Path.{_≡_, refl, ap, ap₂, sym, _∙_}
-use mathlib.Core.Bool.{Bool, true, _&&_}
 use mathlib.Core.List.{List, _++_, append-nil}
 use native.Mathlib.Nat.{div-eq-of-lt, mod-eq-of-lt}
 use native.Mathlib.Omega.{arith}
-use lib.Dec.{ltb}
-use borrow.Author.Tests.{lt-ltb}
 use lib.ListN.{replicate, length}
 use mir.Syntax.{Width, w8, w16, w32, w64, w128}
-use Rattle.lane.specs.Shape.{i8x16}
 use Rattle.lane.specs.Vector.{le, lane, build}
 use Rattle.lane.specs.Scalar.{S}
-use Rattle.lane.specs.Op.{all, replaced, splat, shuffled}
-use Rattle.lane.specs.Answer.{extractLane, replaceLane, shuffle}
+use Rattle.lane.specs.Op.{all, replaced, splat}
+use Rattle.lane.specs.Answer.{extractLane, replaceLane}
 use Rattle.lane.specs.declared.answer.LaneAnswer.{LaneAnswer}
 use Rattle.lane.specs.declared.answer.VectorAnswer.{VectorAnswer}
 use Rattle.lane.proofs.Laws.Number.{le-split, le-mod}
@@ -21,7 +17,7 @@ use Rattle.lane.proofs.Laws.Lane.{lane-lt, lane-zeros}
 use Rattle.lane.proofs.Laws.Answers.{same-lane}
 use Rattle.machine.specs.Memory.{padded}
 use Rattle.machine.specs.Inner.Flat.{low32, low64, lowest}
-use Rattle.machine.proofs.VectorLanes.{splat-low, replaced-low}
+use Rattle.machine.proofs.Laws.LowHalf.{splat-low, replaced-low}
 
 -- sixteen bytes need no zeros
 pub padded-whole : (bs : List ℕ) → length bs ≡ 16 → padded bs ≡ bs
@@ -60,12 +56,3 @@ replaced-lowest w16 a i v = sym (replaced-low w16 (omega arith) (low64 v) a i) �
 replaced-lowest w32 a i v = sym (replaced-low w32 (omega arith) (low64 v) a i) ∙ ap (replaced w32 a i) (low-word v)
 replaced-lowest w64 a i v = refl
 replaced-lowest w128 a i v = refl
-
--- all indices are in range
-in-range : (n : ℕ) (P : ℕ → Bool) → ((k : ℕ) → k < n → P k ≡ true) → all n P ≡ true
-in-range zero P h = refl
-in-range (suc n) P h = ap₂ (λ (a b : Bool). a && b) (h n (omega arith)) (in-range n P (λ k l. h k (omega arith)))
-
-pub shuffle-value : (a b s : List ℕ) {r : VectorAnswer} → ((k : ℕ) → k < 16 → lane i8x16 s k < 32) → r ≡ shuffle a b s → r .value .bytes ≡ shuffled a b s
-shuffle-value a b s h e =
-    ap (λ (q : VectorAnswer). q .value .bytes) e ∙ rw (in-range 16 (λ n. ltb (lane i8x16 s n) 32) (λ k l. lt-ltb (lane i8x16 s k) 32 (h k l)))

@@ -9,7 +9,7 @@ use Rattle.lane.specs.Shape.{lanes}
 use Rattle.lane.specs.Vector.{lane}
 use Rattle.lane.specs.Shape.{i8x16}
 use Rattle.lane.specs.Op.{Op, Load, LoadLane, Store, StoreLane, Const, Shuffle, Splat, ExtractLane, ReplaceLane, Unary, Binary, Bitselect, Test, Shift}
-use Rattle.limits.specs.Limits.{slot, stackLimit, parameterLimit, localLimit}
+use Rattle.limits.specs.Limits.{stackLimit, stackBytes, localCount, localBytes}
 use Rattle.opcode.specs.Table.{Plain, End, Drop, LocalGet, LocalSet, LocalTee, I32Const, I64Const, I32Add, I32Sub, Code, plain, vector, carried}
 use Rattle.opcode.specs.Number.{rowOf}
 use Rattle.opcode.specs.Immediate.{moved}
@@ -54,9 +54,9 @@ takenBy (vector o) = takenByOp o
 abbrev pub Slotted : Plain → Instr → Type 0
 Slotted End i = Unit {0}
 Slotted Drop i = Unit {0}
-Slotted LocalGet i = i .index < parameterLimit + localLimit
-Slotted LocalSet i = i .index < parameterLimit + localLimit
-Slotted LocalTee i = i .index < parameterLimit + localLimit
+Slotted LocalGet i = i .index < localCount
+Slotted LocalSet i = i .index < localCount
+Slotted LocalTee i = i .index < localCount
 Slotted I32Const i = Unit {0}
 Slotted I64Const i = Unit {0}
 Slotted I32Add i = Unit {0}
@@ -84,7 +84,7 @@ Named (plain p) i = Slotted p i
 Named (vector o) i = Indexed o i
 
 pub record Fit (c : Code) (i : Instr) (st : List ℕ) (d : ℕ) : Type 0 where
-  pub stack-long : length st ≡ 1024
+  pub stack-long : length st ≡ stackBytes
   pub enough : takenBy c ≤ d
   pub deep : d ≤ stackLimit
 
@@ -125,7 +125,7 @@ pub record Ready (id : ℕ) (i : Instr) (st : List ℕ) (d : ℕ) (ls m : List �
   pub fit : Fit code i st d
   pub named : Named code i
   pub room : flat code i st d ls m .depth ≤ stackLimit
-  pub locals-long : length ls ≡ 512
+  pub locals-long : length ls ≡ localBytes
   pub clear : boundsOf code i st d (length m) ≡ Clear
 
 -- the code did just that

@@ -3,6 +3,7 @@ ghost use mathlib.Core.Path.{_≡_};
 ghost use Prim.Native.Nat.{_-_, _≤_, _<_};
 ghost use lib.ListN.{length};
 ghost use mir.Syntax.{w32};
+ghost use Rattle.limits.specs.Limits.{stackLimit, stackBytes, localBytes, localCount};
 ghost use Rattle.lane.specs.Vector.{le};
 ghost use Rattle.lane.specs.Scalar.{iadd, isub};
 ghost use Rattle.machine.specs.Inner.Flat.{slotAt, putSlot, topOf, low32};
@@ -10,14 +11,14 @@ use crate::slot;
 
 // A number as a new value.
 pub(crate) fn push_number(x: u64, stack: &mut [u8], depth: usize)
-    requires { ⌜ (depth < 64) × (length (now stack) ≡ 1024) ⌝ }
+    requires { ⌜ (depth < stackLimit) × (length (now stack) ≡ stackBytes) ⌝ }
     ensures { λ r. ⌜ now (stack .exit) ≡ putSlot (now (stack .entry)) depth (le 16 x) ⌝ }
 {
     slot::put(stack, depth, slot::of_number(x));
 }
 
 pub(crate) fn add(stack: &mut [u8], depth: usize)
-    requires { ⌜ (2 ≤ depth) × (depth ≤ 64) × (length (now stack) ≡ 1024) ⌝ }
+    requires { ⌜ (2 ≤ depth) × (depth ≤ stackLimit) × (length (now stack) ≡ stackBytes) ⌝ }
     ensures { λ r. ⌜ now (stack .exit) ≡ putSlot (now (stack .entry)) (depth - 2) (le 16 (iadd w32 (low32 (topOf (now (stack .entry)) depth 2)) (low32 (topOf (now (stack .entry)) depth 1)))) ⌝ }
 {
     let b = slot::word(slot::top(stack, depth, 1));
@@ -30,7 +31,7 @@ pub(crate) fn add(stack: &mut [u8], depth: usize)
 }
 
 pub(crate) fn sub(stack: &mut [u8], depth: usize)
-    requires { ⌜ (2 ≤ depth) × (depth ≤ 64) × (length (now stack) ≡ 1024) ⌝ }
+    requires { ⌜ (2 ≤ depth) × (depth ≤ stackLimit) × (length (now stack) ≡ stackBytes) ⌝ }
     ensures { λ r. ⌜ now (stack .exit) ≡ putSlot (now (stack .entry)) (depth - 2) (le 16 (isub w32 (low32 (topOf (now (stack .entry)) depth 2)) (low32 (topOf (now (stack .entry)) depth 1)))) ⌝ }
 {
     let b = slot::word(slot::top(stack, depth, 1)) as u64;
@@ -43,7 +44,7 @@ pub(crate) fn sub(stack: &mut [u8], depth: usize)
 }
 
 pub(crate) fn get_local(index: u32, locals: &[u8], stack: &mut [u8], depth: usize)
-    requires { ⌜ (index < 32) × (depth < 64) × (length (now locals) ≡ 512) × (length (now stack) ≡ 1024) ⌝ }
+    requires { ⌜ (index < localCount) × (depth < stackLimit) × (length (now locals) ≡ localBytes) × (length (now stack) ≡ stackBytes) ⌝ }
     ensures { λ r. ⌜ now (stack .exit) ≡ putSlot (now (stack .entry)) depth (slotAt (now (locals .entry)) index) ⌝ }
 {
     let v = slot::get(locals, index as usize);
@@ -51,7 +52,7 @@ pub(crate) fn get_local(index: u32, locals: &[u8], stack: &mut [u8], depth: usiz
 }
 
 pub(crate) fn set_local(index: u32, locals: &mut [u8], stack: &[u8], depth: usize)
-    requires { ⌜ (index < 32) × (1 ≤ depth) × (depth ≤ 64) × (length (now locals) ≡ 512) × (length (now stack) ≡ 1024) ⌝ }
+    requires { ⌜ (index < localCount) × (1 ≤ depth) × (depth ≤ stackLimit) × (length (now locals) ≡ localBytes) × (length (now stack) ≡ stackBytes) ⌝ }
     ensures { λ r. ⌜ now (locals .exit) ≡ putSlot (now (locals .entry)) index (topOf (now (stack .entry)) depth 1) ⌝ }
 {
     let v = slot::top(stack, depth, 1);

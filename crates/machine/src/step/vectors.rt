@@ -3,6 +3,7 @@ ghost use mathlib.Core.Path.{_≡_};
 ghost use Prim.Native.Nat.{ℕ, _-_, _≤_, _<_};
 ghost use lib.ListN.{length};
 ghost use mir.Syntax.{Width};
+ghost use Rattle.limits.specs.Limits.{stackLimit, stackBytes};
 ghost use Rattle.lane.specs.Shape.{lanes, i8x16};
 ghost use Rattle.lane.specs.Vector.{lane, le};
 ghost use Rattle.lane.specs.Scalar.{Sign};
@@ -16,7 +17,7 @@ use lane::I8x16;
 use lane::V128;
 
 pub(crate) fn unary(id: u32, stack: &mut [u8], depth: usize)
-    requires { ⌜ (1 ≤ depth) × (depth ≤ 64) × (length (now stack) ≡ 1024) ⌝ }
+    requires { ⌜ (1 ≤ depth) × (depth ≤ stackLimit) × (length (now stack) ≡ stackBytes) ⌝ }
     ensures { λ r. ⌜ ((o : Unop) → rowOf id ≡ does (Unary o) → now (stack .exit) ≡ putSlot (now (stack .entry)) (depth - 1) (unary o (topOf (now (stack .entry)) depth 1))) ⌝ }
 {
     let a = slot::top(stack, depth, 1);
@@ -24,7 +25,7 @@ pub(crate) fn unary(id: u32, stack: &mut [u8], depth: usize)
 }
 
 pub(crate) fn binary(id: u32, stack: &mut [u8], depth: usize)
-    requires { ⌜ (2 ≤ depth) × (depth ≤ 64) × (length (now stack) ≡ 1024) ⌝ }
+    requires { ⌜ (2 ≤ depth) × (depth ≤ stackLimit) × (length (now stack) ≡ stackBytes) ⌝ }
     ensures { λ r. ⌜ ((o : Binop) → rowOf id ≡ does (Binary o) → now (stack .exit) ≡ putSlot (now (stack .entry)) (depth - 2) (binary o (topOf (now (stack .entry)) depth 2) (topOf (now (stack .entry)) depth 1))) ⌝ }
 {
     let b = slot::top(stack, depth, 1);
@@ -34,7 +35,7 @@ pub(crate) fn binary(id: u32, stack: &mut [u8], depth: usize)
 
 // The mask is on top.
 pub(crate) fn bitselect(stack: &mut [u8], depth: usize)
-    requires { ⌜ (3 ≤ depth) × (depth ≤ 64) × (length (now stack) ≡ 1024) ⌝ }
+    requires { ⌜ (3 ≤ depth) × (depth ≤ stackLimit) × (length (now stack) ≡ stackBytes) ⌝ }
     ensures { λ r. ⌜ now (stack .exit) ≡ putSlot (now (stack .entry)) (depth - 3) (bitselect (topOf (now (stack .entry)) depth 3) (topOf (now (stack .entry)) depth 2) (topOf (now (stack .entry)) depth 1)) ⌝ }
 {
     let mask = slot::top(stack, depth, 1);
@@ -44,7 +45,7 @@ pub(crate) fn bitselect(stack: &mut [u8], depth: usize)
 }
 
 pub(crate) fn shuffle(indices: V128, stack: &mut [u8], depth: usize)
-    requires { ⌜ (2 ≤ depth) × (depth ≤ 64) × (length (now stack) ≡ 1024) × ((k : ℕ) → k < 16 → lane i8x16 (indices .bytes) k < 32) ⌝ }
+    requires { ⌜ (2 ≤ depth) × (depth ≤ stackLimit) × (length (now stack) ≡ stackBytes) × ((k : ℕ) → k < 16 → lane i8x16 (indices .bytes) k < 32) ⌝ }
     ensures { λ r. ⌜ now (stack .exit) ≡ putSlot (now (stack .entry)) (depth - 2) (shuffled (topOf (now (stack .entry)) depth 2) (topOf (now (stack .entry)) depth 1) (indices .bytes)) ⌝ }
 {
     let b = slot::top(stack, depth, 1);
@@ -53,7 +54,7 @@ pub(crate) fn shuffle(indices: V128, stack: &mut [u8], depth: usize)
 }
 
 pub(crate) fn test(id: u32, stack: &mut [u8], depth: usize)
-    requires { ⌜ (1 ≤ depth) × (depth ≤ 64) × (length (now stack) ≡ 1024) ⌝ }
+    requires { ⌜ (1 ≤ depth) × (depth ≤ stackLimit) × (length (now stack) ≡ stackBytes) ⌝ }
     ensures { λ r. ⌜ ((o : Testop) → rowOf id ≡ does (Test o) → now (stack .exit) ≡ putSlot (now (stack .entry)) (depth - 1) (le 16 (test o (topOf (now (stack .entry)) depth 1)))) ⌝ }
 {
     let a = slot::top(stack, depth, 1);
@@ -65,7 +66,7 @@ pub(crate) fn test(id: u32, stack: &mut [u8], depth: usize)
 }
 
 pub(crate) fn shift(id: u32, stack: &mut [u8], depth: usize)
-    requires { ⌜ (2 ≤ depth) × (depth ≤ 64) × (length (now stack) ≡ 1024) ⌝ }
+    requires { ⌜ (2 ≤ depth) × (depth ≤ stackLimit) × (length (now stack) ≡ stackBytes) ⌝ }
     ensures { λ r. ⌜ ((o : Shiftop) → rowOf id ≡ does (Shift o) → now (stack .exit) ≡ putSlot (now (stack .entry)) (depth - 2) (shift o (topOf (now (stack .entry)) depth 2) (low32 (topOf (now (stack .entry)) depth 1)))) ⌝ }
 {
     let n = slot::word(slot::top(stack, depth, 1));
@@ -74,7 +75,7 @@ pub(crate) fn shift(id: u32, stack: &mut [u8], depth: usize)
 }
 
 pub(crate) fn splat(id: u32, stack: &mut [u8], depth: usize)
-    requires { ⌜ (1 ≤ depth) × (depth ≤ 64) × (length (now stack) ≡ 1024) ⌝ }
+    requires { ⌜ (1 ≤ depth) × (depth ≤ stackLimit) × (length (now stack) ≡ stackBytes) ⌝ }
     ensures { λ r. ⌜ ((w : Width) → rowOf id ≡ does (Splat w) → now (stack .exit) ≡ putSlot (now (stack .entry)) (depth - 1) (splat w (lowest w (topOf (now (stack .entry)) depth 1)))) ⌝ }
 {
     let x = slot::long(slot::top(stack, depth, 1));
@@ -82,7 +83,7 @@ pub(crate) fn splat(id: u32, stack: &mut [u8], depth: usize)
 }
 
 pub(crate) fn extract(id: u32, index: u8, stack: &mut [u8], depth: usize)
-    requires { ⌜ (1 ≤ depth) × (depth ≤ 64) × (length (now stack) ≡ 1024) ⌝ }
+    requires { ⌜ (1 ≤ depth) × (depth ≤ stackLimit) × (length (now stack) ≡ stackBytes) ⌝ }
     ensures { λ r. ⌜ ((s : Sign) (w : Width) → rowOf id ≡ does (ExtractLane s w) → index < lanes w → now (stack .exit) ≡ putSlot (now (stack .entry)) (depth - 1) (le 16 (extracted s w (topOf (now (stack .entry)) depth 1) index))) ⌝ }
 {
     let a = slot::top(stack, depth, 1);
@@ -94,7 +95,7 @@ pub(crate) fn extract(id: u32, index: u8, stack: &mut [u8], depth: usize)
 }
 
 pub(crate) fn replace(id: u32, index: u8, stack: &mut [u8], depth: usize)
-    requires { ⌜ (2 ≤ depth) × (depth ≤ 64) × (length (now stack) ≡ 1024) ⌝ }
+    requires { ⌜ (2 ≤ depth) × (depth ≤ stackLimit) × (length (now stack) ≡ stackBytes) ⌝ }
     ensures { λ r. ⌜ ((w : Width) → rowOf id ≡ does (ReplaceLane w) → index < lanes w → now (stack .exit) ≡ putSlot (now (stack .entry)) (depth - 2) (replaced w (topOf (now (stack .entry)) depth 2) index (lowest w (topOf (now (stack .entry)) depth 1)))) ⌝ }
 {
     let x = slot::long(slot::top(stack, depth, 1));

@@ -1,28 +1,16 @@
--- What lane's answers hold where the index is in range, and what the low half of a number is to a lane of 32 bits or fewer.
-use mathlib.Core.Path.{_≡_, ap, _∙_}
+-- The low half of a number is all that a lane of 32 bits or fewer takes of it. Assumes nothing.
+use mathlib.Core.Path.{_≡_, ap}
 use mathlib.Core.Bool.{cond}
 use mathlib.Core.List.{List}
-use Prim.Native.Nat.{ℕ, _%_, _^_, _≤_, _<_}
+use Prim.Native.Nat.{ℕ, _%_, _^_, _≤_}
 use native.Mathlib.Omega.{arith}
-use lib.Dec.{eqb, ltb}
+use lib.Dec.{eqb}
 use lib.IntN.{pos}
-use borrow.Author.Tests.{lt-ltb}
 use mir.Syntax.{Width, w8, w16, w32, w64, w128}
 use mir.Val.{bits}
-use Rattle.lane.specs.Shape.{lanes}
 use Rattle.lane.specs.Vector.{lane, vec}
 use Rattle.lane.specs.Scalar.{wrap}
 use Rattle.lane.specs.Op.{splat, replaced}
-use Rattle.lane.specs.Answer.{scalarIf, vectorIf}
-use Rattle.lane.specs.declared.answer.LaneAnswer.{LaneAnswer}
-use Rattle.lane.specs.declared.answer.VectorAnswer.{VectorAnswer}
-
-module _ (w : Width) (i : ℕ) (in-range : i < lanes w) where
-  pub scalar-value : {r : LaneAnswer} (x : ℕ) → r ≡ scalarIf (ltb i (lanes w)) x → r .value ≡ x
-  scalar-value x e = ap (λ (q : LaneAnswer). q .value) e ∙ rw (lt-ltb i (lanes w) in-range)
-
-  pub vector-value : {r : VectorAnswer} (v : List ℕ) → r ≡ vectorIf (ltb i (lanes w)) v → r .value .bytes ≡ v
-  vector-value v e = ap (λ (q : VectorAnswer). q .value .bytes) e ∙ rw (lt-ltb i (lanes w) in-range)
 
 module _ (w : Width) (narrow : bits w ≤ 32) (x : ℕ) where
   low-half : wrap w (pos (x % 2 ^ 32)) ≡ wrap w (pos x)
