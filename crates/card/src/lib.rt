@@ -1,4 +1,4 @@
-// The inspector's card: one name for each code of an answer (document 01, "Numbers on the inspector's card").
+// The inspector's card: one name for each code of an answer, and the answer (document 01, "Numbers on the inspector's card").
 
 pub const DONE: u8 = 0;
 
@@ -47,3 +47,10 @@ pub const SMALL: u8 = 24;
 pub const TRAP: u8 = 30;
 
 pub const BUDGET: u8 = 31;
+
+// What is answered of a strip: a code, a place in it, and the instructions completed.
+pub struct Answer {
+    pub code: u8,
+    pub place: usize,
+    pub steps: u32,
+}

@@ -14,7 +14,7 @@ use Rattle.instr.specs.declared.Decoded.{Decoded}
 use Rattle.instr.specs.Decode.{decodeAt}
 use Rattle.instr.proofs.Decodes.{stands-decodes}
 use Rattle.rules.specs.Header.{Header, locals}
-use Rattle.rules.specs.Typing.{Local, Typed, signed, dropped, got, set, teed, Types, Names, get-names, set-names, tee-names}
+use Rattle.rules.specs.Typing.{Local, Typed, by-signature, dropped, got, set, teed, Types, Names, get-names, set-names, tee-names}
 use Rattle.rules.specs.Strip.{Reads}
 use Rattle.rules.proofs.Ranks.{asked, Kept, none-asked, more, Stop}
 use Rattle.rules.proofs.Typings.{types-once}
@@ -22,7 +22,7 @@ use Rattle.rules.proofs.Onward.{only}
 
 -- `end` has no typing
 pub end-untyped : {ls ins outs : List Kind} {n : ℕ} {c : Code} → Typed ls n c ins outs → c ≡ plain End → ⊥
-end-untyped (signed p) e = let z : _≡_ {A = ℕ} 0 1 = cc in omega arith
+end-untyped (by-signature p) e = let z : _≡_ {A = ℕ} 0 1 = cc in omega arith
 end-untyped dropped e = let z : _≡_ {A = ℕ} 0 1 = cc in omega arith
 end-untyped (got l) e = let z : _≡_ {A = ℕ} 0 1 = cc in omega arith
 end-untyped (set l) e = let z : _≡_ {A = ℕ} 0 1 = cc in omega arith
@@ -35,9 +35,9 @@ end-nameless tee-names e = let z : _≡_ {A = ℕ} 0 1 = cc in omega arith
 
 -- what is typed and names a local, names one that is declared
 pub declared-local : {ls ins outs : List Kind} {n : ℕ} {c : Code} → Typed ls n c ins outs → Names c → (k : Kind) × Local ls n k
-declared-local (signed p) get-names = absurd (let z : _≡_ {A = ℕ} 0 1 = cc in omega arith)
-declared-local (signed p) set-names = absurd (let z : _≡_ {A = ℕ} 0 1 = cc in omega arith)
-declared-local (signed p) tee-names = absurd (let z : _≡_ {A = ℕ} 0 1 = cc in omega arith)
+declared-local (by-signature p) get-names = absurd (let z : _≡_ {A = ℕ} 0 1 = cc in omega arith)
+declared-local (by-signature p) set-names = absurd (let z : _≡_ {A = ℕ} 0 1 = cc in omega arith)
+declared-local (by-signature p) tee-names = absurd (let z : _≡_ {A = ℕ} 0 1 = cc in omega arith)
 declared-local (got {k} l) get-names = (k, l)
 declared-local (set {k} l) set-names = (k, l)
 declared-local (teed {k} l) tee-names = (k, l)

@@ -14,7 +14,7 @@ pub data Local : List Kind → ℕ → Kind → Type 0 where
 
 -- 000's signature, or by the kind of the local or of the value
 pub data Typed (ls : List Kind) (n : ℕ) : Code → List Kind → List Kind → Type 0 where
-  signed : {c : Code} {ins outs : List Kind} → effect c ≡ some (ins ⇒ outs) → Typed ls n c ins outs
+  by-signature : {c : Code} {ins outs : List Kind} → effect c ≡ some (ins ⇒ outs) → Typed ls n c ins outs
   dropped : {k : Kind} → Typed ls n (plain Drop) (k ∷ []) []
   got : {k : Kind} → Local ls n k → Typed ls n (plain LocalGet) [] (k ∷ [])
   set : {k : Kind} → Local ls n k → Typed ls n (plain LocalSet) (k ∷ []) []

@@ -1,1 +1,1 @@
-// The rules of a whole strip, and the check.
+// The rules of a whole strip. Statements only: the check is above.
