@@ -1,0 +1,4 @@
+pub mod HeaderBytes
+pub mod Copying
+pub mod Form
+pub mod Upto

@@ -1,0 +1,3 @@
+pub mod Meter
+pub mod Run
+pub mod Inner
