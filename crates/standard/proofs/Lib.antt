@@ -1,5 +1,7 @@
--- For those who call: a turn of the machine, never stuck, stuck where a rule is broken.
+-- For those who call: where a run begins, a turn of the machine, never stuck, stuck where a rule is broken.
+pub mod Begin
 pub mod Turn
+pub mod Never
 -- What these lean on.
 pub mod Scalars
 pub mod ValueKinds
