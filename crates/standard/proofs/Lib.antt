@@ -1,0 +1,11 @@
+-- For those who call: where a run begins, a turn of the machine, never stuck, stuck where a rule is broken.
+pub mod Begin
+pub mod Turn
+pub mod Never
+-- What these lean on.
+pub mod Scalars
+pub mod ValueKinds
+pub mod Fine
+pub mod Typeds
+pub mod Next
+pub mod Steps

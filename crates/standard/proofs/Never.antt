@@ -1,0 +1,25 @@
+-- DEMAND 3, first half: a strip that keeps the rules never gets the standard's machine stuck, from any sound state and after any number of steps.
+use Prim.Native.Nat.{ℕ, zero, suc}
+use mathlib.Core.Path.{_≡_, refl}
+use mathlib.Core.List.{List}
+use lib.ListN.{length}
+use Rattle.machine.specs.Value.{Value}
+use Rattle.rules.specs.Strip.{Valid}
+use Rattle.standard.specs.Standard.{Config, Stage, onward, runs, begin}
+use Rattle.standard.specs.Safety.{Given, Sound, Safe, safe-going, safe-ended, safe-trapped}
+use Rattle.standard.proofs.Turn.{safe-step}
+use Rattle.standard.proofs.Begin.{begin-sound}
+
+safe-onward : {s : List ℕ} (v : Valid s) {m : ℕ} {g : Stage} → Safe s (v .header) m g → Safe s (v .header) m (onward s (v .header) g)
+safe-onward v {m} (safe-going {c} sound long) = safe-step v m c sound long
+safe-onward v (safe-ended kinds range long) = safe-ended kinds range long
+safe-onward v (safe-trapped past) = safe-trapped past
+
+pub never-stuck : {s : List ℕ} (v : Valid s) (m : ℕ) (c : Config) → Sound s (v .header) c → length (c .state .memory) ≡ m → (k : ℕ) → Safe s (v .header) m (runs s (v .header) k c)
+unfolding runs
+never-stuck v m c sound long zero = safe-going sound long
+never-stuck v m c sound long (suc k) = safe-onward v (never-stuck v m c sound long k)
+
+pub never-stuck-from-begin : {s : List ℕ} (v : Valid s) (vs : List Value) (mem : List ℕ) → Given (v .header) vs mem → (k : ℕ)
+    → Safe s (v .header) (length mem) (runs s (v .header) k (begin (v .header) vs mem))
+never-stuck-from-begin v vs mem g k = never-stuck v (length mem) (begin (v .header) vs mem) (begin-sound v vs mem g) refl k
