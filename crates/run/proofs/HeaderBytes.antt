@@ -40,3 +40,21 @@ module _ {s : List ℕ} {h : Header} (d : Declares s h) where
       first [] j h = absurd (let z : ⊥ = omega arith in z)
       first (k ∷ ks) zero h = refl
       first (k ∷ ks) (suc j) h = first ks j (omega arith)
+
+  -- the three counts, small enough for any sum of them
+  pub record Counts : Type 0 where
+    pub long : 8 ≤ length s
+    pub parameters : getD s 5 0 ≤ parameterLimit
+    pub further : getD s 6 0 ≤ localLimit
+    pub results : getD s 7 0 ≤ resultLimit
+    pub body : 8 + (getD s 5 0 + getD s 6 0) + getD s 7 0 ≡ length (headerBytes h)
+
+  pub counts-read : Counts
+  counts-read =
+      record {
+        long = omega (arith, start, inside);
+        parameters = omega (arith, parameter-count, d .few .parameters);
+        further = omega (arith, further-count, d .few .further);
+        results = omega (arith, result-count, d .few .results);
+        body = omega (arith, parameter-count, further-count, result-count, start);
+      }

@@ -2,3 +2,8 @@ pub mod HeaderBytes
 pub mod Copying
 pub mod Form
 pub mod Upto
+pub mod Turning
+pub mod Results
+pub mod Start
+pub mod Ways
+pub mod Driving

@@ -12,7 +12,7 @@ use Rattle.rules.specs.Header.{Header, Declares}
 use Rattle.rules.specs.Strip.{Valid}
 use Rattle.standard.specs.Standard.{begin}
 use Rattle.run.specs.Meter.{Left, meter}
-use Rattle.run.specs.Run.{Given, Slots}
+use Rattle.run.specs.Run.{Holds, Slots}
 
 -- the answer to whether P
 pub data Tells (P : Type 0) : Bool → Type 0 where
@@ -38,7 +38,7 @@ pub record Sized (s args : List ℕ) (count : ℕ) : Type 0 where
 pub record Ready (s args out : List ℕ) : Type 0 where
   pub valid : Valid s
   pub values : List Value
-  pub given : Given (valid .header .parameters) args values
+  pub given : Holds (valid .header .parameters) args values
   pub slots : Slots (valid .header .results) out
 
 -- then this is left
