@@ -1,0 +1,4 @@
+pub mod Held
+pub mod Operands
+pub mod Applied
+pub mod Effects
