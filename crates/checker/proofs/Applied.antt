@@ -73,5 +73,5 @@ module _ {ins outs : List Kind} {effect : ℕ} (small : Small ins outs) (is : pa
         let it = under-below u (omega arith) in
         let k = one-left outs refl z in
         let part = subst (λ (n : ℕ). Holds kinds n (it .0)) (it .2) (held-part h (it .0) ins (it .1)) in
-        fits (it .0) (it .1) (omega (arith, it .2, length-append (it .0) outs, ap length (k .1)))
-            (rw (k .1, k .2) (held-more part (omega arith) (k .0)))
+        let more : Holds (set kinds base (effect / 2 ^ 24)) (base + 1) (it .0 ++ outs) = rw (k .1, k .2) (held-more part (omega arith) (k .0)) in
+        fits (it .0) (it .1) (omega (arith, it .2, length-append (it .0) outs, ap length (k .1))) more

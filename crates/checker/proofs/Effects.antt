@@ -77,6 +77,9 @@ names-local c id e g row other f z q d = by (drops-or-names c (no-signature c (s
     by (inl is) = absurd (d (q ∙ ap groupOf row ∙ ap groupOfCode is))
     by (inr names) = names
 
+pub at-group : (c : Code) (id : ℕ) {g k : ℕ} → rowOf id ≡ carried c → g ≡ groupOf (rowOf id) → g ≡ k → groupOfCode c ≡ k
+at-group c id row q is = sym (q ∙ ap groupOf row) ∙ is
+
 small-in : (k : Kind) → Small (k ∷ []) []
 small-in k = record { few = lit≤ tt; one = lit≤ tt; known = omega (arith, kind-range k) }
 
@@ -103,10 +106,6 @@ get-none (by-signature p) = absurd (let z : _≡_ {A = ℕ} 0 1 = cc in omega ar
 get-none (got m) = refl
 
 module _ (ls : List Kind) (n : ℕ) (κs : List Kind) (e : ℕ) where
-  -- the same of every code of a group
-  at-group : (c : Code) (id g k : ℕ) → rowOf id ≡ carried c → g ≡ groupOf (rowOf id) → g ≡ k → groupOfCode c ≡ k
-  at-group c id g k row q is = sym (q ∙ ap groupOf row) ∙ is
-
   module _ {kinds : List ℕ} {depth : ℕ} (h : Holds kinds depth κs) (c : Code) (id g : ℕ) (row : rowOf id ≡ carried c) (q : g ≡ groupOf (rowOf id)) (is : g ≡ 1) where
     none-to-drop : depth ≡ 0 → (ins outs below : List Kind) → Typed ls n (plain Drop) ins outs → κs ≡ below ++ ins → ins ≡ i32 ∷ []
     none-to-drop z ins outs below t f =
@@ -116,7 +115,7 @@ module _ (ls : List Kind) (n : ℕ) (κs : List Kind) (e : ℕ) where
     pub effected-none : depth ≡ 0 → e ≡ kindByte i32 → Effected ls n c κs e
     effected-none z f =
         subst (Effected ls n c κs) (sym f)
-        (by-group (λ c. Effected ls n c κs (kindByte i32)) 1 (typed-by dropped (small-in i32) (none-to-drop z)) c (at-group c id g 1 row q is))
+        (by-group (λ c. Effected ls n c κs (kindByte i32)) 1 (typed-by dropped (small-in i32) (none-to-drop z)) c (at-group c id row q is))
 
     pub effected-drop : (depth ≡ 0 → ⊥) → e ≡ getD kinds (depth - 1) 0 → Effected ls n c κs e
     effected-drop z f =
@@ -130,7 +129,7 @@ module _ (ls : List Kind) (n : ℕ) (κs : List Kind) (e : ℕ) where
             let one = drop-one t in
             let tops = ends-once below (last .0) (one .0 ∷ []) (last .1 ∷ []) refl (sym (r ∙ ap (λ (x : List Kind). below ++ x) (one .1)) ∙ last .2) .1 in
             one .1 ∙ tops))
-        c (at-group c id g 1 row q is))
+        c (at-group c id row q is))
 
   module _ (s : List ℕ) {locals : ℕ} (h : Holds (drop 8 s) locals ls) (c : Code) (names : Names c) where
     pub effected-undeclared : locals ≤ n → e ≡ 0 → Effected ls n c κs e

@@ -1,15 +1,18 @@
+-- As many kinds as were read.
+use borrow.Author.Needs.{needs}
+use borrow.Author.Tests.{not-true, not-false}
+use Prim.Native.Nat.{_-_, _≤_}
+use mathlib.Core.Path.{sym, _∙_}
+use native.Mathlib.Omega.{arith}
+use Rattle.checker.proofs.Fronts.{KindsRead, read-none, read-more, read-cut, read-other, read-all, said}
 use Rattle.checker.proofs.header.kinds.Statement.{statement}
 use Rattle.checker.proofs.header.kinds.Tie as tie
-use Rattle.checker.proofs.header.kinds.Reads as reads
-use Rattle.checker.proofs.header.kinds.Lts as lts
-use Rattle.checker.proofs.answer.Reads as answer-reads
-use Rattle.checker.proofs.kind.is_kind.Reads as is-kind-reads
 
 abbrev Inv-loop : tie.InvT-loop
-Inv-loop strip n k₀ k = ?
+Inv-loop strip n k₀ k = (k ≤ n) × KindsRead strip k
 
 abbrev μ-loop : tie.MeasureT-loop
-μ-loop strip n k₀ k = ?
+μ-loop strip n k₀ k = n - k
 
 -- src/header.rt:55:5
 loop-holds : tie.Need-loop-holds Inv-loop μ-loop
@@ -17,11 +20,11 @@ loop-holds c = ?
 
 -- src/header.rt:56:27
 add-if1 : tie.Need-add-if1 Inv-loop μ-loop
-add-if1 c = ?
+add-if1 c = search needs
 
 -- src/header.rt:57:13
 answer-requires : tie.Need-answer-requires Inv-loop μ-loop
-answer-requires c κs = ?
+answer-requires c κs = search needs
 
 -- src/header.rt:57:13
 returns : tie.Need-returns Inv-loop μ-loop
@@ -29,23 +32,23 @@ returns c = ?
 
 -- src/header.rt:59:33
 add-is-kind : tie.Need-add-is-kind Inv-loop μ-loop
-add-is-kind c = ?
+add-is-kind c = search needs
 
 -- src/header.rt:59:27
 shared-slice-read-is-kind : tie.Need-shared-slice-read-is-kind Inv-loop μ-loop
-shared-slice-read-is-kind c = ?
+shared-slice-read-is-kind c = search needs
 
 -- src/header.rt:59:13
 is-kind-requires : tie.Need-is-kind-requires Inv-loop μ-loop
-is-kind-requires c κs = ?
+is-kind-requires c κs = search needs
 
 -- src/header.rt:60:39
 add-answer : tie.Need-add-answer Inv-loop μ-loop
-add-answer c = ?
+add-answer c = search needs
 
 -- src/header.rt:60:13
 answer-requires-2 : tie.Need-answer-requires-2 Inv-loop μ-loop
-answer-requires-2 c κs = ?
+answer-requires-2 c κs = search needs
 
 -- src/header.rt:60:13
 returns-2 : tie.Need-returns-2 Inv-loop μ-loop
@@ -53,11 +56,11 @@ returns-2 c = ?
 
 -- src/header.rt:62:9
 add-k : tie.Need-add-k Inv-loop μ-loop
-add-k c = ?
+add-k c = search needs
 
 -- src/header.rt:55:5
 loop-less : tie.Need-loop-less Inv-loop μ-loop
-loop-less c = ?
+loop-less c = search needs
 
 -- src/header.rt:55:5
 loop-again : tie.Need-loop-again Inv-loop μ-loop
@@ -65,7 +68,7 @@ loop-again c = ?
 
 -- src/header.rt:64:5
 answer-requires-3 : tie.Need-answer-requires-3 Inv-loop μ-loop
-answer-requires-3 c κs = ?
+answer-requires-3 c κs = search needs
 
 -- src/header.rt:50:1
 returns-3 : tie.Need-returns-3 Inv-loop μ-loop

@@ -1,19 +1,16 @@
+-- One of the three bytes.
+use borrow.Author.Tests.{eq-eqb, ne-eqb}
 use Rattle.checker.proofs.kind.is_kind.Statement.{statement}
 use Rattle.checker.proofs.kind.is_kind.Tie as tie
-use Rattle.checker.proofs.kind.is_kind.Reads as reads
-use Rattle.checker.proofs.kind.is_kind.Lts as lts
 
--- src/kind.rt:15:9
 returns : tie.Need-returns
-returns c = ?
+returns c = simp (eq-eqb _ _ (c .if1 .taken))
 
--- src/kind.rt:18:9
 returns-2 : tie.Need-returns-2
-returns-2 c = ?
+returns-2 c = simp (ne-eqb _ _ (c .before .if1 .left), eq-eqb _ _ (c .if2 .taken))
 
--- src/kind.rt:11:1
 returns-3 : tie.Need-returns-3
-returns-3 c = ?
+returns-3 c = simp (ne-eqb _ _ (c .before .if1 .left), ne-eqb _ _ (c .if2 .left))
 
 pub is-kind-spec : {M : Type 1} → statement M
 is-kind-spec = tie.close (tie.spec returns returns-2 returns-3)

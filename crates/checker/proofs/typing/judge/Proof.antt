@@ -1,4 +1,6 @@
+-- From the effect.
 use borrow.Author.Needs.{needs}
+use Rattle.checker.proofs.Effects.{judges-local, judges-applies}
 use Rattle.checker.proofs.typing.judge.Statement.{statement}
 use Rattle.checker.proofs.typing.judge.Tie as tie
 use Rattle.checker.proofs.typing.judge.Reads as reads
@@ -16,7 +18,7 @@ same-length c = search needs
 
 -- src/typing.rt:59:9
 returns : tie.Need-returns
-returns c = ?
+returns c v ls κs row other h g = judges-local (c .before .effect-of .ensures v ls κs row other h g) (c .if1 .taken)
 
 -- src/typing.rt:64:5
 apply-requires : tie.Need-apply-requires
@@ -28,7 +30,8 @@ same-length-2 c = search needs
 
 -- src/typing.rt:46:1
 returns-2 : tie.Need-returns-2
-returns-2 c = ?
+returns-2 c v ls κs row other h g =
+    judges-applies (c .before .before .before .before .before .effect-of .ensures v ls κs row other h g) (c .before .before .before .before .if1 .left) (λ ins outs small is. c .before .before .apply .ensures κs ins outs g small is)
 
 pub judge-spec : {M : Type 1} → statement M
 judge-spec =
