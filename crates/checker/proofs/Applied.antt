@@ -61,7 +61,7 @@ module _ {ins outs : List Kind} {effect : ℕ} (small : Small ins outs) (is : pa
         let it = under-below u b in
         let same : it .0 ++ outs ≡ it .0 = ap (λ (x : List Kind). it .0 ++ x) (none-left outs refl z) ∙ append-nil (it .0) in
         fits (it .0) (it .1) (omega (arith, ap length same, it .2))
-            (subst (Holds kinds base) (sym same) (subst (λ (n : ℕ). Holds kinds n (it .0)) (it .2) (held-part h (it .0) ins (it .1))))
+        (subst (Holds kinds base) (sym same) (subst (λ (n : ℕ). Holds kinds n (it .0)) (it .2) (held-part h (it .0) ins (it .1))))
 
     pub applies-over : {after : List ℕ} {d : ℕ} → (effect / 2 ^ 24 ≡ 0 → ⊥) → base ≡ stackLimit → Applies κs ins outs after DEEP d
     applies-over z b =

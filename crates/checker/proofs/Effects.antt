@@ -126,9 +126,9 @@ module _ (ls : List Kind) (n : ℕ) (κs : List Kind) (e : ℕ) where
         subst (Effected ls n c κs) number-is
         (by-group (λ c. Effected ls n c κs (packed (some (last .1 ∷ [] ⇒ [])))) 1
         (typed-by dropped (small-in (last .1)) (λ ins outs below t r.
-            let one = drop-one t in
-            let tops = ends-once below (last .0) (one .0 ∷ []) (last .1 ∷ []) refl (sym (r ∙ ap (λ (x : List Kind). below ++ x) (one .1)) ∙ last .2) .1 in
-            one .1 ∙ tops))
+        let one = drop-one t in
+        let tops = ends-once below (last .0) (one .0 ∷ []) (last .1 ∷ []) refl (sym (r ∙ ap (λ (x : List Kind). below ++ x) (one .1)) ∙ last .2) .1 in
+        one .1 ∙ tops))
         c (at-group c id row q is))
 
   module _ (s : List ℕ) {locals : ℕ} (h : Holds (drop 8 s) locals ls) (c : Code) (names : Names c) where

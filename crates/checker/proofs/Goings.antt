@@ -27,7 +27,7 @@ use Rattle.rules.specs.Breach.{At, Breach, local, operand, deep, result, traili
 use Rattle.checker.specs.Check.{Checked}
 use Rattle.checker.specs.Inner.Kinds.{Holds, Compares}
 use Rattle.checker.specs.Inner.Judging.{Judges, no-local, untyped, too-deep, typed}
-use Rattle.checker.specs.Inner.Parts.{Counts, Begins, AtEnd}
+use Rattle.checker.specs.Inner.Parts.{Headed, Counts, Begins, AtEnd}
 use Rattle.checker.proofs.Fronts.{Says-so}
 use Rattle.checker.proofs.Refusals.{refused-breach}
 
@@ -65,6 +65,25 @@ module _ {s : List ℕ} {n r : ℕ} {h : Header} (k : Counts s n r h) where
         rest = k .declares .body;
         here = sym (drop-drop n 8 s) ∙ ap (λ (x : List ℕ). drop n x) kind-bytes ∙ drop-at (map kindByte (locals h)) (map kindByte (h .results) ++ k .declares .body) n (length-map (locals h) kindByte ∙ k .locals-are);
       }
+
+-- the counts stand in the header
+opening : {s : List ℕ} {h : Header} → Declares s h → Begins s (8 + (getD s 5 0 + getD s 6 0) + getD s 7 0) (getD s 5 0 + getD s 6 0) (getD s 7 0)
+opening {s} {h} d =
+    let p : getD s 5 0 ≡ length (h .parameters) = ap (λ (x : List ℕ). getD x 5 0) (d .bytes) in
+    let l : getD s 6 0 ≡ length (h .further) = ap (λ (x : List ℕ). getD x 6 0) (d .bytes) in
+    let r : getD s 7 0 ≡ length (h .results) = ap (λ (x : List ℕ). getD x 7 0) (d .bytes) in
+    let ls = length-append (h .parameters) (h .further) in
+    record {
+      header = h;
+      counts = record { declares = d; locals-are = omega arith; results-are = sym r };
+      start-is = omega (arith, length-map (kinds h) kindByte, length-append (locals h) (h .results));
+    }
+
+pub headed-opens : {s : List ℕ} {r : Answer} → Headed s r → r .code ≡ DONE → Begins s (8 + (getD s 5 0 + getD s 6 0) + getD s 7 0) (getD s 5 0 + getD s 6 0) (getD s 7 0)
+headed-opens w z = opening (w .whole z .1)
+
+pub headed-checked : {s : List ℕ} {r : Answer} → Headed s r → (r .code ≡ DONE → ⊥) → Checked s r
+headed-checked w z = record { says = breach (w .broken z); steps = w .steps }
 
 -- ---- all is well up to this place, and these kinds are on the stack
 

@@ -1,3 +1,7 @@
+-- For those who call: what an answer says, and that it is one.
+pub mod Exact
+pub mod Unique
+-- What these and the functions' proofs lean on.
 pub mod Held
 pub mod Operands
 pub mod Applied

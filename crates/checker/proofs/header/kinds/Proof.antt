@@ -16,7 +16,7 @@ abbrev μ-loop : tie.MeasureT-loop
 
 -- src/header.rt:55:5
 loop-holds : tie.Need-loop-holds Inv-loop μ-loop
-loop-holds c = ?
+loop-holds c = (omega arith, read-none (c .before .args .strip .now))
 
 -- src/header.rt:56:27
 add-if1 : tie.Need-add-if1 Inv-loop μ-loop
@@ -28,7 +28,9 @@ answer-requires c κs = search needs
 
 -- src/header.rt:57:13
 returns : tie.Need-returns Inv-loop μ-loop
-returns c = ?
+returns c =
+    let a = c .before .before .before .before .before .args in let l = c .before .before .before .loop in
+    said (c .answer .ensures) (read-cut (a .strip .now) (l .inv .1) (a .n) (c .before .before .loop-test .taken) (c .before .if1 .taken))
 
 -- src/header.rt:59:33
 add-is-kind : tie.Need-add-is-kind Inv-loop μ-loop
@@ -52,7 +54,10 @@ answer-requires-2 c κs = search needs
 
 -- src/header.rt:60:13
 returns-2 : tie.Need-returns-2 Inv-loop μ-loop
-returns-2 c = ?
+returns-2 c =
+    let a = c .before .before .before .before .before .before .before .before .args in let l = c .before .before .before .before .before .before .loop in
+    said (c .answer2 .ensures)
+    (read-other (a .strip .now) (l .inv .1) (a .n) (c .before .before .before .before .before .loop-test .taken) (c .before .before .before .before .if1 .left) (sym (c .before .before .is-kind .ensures) ∙ not-true _ (c .before .if2 .taken)))
 
 -- src/header.rt:62:9
 add-k : tie.Need-add-k Inv-loop μ-loop
@@ -64,7 +69,9 @@ loop-less c = search needs
 
 -- src/header.rt:55:5
 loop-again : tie.Need-loop-again Inv-loop μ-loop
-loop-again c = ?
+loop-again c =
+    let a = c .before .before .before .before .before .before .before .args in let l = c .before .before .before .before .before .loop in
+    (omega arith, read-more (a .strip .now) (l .inv .1) (c .before .before .before .if1 .left) (sym (c .before .is-kind .ensures) ∙ not-false _ (c .if2 .left)))
 
 -- src/header.rt:64:5
 answer-requires-3 : tie.Need-answer-requires-3 Inv-loop μ-loop
@@ -72,7 +79,9 @@ answer-requires-3 c κs = search needs
 
 -- src/header.rt:50:1
 returns-3 : tie.Need-returns-3 Inv-loop μ-loop
-returns-3 c = ?
+returns-3 c =
+    let a = c .before .before .before .before .args in let l = c .before .before .loop in
+    said (c .answer3 .ensures) (read-all (a .strip .now) (l .inv .1) (a .n) (l .inv .0) (c .before .loop-test .left))
 
 pub kinds-spec : {M : Type 1} → statement M
 kinds-spec =
