@@ -1,0 +1,218 @@
+-- The instructions, one after the other.
+use Prim.Native.Nat.{ℕ, _+_, _-_, _≤_, _<_}
+use mathlib.Core.Path.{_≡_, refl, sym, ap, subst, _∙_}
+use mathlib.Core.Bool.{Bool, true, false}
+use mathlib.Core.List.{List, [], _∷_, _++_, map, map-append, append-assoc}
+use native.Mathlib.Omega.{arith}
+use lib.ListN.{length, getD, drop, length-append, length-map}
+use lib.Seq.{drop-at, drop-drop}
+use Rattle.card.specs.Card.{DONE, RESULT, TRAILING}
+use Rattle.card.specs.declared.Answer.{Answer}
+use Rattle.limits.specs.Limits.{fileLimit, stackLimit}
+use Rattle.leb128.specs.Bytes.{bytes}
+use Rattle.opcode.specs.Kind.{Kind, kindByte}
+use Rattle.opcode.specs.Table.{End, Code, plain, Row, carried, float, unassigned}
+use Rattle.opcode.specs.Number.{idOf, rowOf}
+use Rattle.opcode.proofs.Id.{row-of-id}
+use Rattle.instr.specs.declared.Instr.{Instr}
+use Rattle.instr.specs.declared.Decoded.{Decoded}
+use Rattle.instr.specs.Layout.{Allowed, rowIn, Stands}
+use Rattle.instr.specs.Decode.{decodeAt}
+use Rattle.instr.proofs.Stands.{decoded-stands}
+use Rattle.instr.proofs.Ranges.{stands-some, stands-inside, end-first, first-end, end-one}
+use Rattle.rules.specs.Header.{Header, Declares, headerBytes, locals, kinds}
+use Rattle.rules.specs.Typing.{Types}
+use Rattle.rules.specs.Strip.{Reads, Reaches, front, past, Valid}
+use Rattle.rules.specs.Breach.{At, Breach, local, operand, deep, result, trailing, Says, valid, breach}
+use Rattle.checker.specs.Check.{Checked}
+use Rattle.checker.specs.Inner.Kinds.{Holds, Compares}
+use Rattle.checker.specs.Inner.Judging.{Judges, no-local, untyped, too-deep, typed}
+use Rattle.checker.specs.Inner.Parts.{Headed, Counts, Begins, AtEnd}
+use Rattle.checker.proofs.Fronts.{Says-so}
+use Rattle.checker.proofs.Refusals.{refused-breach}
+
+pub checked : {s : List ℕ} {r : Answer} {c l : ℕ} → Says-so r c l → Says s c l → Checked s r
+checked {s} {r} {c} {l} a b =
+    record { says = subst (λ (x : ℕ). Says s x (r .place)) (sym (a .0)) (subst (Says s c) (sym (a .1)) b); steps = a .2 }
+
+-- ---- what the counts say of the bytes
+
+module _ {s : List ℕ} {n r : ℕ} {h : Header} (k : Counts s n r h) where
+  kind-bytes : drop 8 s ≡ map kindByte (locals h) ++ (map kindByte (h .results) ++ k .declares .body)
+  kind-bytes =
+      ap (drop 8) (k .declares .bytes) ∙ ap (λ (x : List ℕ). x ++ k .declares .body) (map-append kindByte (locals h) (h .results))
+      ∙ append-assoc (map kindByte (locals h)) (map kindByte (h .results)) (k .declares .body)
+
+  pub counts-inside : 8 + n + r ≤ length s
+  counts-inside =
+      omega (
+        arith,
+        ap length (k .declares .bytes),
+        length-append (map kindByte (kinds h)) (k .declares .body),
+        length-map (kinds h) kindByte,
+        length-append (locals h) (h .results),
+        k .locals-are,
+        k .results-are,
+      )
+
+  pub holds-locals : Holds (drop 8 s) n (locals h)
+  holds-locals = record { many = k .locals-are; rest = map kindByte (h .results) ++ k .declares .body; here = kind-bytes }
+
+  pub holds-results : Holds (drop (8 + n) s) r (h .results)
+  holds-results =
+      record {
+        many = k .results-are;
+        rest = k .declares .body;
+        here = sym (drop-drop n 8 s) ∙ ap (λ (x : List ℕ). drop n x) kind-bytes ∙ drop-at (map kindByte (locals h)) (map kindByte (h .results) ++ k .declares .body) n (length-map (locals h) kindByte ∙ k .locals-are);
+      }
+
+-- the counts stand in the header
+opening : {s : List ℕ} {h : Header} → Declares s h → Begins s (8 + (getD s 5 0 + getD s 6 0) + getD s 7 0) (getD s 5 0 + getD s 6 0) (getD s 7 0)
+opening {s} {h} d =
+    let p : getD s 5 0 ≡ length (h .parameters) = ap (λ (x : List ℕ). getD x 5 0) (d .bytes) in
+    let l : getD s 6 0 ≡ length (h .further) = ap (λ (x : List ℕ). getD x 6 0) (d .bytes) in
+    let r : getD s 7 0 ≡ length (h .results) = ap (λ (x : List ℕ). getD x 7 0) (d .bytes) in
+    let ls = length-append (h .parameters) (h .further) in
+    record {
+      header = h;
+      counts = record { declares = d; locals-are = omega arith; results-are = sym r };
+      start-is = omega (arith, length-map (kinds h) kindByte, length-append (locals h) (h .results));
+    }
+
+pub headed-opens : {s : List ℕ} {r : Answer} → Headed s r → r .code ≡ DONE → Begins s (8 + (getD s 5 0 + getD s 6 0) + getD s 7 0) (getD s 5 0 + getD s 6 0) (getD s 7 0)
+headed-opens w z = opening (w .whole z .1)
+
+pub headed-checked : {s : List ℕ} {r : Answer} → Headed s r → (r .code ≡ DONE → ⊥) → Checked s r
+headed-checked w z = record { says = breach (w .broken z); steps = w .steps }
+
+-- ---- all is well up to this place, and these kinds are on the stack
+
+pub record Going (s : List ℕ) (n r : ℕ) (kinds : List ℕ) (depth at : ℕ) : Type 0 where
+  pub header : Header
+  pub counts : Counts s n r header
+  pub stack : List Kind
+  pub holds : Holds kinds depth stack
+  pub reached : Reaches s header at stack
+  pub most : depth ≤ stackLimit
+  pub long : length kinds ≡ stackLimit
+
+pub starts : {s : List ℕ} {start n r : ℕ} (kinds : List ℕ) → length kinds ≡ stackLimit → Begins s start n r → Going s n r kinds 0 start
+starts {s} kinds l b =
+    record {
+      header = b .header;
+      counts = b .counts;
+      stack = [];
+      holds = record { many = refl; rest = kinds; here = refl };
+      reached = subst (λ (x : ℕ). Reaches s (b .header) x []) (b .start-is) (front (b .counts .declares));
+      most = omega arith;
+      long = l;
+    }
+
+row-carried : (w : Row) (i : Instr) → Allowed w i → (c : Code) × (w ≡ carried c)
+unfolding Allowed
+row-carried (carried c) i a = (c, refl)
+row-carried float i a = absurd a
+row-carried unassigned i a = absurd a
+
+module _ {s : List ℕ} {n r : ℕ} {kinds : List ℕ} {depth at : ℕ} (w : Going s n r kinds depth at) (d : Decoded) (is : d ≡ decodeAt s at) where
+  pub refuses : (d .code ≡ DONE → ⊥) → Breach s (d .code) (d .place)
+  refuses z =
+      subst (λ (x : Decoded). Breach s (x .code) (x .place)) (sym is) (refused-breach s (w .reached) (λ e. z (ap (λ (x : Decoded). x .code) is ∙ e)))
+
+  module _ (b : bytes s) (z : d .code ≡ DONE) where
+    stands : Stands s at (d .instr) (d .len)
+    stands = subst (λ (x : Decoded). Stands s at (x .instr) (x .len)) (sym is) (decoded-stands s b at (sym (ap (λ (x : Decoded). x .code) is) ∙ z))
+
+    -- the code that was read
+    pub coded : (c : Code) × Reads s at (d .instr) c (d .len)
+    coded = let c = row-carried (rowIn (d .instr)) (d .instr) (stands .allowed) in (c .0, record { stands = stands; does = c .1 })
+
+    pub moves : (0 < d .len) × (at + d .len ≤ length s) × (length s ≤ fileLimit)
+    moves = (stands-some stands, stands-inside stands, w .counts .declares .sized)
+
+    pub at-end : d .instr .first ≡ 0x0B → AtEnd s n r at kinds depth
+    at-end e =
+        record {
+          header = w .header;
+          counts = w .counts;
+          stack = w .stack;
+          holds = w .holds;
+          final = d .instr;
+          here = record { reached = w .reached; size = d .len; reads = record { stands = stands; does = first-end (d .instr) e } };
+        }
+
+    module _ (e : d .instr .first ≡ 0x0B → ⊥) (id : ℕ) (its-id : id ≡ idOf (d .instr .first) (d .instr .number)) where
+      pub its-row : rowOf id ≡ carried (coded .0)
+      its-row = ap rowOf its-id ∙ row-of-id (d .instr .first) (d .instr .number) (stands .typed .first) ∙ coded .1 .does
+
+      pub not-end : coded .0 ≡ plain End → ⊥
+      not-end q = e (end-first (d .instr) (stands .typed .first) (coded .1 .does ∙ ap carried q))
+
+      here : At s (w .header) at (w .stack) (d .instr) (coded .0)
+      here = record { reached = w .reached; size = d .len; reads = coded .1 }
+
+      module _ {after : List ℕ} where
+        breaks-of : {code depth′ : ℕ} → Judges (locals (w .header)) (d .instr .index) (coded .0) (w .stack) after code depth′ → (code ≡ DONE → ⊥) → Breach s code at
+        breaks-of (no-local names f) z = local here names f
+        breaks-of (untyped declared f) z = operand here not-end declared f
+        breaks-of (too-deep t big) z = deep here t big
+        breaks-of (typed t small g) z = absurd (z refl)
+
+        goes-of : {code depth′ : ℕ} → Judges (locals (w .header)) (d .instr .index) (coded .0) (w .stack) after code depth′ → code ≡ DONE → length after ≡ stackLimit
+            → Going s n r after depth′ (at + d .len)
+        goes-of (no-local names f) z l = absurd (let no : ⊥ = omega arith in no)
+        goes-of (untyped declared f) z l = absurd (let no : ⊥ = omega arith in no)
+        goes-of (too-deep t big) z l = absurd (let no : ⊥ = omega arith in no)
+        goes-of (typed t small g) z l =
+            record {
+              header = w .header;
+              counts = w .counts;
+              stack = _;
+              holds = g;
+              reached = past (w .reached) (coded .1) t small;
+              most = omega (arith, g .many);
+              long = l;
+            }
+
+        module _ {code depth′ : ℕ}
+            (j : (c : Code) (ls κs : List Kind) → rowOf id ≡ carried c → (c ≡ plain End → ⊥) → Holds (drop 8 s) n ls → Holds kinds depth κs → Judges ls (d .instr .index) c κs after code depth′) where
+          judgement : Judges (locals (w .header)) (d .instr .index) (coded .0) (w .stack) after code depth′
+          judgement = j (coded .0) (locals (w .header)) (w .stack) its-row not-end (holds-locals (w .counts)) (w .holds)
+
+          pub breaks : (code ≡ DONE → ⊥) → Breach s code at
+          breaks = breaks-of judgement
+
+          pub goes : code ≡ DONE → length after ≡ stackLimit → Going s n r after depth′ (at + d .len)
+          goes = goes-of judgement
+
+-- ---- after `end`
+
+module _ {s : List ℕ} {n r at : ℕ} {kinds : List ℕ} {depth : ℕ} (w : AtEnd s n r at kinds depth) where
+  pub end-inside : (at + 1 ≤ length s) × (length s ≤ fileLimit)
+  end-inside = let t = w .here .reads .stands in (omega (arith, stands-some t, stands-inside t), w .counts .declares .sized)
+
+  pub compared : {b : Bool} → ((κs λs : List Kind) → Holds kinds depth κs → Holds (drop (8 + n) s) r λs → Compares κs λs b) → Compares (w .stack) (w .header .results) b
+  compared f = f (w .stack) (w .header .results) (w .holds) (holds-results (w .counts))
+
+  pub other-results : (w .stack ≡ w .header .results → ⊥) → Breach s RESULT at
+  other-results f = result (w .here) f
+
+  module _ (same : w .stack ≡ w .header .results) where
+    here-results : At s (w .header) at (w .header .results) (w .final) (plain End)
+    here-results = subst (λ (x : List Kind). At s (w .header) at x (w .final) (plain End)) same (w .here)
+
+    pub trails : at + 1 < length s → Breach s TRAILING (at + 1)
+    trails l = trailing here-results l
+
+    pub passes : length s ≤ at + 1 → Valid s
+    passes l =
+        let t = here-results .reads in
+        let one : here-results .size ≡ 1 = end-one (t .stands) (end-first (w .final) (t .stands .typed .first) (t .does)) in
+        record {
+          header = w .header;
+          place = at;
+          final = w .final;
+          reached = here-results .reached;
+          ends = subst (Reads s at (w .final) (plain End)) one t;
+          last = omega (arith, end-inside);
+        }

@@ -1,0 +1,20 @@
+-- What the check promises leaves one answer: code, place and steps.
+use Prim.Native.Nat.{ℕ}
+use mathlib.Core.Path.{_≡_, sym, ap, ap₂, _∙_}
+use mathlib.Core.List.{List}
+use Rattle.card.specs.declared.Answer.{Answer}
+use Rattle.rules.proofs.Verdicts.{says-once}
+use Rattle.checker.specs.Check.{Checked}
+use Rattle.checker.proofs.check.Reads as check
+
+abbrev answer : ℕ → ℕ → ℕ → Answer
+answer c p n = record { code = c; place = p; steps = n }
+
+pub one-answer : {s : List ℕ} {r r′ : Answer} → Checked s r → Checked s r′ → r ≡ r′
+one-answer {r = r} {r′ = r′} a b =
+    let same = says-once (a .says) (b .says) in
+    ap₂ (λ (c p : ℕ). answer c p (r .steps)) (same .0) (same .1) ∙ ap (answer (r′ .code) (r′ .place)) (a .steps ∙ sym (b .steps))
+
+-- of the function's own contract
+pub one-check : (κs : _) (a : _) (e e′ : _) (r r′ : Answer) → check.Post κs a r e → check.Post κs a r′ e′ → r ≡ r′
+one-check κs a e e′ r r′ p q = one-answer p q

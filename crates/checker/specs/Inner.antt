@@ -1,0 +1,4 @@
+-- What only contracts inside the crate cite; no promise to a user does.
+pub mod Kinds
+pub mod Judging
+pub mod Parts

@@ -1,0 +1,65 @@
+// The header: every byte before the first instruction, each asked in the order of the file.
+ghost use Prim.Native.Nat.{_≤_};
+ghost use mathlib.Core.Path.{_≡_};
+ghost use lib.ListN.{length};
+ghost use Rattle.checker.specs.Inner.Parts.{Headed, KindsSay};
+use crate::answer;
+use crate::kind;
+use card::Answer;
+
+pub(crate) fn header(strip: &[u8]) -> Answer
+    ensures { λ r. ⌜ Headed (now (strip .entry)) r ⌝ }
+{
+    if limits::FILE < strip.len() {
+        return answer(card::LONG, 0);
+    }
+    if strip.len() < 8 {
+        return answer(card::SHORT, strip.len());
+    }
+    if strip[0] != b'W' {
+        return answer(card::MARK, 0);
+    }
+    if strip[1] != b'G' {
+        return answer(card::MARK, 0);
+    }
+    if strip[2] != b'P' {
+        return answer(card::MARK, 0);
+    }
+    if strip[3] != 1 {
+        return answer(card::VERSION, 3);
+    }
+    if strip[4] != 0 {
+        return answer(card::VERSION, 3);
+    }
+    let p = strip[5] as usize;
+    if limits::PARAMETERS < p {
+        return answer(card::COUNT, 5);
+    }
+    let l = strip[6] as usize;
+    if limits::LOCALS < l {
+        return answer(card::COUNT, 6);
+    }
+    let r = strip[7] as usize;
+    if limits::RESULTS < r {
+        return answer(card::COUNT, 7);
+    }
+    kinds(strip, p + l + r)
+}
+
+// The n kind bytes.
+fn kinds(strip: &[u8], n: usize) -> Answer
+    requires { ⌜ (8 ≤ length (now strip)) × (n ≤ 36) ⌝ }
+    ensures { λ r. ⌜ KindsSay (now (strip .entry)) n (r .code) (r .place) × (r .steps ≡ 0) ⌝ }
+{
+    let mut k = 0;
+    while k < n {
+        if strip.len() <= 8 + k {
+            return answer(card::SHORT, strip.len());
+        }
+        if !kind::is_kind(strip[8 + k]) {
+            return answer(card::KIND, 8 + k);
+        }
+        k += 1;
+    }
+    answer(card::DONE, 0)
+}

@@ -1,0 +1,33 @@
+// The check of a whole strip: its header, then its instructions one after the other.
+mod body;
+mod header;
+mod kind;
+mod stack;
+mod typing;
+
+ghost use mathlib.Core.Path.{_≡_};
+ghost use Rattle.checker.specs.Check.{Checked};
+use card::Answer;
+
+pub fn check(strip: &[u8]) -> Answer
+    ensures { λ r. ⌜ Checked (now (strip .entry)) r ⌝ }
+{
+    let h = header::header(strip);
+    if h.code != card::DONE {
+        return h;
+    }
+    let locals = strip[5] as usize + strip[6] as usize;
+    let results = strip[7] as usize;
+    body::body(strip, 8 + locals + results, locals, results)
+}
+
+// An answer of the check: no steps.
+pub(crate) fn answer(code: u8, place: usize) -> Answer
+    ensures { λ r. ⌜ (r .code ≡ code) × (r .place ≡ place) × (r .steps ≡ 0) ⌝ }
+{
+    Answer {
+        code,
+        place,
+        steps: 0,
+    }
+}
