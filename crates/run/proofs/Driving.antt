@@ -20,7 +20,7 @@ use Rattle.instr.proofs.Ranges.{stands-inside}
 use Rattle.machine.specs.Value.{Value, kindOf, allBytes}
 use Rattle.machine.specs.Memory.{stored}
 use Rattle.machine.specs.Exec.{State, Outcome, goes, done, trap, stuck, exec}
-use Rattle.machine.specs.Inner.Fit.{Fits, DidBy, boundsOf} 
+use Rattle.machine.specs.Inner.Fit.{Fits, DidBy, boundsOf}
 use Rattle.machine.specs.Inner.Fit.{Ready as Apt}
 use Rattle.machine.specs.declared.access.Bounds.{Bounds}
 use Rattle.machine.specs.declared.access.Bounds.the-variants.{Clear, Past}
@@ -126,7 +126,7 @@ module _ {s args mem₀ out : List ℕ} {budget : ℕ} {mem results stack : List
           by (last r κ) =
               let count = sym (length-map (reverse (σ .stack)) kindOf) ∙ ap length (result-kinds (D .sound .fits) κ) in
               let long : length results ≡ slot * length (σ .stack) =
-                  ap length (D .untouched) ∙ D .ready .slots ∙ ap (λ (n : ℕ). slot * n) (sym count ∙ length-reverse (σ .stack)) in
+              ap length (D .untouched) ∙ D .ready .slots ∙ ap (λ (n : ℕ). slot * n) (sym count ∙ length-reverse (σ .stack)) in
               stops
               (one more _ (step-does h (D .config) r ∙ ap (behind (D .config) (d .len)) (end-done (D .sound .fits) κ i))
               ∙ ap (λ (m : List ℕ). leaves DONE 0 (suc steps) m (allBytes (reverse (σ .stack)))) (D .rep .memory)
@@ -170,8 +170,8 @@ module _ {s args mem₀ out : List ℕ} {budget : ℕ} {mem results stack : List
                       rep = did r (h .results) (D .rep) e (subst (λ (n : ℕ). DidBy n i stack depth locals mem depth′ stack′ locals′ mem′) id-is by-code);
                       within = omega arith;
                       same =
-                        D .same ∙ one more _ (step-does h (D .config) r ∙ ap (behind (D .config) (d .len)) e)
-                        ∙ ap (λ (n : ℕ). meter s h (budget - n) n (record { place = D .config .place + d .len; state = τ }) out) (sym (add-one steps));
+                          D .same ∙ one more _ (step-does h (D .config) r ∙ ap (behind (D .config) (d .len)) e)
+                          ∙ ap (λ (n : ℕ). meter s h (budget - n) n (record { place = D .config .place + d .len; state = τ }) out) (sym (add-one steps));
                       untouched = D .untouched;
                       long = kept ∙ D .long;
                     }
@@ -207,8 +207,8 @@ module _ {s args out : List ℕ} (r : Ready s args out) where
         place = sym e;
         sound = sound;
         rep =
-          subst (λ (ls : List ℕ). Rep (begin (r .valid .header) (r .values) mem .state) (replicate stackBytes 0) 0 ls mem) (sym f)
-          (start-holds (r .valid .header) args (r .values) (r .given) few-locals mem b sound);
+            subst (λ (ls : List ℕ). Rep (begin (r .valid .header) (r .values) mem .state) (replicate stackBytes 0) 0 ls mem) (sym f)
+            (start-holds (r .valid .header) args (r .values) (r .given) few-locals mem b sound);
         within = omega arith;
         same = ap (λ (n : ℕ). meter s (r .valid .header) n 0 (begin (r .valid .header) (r .values) mem) out) (sym (sub-zero budget));
         untouched = refl;

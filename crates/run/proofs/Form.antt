@@ -101,14 +101,16 @@ formed-given [] [] long b f = ([], record { kinds = refl; range = tt; bytes = re
 formed-given [] (x ∷ args) long b f = absurd (let z : ⊥ = omega arith in z)
 formed-given (k ∷ ks) args long b f =
     let first = fits k (take slot args) (length-take-le slot args (omega arith)) (bytes-take slot args b)
-        (λ i l m. getD-take slot args i 0 m ∙ f 0 (zero-lt-suc (length ks)) i (omega arith) (omega arith)) in
+    (λ i l m. getD-take slot args i 0 m ∙ f 0 (zero-lt-suc (length ks)) i (omega arith) (omega arith)) in
     let rest = formed-given ks (drop slot args) (omega (arith, length-drop slot args)) (bytes-drop slot args b)
-        (λ j h i l m. getD-drop slot args i 0 ∙ f (suc j) (omega arith) (slot + i) (omega arith) (omega arith)) in
-    (valueOf k (take slot args) ∷ rest .0, record {
-      kinds = ap₂ _∷_ (kind-of k (take slot args)) (rest .1 .kinds);
-      range = (first .range, rest .1 .range);
-      bytes = sym (take-append-drop slot args) ∙ ap₂ (λ (x y : List ℕ). x ++ y) (sym (first .bytes)) (rest .1 .bytes);
-    })
+    (λ j h i l m. getD-drop slot args i 0 ∙ f (suc j) (omega arith) (slot + i) (omega arith) (omega arith)) in (
+      valueOf k (take slot args) ∷ rest .0,
+      record {
+        kinds = ap₂ _∷_ (kind-of k (take slot args)) (rest .1 .kinds);
+        range = (first .range, rest .1 .range);
+        bytes = sym (take-append-drop slot args) ∙ ap₂ (λ (x y : List ℕ). x ++ y) (sym (first .bytes)) (rest .1 .bytes);
+      },
+    )
 
 all-formed : (vs : List Value) → AllInRange vs → (j : ℕ) → j < length vs → Formed (map kindOf vs) (allBytes vs) j
 unfolding allBytes

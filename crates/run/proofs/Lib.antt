@@ -7,3 +7,4 @@ pub mod Results
 pub mod Start
 pub mod Ways
 pub mod Driving
+pub mod Asking

@@ -39,11 +39,11 @@ Upto s args j = (h : Header) → Declares s h → (k : ℕ) → k < j → Formed
 abbrev pub Asked : List ℕ → List ℕ → ℕ → Type 0
 Asked s args j = Zeros (slot * j + usedBy (getD s (8 + j) 0)) (slot * j + slot) args
 
-told-yes : {P : Type 0} {r : Bool} → Tells P r → r ≡ true → P
+pub told-yes : {P : Type 0} {r : Bool} → Tells P r → r ≡ true → P
 told-yes (yes p) e = p
 told-yes (no n) e = absurd (let z : _≡_ {A = ℕ} 0 1 = cc in omega arith)
 
-told-no : {P : Type 0} {r : Bool} → Tells P r → r ≡ false → P → ⊥
+pub told-no : {P : Type 0} {r : Bool} → Tells P r → r ≡ false → P → ⊥
 told-no (yes p) e q = let z : _≡_ {A = ℕ} 0 1 = cc in omega arith
 told-no (no n) e q = n q
 

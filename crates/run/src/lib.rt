@@ -2,7 +2,12 @@
 mod arguments;
 mod running;
 
-// The operand stack: 64 slots, zero at the start, of which the lowest `depth` hold values.
+ghost use mathlib.Core.Path.{_≡_};
+ghost use Rattle.run.specs.Meter.{leaves};
+ghost use Rattle.run.specs.Run.{Runs};
+use card::Answer;
+
+// The operand stack: slots of which the lowest `depth` hold values.
 pub(crate) struct Stack {
     pub bytes: [u8; 1024],
     pub depth: usize,
@@ -11,4 +16,38 @@ pub(crate) struct Stack {
 pub(crate) struct Locals {
     pub bytes: [u8; 512],
     pub count: usize,
+}
+
+pub fn run(strip: &[u8], args: &[u8], mem: &mut [u8], results: &mut [u8], budget: u32) -> Answer
+    ensures { λ r. ⌜ Runs (now (strip .entry)) (now (args .entry)) (now (mem .entry)) (now (results .entry)) budget (leaves (r .code) (r .place) (r .steps) (now (mem .exit)) (now (results .exit))) ⌝ }
+{
+    let verdict = checker::check(strip);
+    if verdict.code != card::DONE {
+        return verdict;
+    }
+    if limits::MEMORY < mem.len() {
+        return refused(card::ROOM);
+    }
+    let parameters = strip[5] as usize;
+    if args.len() != limits::SLOT * parameters {
+        return refused(card::ARGS);
+    }
+    if results.len() != limits::SLOT * (strip[7] as usize) {
+        return refused(card::OUT);
+    }
+    if !arguments::formed(strip, args, parameters) {
+        return refused(card::FORM);
+    }
+    running::drive(strip, args, mem, results, budget)
+}
+
+// Before the first instruction: no place, no steps.
+fn refused(code: u8) -> Answer
+    ensures { λ r. ⌜ (r .code ≡ code) × (r .place ≡ 0) × (r .steps ≡ 0) ⌝ }
+{
+    Answer {
+        code,
+        place: 0,
+        steps: 0,
+    }
 }

@@ -11,25 +11,42 @@ use card::Answer;
 use instr::Instr;
 use machine::Bounds;
 
-pub(crate) fn drive(strip: &[u8], args: &[u8], mem: &mut [u8], results: &mut [u8], budget: u32) -> Answer
+pub(crate) fn drive(
+    strip: &[u8],
+    args: &[u8],
+    mem: &mut [u8],
+    results: &mut [u8],
+    budget: u32,
+) -> Answer
     requires { ⌜ Ready (now strip) (now args) (now results) ⌝ }
     ensures { λ r. ⌜ Drove (now (strip .entry)) (now (args .entry)) (now (mem .entry)) (now (results .entry)) budget (leaves (r .code) (r .place) (r .steps) (now (mem .exit)) (now (results .exit))) ⌝ }
 {
     let count = strip[5] as usize + strip[6] as usize;
-    let mut stack = Stack { bytes: [0u8; 1024], depth: 0 };
+    let mut stack = Stack {
+        bytes: [0u8; 1024],
+        depth: 0,
+    };
     let mut locals = locals_of(args, count);
     let mut at = 8 + count + strip[7] as usize;
     let mut steps: u32 = 0;
     loop {
         if steps == budget {
-            return Answer { code: card::BUDGET, place: at, steps };
+            return Answer {
+                code: card::BUDGET,
+                place: at,
+                steps,
+            };
         }
         let d = instr::decode(strip, at);
         let i = d.instr;
         let id = opcode::id_of(i.first, i.number);
         if opcode::group(id) == opcode::GROUP_END {
             put_results(&stack.bytes, results);
-            return Answer { code: card::DONE, place: 0, steps: steps + 1 };
+            return Answer {
+                code: card::DONE,
+                place: 0,
+                steps: steps + 1,
+            };
         }
         let depth = stack.depth;
         match machine::bounds(id, i, &stack.bytes, depth, mem.len()) {
@@ -38,7 +55,11 @@ pub(crate) fn drive(strip: &[u8], args: &[u8], mem: &mut [u8], results: &mut [u8
                 at += d.len;
                 steps += 1;
             }
-            Bounds::Past(_) => return Answer { code: card::TRAP, place: at, steps },
+            Bounds::Past(_) => return Answer {
+                code: card::TRAP,
+                place: at,
+                steps,
+            },
         }
     }
 }

@@ -42,9 +42,12 @@ returns c =
 
 loop-again : tie.Need-loop-again Inv-loop μ-loop
 loop-again c =
-    let b = c .before .before .before .before .before .before .before .before in let a = b .args in let l = c .before .before .before .before .before .loop in
-    (omega arith, l .inv .1, upto-more (a .strip .now) (a .args .now) (a .count) (b .pre) (l .j) (c .before .before .before .before .loop-test .taken) (l .inv .2)
-    (asked-yes (a .strip .now) (a .args .now) (l .j) _ (c .before .before .used .ensures) (c .before .zero-between .ensures) (not-false _ (c .if1 .left))))
+    let b = c .before .before .before .before .before .before .before .before in let a = b .args in let l = c .before .before .before .before .before .loop in (
+      omega arith,
+      l .inv .1,
+      upto-more (a .strip .now) (a .args .now) (a .count) (b .pre) (l .j) (c .before .before .before .before .loop-test .taken) (l .inv .2)
+          (asked-yes (a .strip .now) (a .args .now) (l .j) _ (c .before .before .used .ensures) (c .before .zero-between .ensures) (not-false _ (c .if1 .left))),
+    )
 
 returns-2 : tie.Need-returns-2 Inv-loop μ-loop
 returns-2 c =

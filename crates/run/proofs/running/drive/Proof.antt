@@ -69,7 +69,7 @@ add-at-2 c = omega (arith, counts-read (declared (c .before .before .before .bef
 
 -- src/running.rt:23:5
 loop-holds : tie.Need-loop-holds Inv-loop μ-loop
-loop-holds c = 
+loop-holds c =
     let b = c .before .before .before .before .before .before .before .before in
     starts (b .pre) (b .args .budget) (b .args .mem .now) (λ k. c .before .before .before .before .before .slice-known .given k) (c .before .locals-of .ensures .0)
     (counts-read (declared (b .pre .valid .reached)) .body)
@@ -116,13 +116,13 @@ same-length-4 c = c .before .before .put-results .kept .1 .0 ∙ ap length (c .b
 
 -- src/running.rt:32:13
 returns-2 : tie.Need-returns-2 Inv-loop μ-loop
-returns-2 c = 
+returns-2 c =
     let a = c .before .before .before .before .before .before .before .before .before .before .before .before .before .loop .inv in let d = c .before .before .before .before .before .before .before .before .before .before .before .decode in let n = c .before .before .before .before .before .before .before .before .before .id-of in let g = c .before .before .before .before .before .before .before .before .group in
     finished a (d .result) (d .ensures) (n .result) (g .result) (n .ensures) (g .ensures) (below (a .within) (c .before .before .before .before .before .before .before .before .before .before .before .before .if1 .left)) (c .before .before .before .before .before .before .before .if2 .taken) (c .before .before .put-results .ensures)
 
 -- src/running.rt:35:15
 bounds-requires : tie.Need-bounds-requires Inv-loop μ-loop
-bounds-requires c κs = 
+bounds-requires c κs =
     let a = c .before .before .before .before .before .before .before .before .before .loop .inv in let d = c .before .before .before .before .before .before .before .decode in let n = c .before .before .before .before .before .id-of in let g = c .before .before .before .before .group in
     bounds-fits a (d .result) (d .ensures) (n .result) (g .result) (n .ensures) (g .ensures) (below (a .within) (c .before .before .before .before .before .before .before .before .if1 .left)) (c .before .before .before .if2 .left)
 
@@ -132,13 +132,13 @@ enum-told c = search needs
 
 -- src/running.rt:37:31
 exec-requires : tie.Need-exec-requires Inv-loop μ-loop
-exec-requires c κs = 
+exec-requires c κs =
     let a = c .before .before .before .before .before .before .before .before .before .before .before .before .before .before .before .loop .inv in let d = c .before .before .before .before .before .before .before .before .before .before .before .before .before .decode in let n = c .before .before .before .before .before .before .before .before .before .before .before .id-of in let g = c .before .before .before .before .before .before .before .before .before .before .group in let b = c .before .before .before .before .before .bounds in
     exec-apt a (d .result) (d .ensures) (n .result) (g .result) (n .ensures) (g .ensures) (below (a .within) (c .before .before .before .before .before .before .before .before .before .before .before .before .before .before .if1 .left)) (c .before .before .before .before .before .before .before .before .before .if2 .left) (b .result) (b .ensures) (c .before .before .before .enum-told .given .1)
 
 -- src/running.rt:38:17
 add-at-3 : tie.Need-add-at-3 Inv-loop μ-loop
-add-at-3 c = 
+add-at-3 c =
     let a = c .before .before .before .before .before .before .before .before .before .before .before .before .before .before .before .before .before .before .before .loop .inv in let d = c .before .before .before .before .before .before .before .before .before .before .before .before .before .before .before .before .before .decode in let n = c .before .before .before .before .before .before .before .before .before .before .before .before .before .before .before .id-of in let g = c .before .before .before .before .before .before .before .before .before .before .before .before .before .before .group in
     omega (arith, inside a (d .result) (d .ensures), declared (a .ready .valid .reached) .sized)
 
@@ -152,7 +152,7 @@ loop-less c = let more = below (c .before .before .before .before .before .befor
 
 -- src/running.rt:23:5
 loop-again : tie.Need-loop-again Inv-loop μ-loop
-loop-again c = 
+loop-again c =
     let a = c .before .before .before .before .before .before .before .before .before .before .before .before .before .before .before .before .before .before .before .loop .inv in let d = c .before .before .before .before .before .before .before .before .before .before .before .before .before .before .before .before .before .decode in let n = c .before .before .before .before .before .before .before .before .before .before .before .before .before .before .before .id-of in let g = c .before .before .before .before .before .before .before .before .before .before .before .before .before .before .group in let b = c .before .before .before .before .before .before .before .before .before .bounds in
     onward a (d .result) (d .ensures) (n .result) (g .result) (n .ensures) (g .ensures) (below (a .within) (c .before .before .before .before .before .before .before .before .before .before .before .before .before .before .before .before .before .before .if1 .left)) (c .before .before .before .before .before .before .before .before .before .before .before .before .before .if2 .left) (b .result) (b .ensures) (c .before .before .before .before .before .before .before .enum-told .given .1) (c .before .before .before .exec .ensures) (c .before .before .before .exec .kept .1 .1 .1 .1 .1 .0)
 
@@ -170,7 +170,7 @@ same-length-6 c = ap length (c .before .before .before .before .before .before .
 
 -- src/running.rt:41:32
 returns-3 : tie.Need-returns-3 Inv-loop μ-loop
-returns-3 c = 
+returns-3 c =
     let a = c .before .before .before .before .before .before .before .before .before .before .before .before .loop .inv in let d = c .before .before .before .before .before .before .before .before .before .before .decode in let n = c .before .before .before .before .before .before .before .before .id-of in let g = c .before .before .before .before .before .before .before .group in let b = c .before .before .bounds in
     strayed a (d .result) (d .ensures) (n .result) (g .result) (n .ensures) (g .ensures) (below (a .within) (c .before .before .before .before .before .before .before .before .before .before .before .if1 .left)) (c .before .before .before .before .before .before .if2 .left) (b .result) (b .ensures) (not-clear (c .enum-told2 .given .1))
 
