@@ -2,6 +2,7 @@
 pub mod Begin
 pub mod Turn
 pub mod Never
+pub mod Stuck
 -- What these lean on.
 pub mod Scalars
 pub mod ValueKinds
@@ -9,3 +10,5 @@ pub mod Fine
 pub mod Typeds
 pub mod Next
 pub mod Steps
+pub mod Untyped
+pub mod Arrives
