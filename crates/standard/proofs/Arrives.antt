@@ -13,8 +13,9 @@ use Rattle.machine.specs.Exec.{Outcome, exec}
 use Rattle.rules.specs.Header.{Header, headerBytes, locals}
 use Rattle.rules.specs.Typing.{Types}
 use Rattle.rules.specs.Strip.{Reads, Reaches, front, past}
-use Rattle.standard.specs.Standard.{Config, going, trapped, behind, step, onward, runs}
+use Rattle.standard.specs.Standard.{Config, going, trapped, behind, step, runs}
 use Rattle.standard.specs.Safety.{Fits}
+use Rattle.standard.proofs.Along.{one-more}
 use Rattle.standard.proofs.Fine.{Fine, on, past as trapped-past}
 use Rattle.standard.proofs.Steps.{step-does, types-fine}
 use Rattle.standard.proofs.Turn.{kept-fits}
@@ -22,10 +23,6 @@ use Rattle.standard.proofs.Turn.{kept-fits}
 pub data Arrives (s : List ℕ) (h : Header) (b : Config) (p : ℕ) (κs : List Kind) : Type 0 where
   strays : (k a n : ℕ) (c : Config) → runs s h k b ≡ going c → c .place < p → step s h c ≡ trapped a n → length (c .state .memory) < a + n → Arrives s h b p κs
   comes : (k : ℕ) (c : Config) → runs s h k b ≡ going c → c .place ≡ p → Fits h κs (c .state) → Arrives s h b p κs
-
-one-more : (s : List ℕ) (h : Header) (k : ℕ) (b c : Config) → runs s h k b ≡ going c → runs s h (suc k) b ≡ step s h c
-unfolding runs
-one-more s h k b c e = ap (onward s h) e
 
 module _ (s : List ℕ) (h : Header) (b : Config) where
   arrives-past : {p n : ℕ} {i : Instr} {c : Code} {κs κs′ : List Kind} → Reads s p i c n → Types (locals h) (i .index) c κs κs′ → length κs′ ≤ stackLimit

@@ -1,6 +1,6 @@
 -- An instruction that is not stuck: it goes on with these kinds on the stack, or traps past the memory's end. Each pop takes what follows it as a function.
 use Prim.Native.Nat.{ℕ, _+_, _^_, _≤_, _<_}
-use mathlib.Core.Path.{_≡_, refl, ap, sym, _∙_}
+use mathlib.Core.Path.{_≡_, refl, ap}
 use mathlib.Core.Bool.{Bool, true, false, cond}
 use mathlib.Core.List.{List, [], _∷_, map}
 use native.Mathlib.Omega.{arith}
@@ -14,7 +14,7 @@ use Rattle.limits.specs.Limits.{stackLimit}
 use Rattle.opcode.specs.Kind.{Kind, i32, i64, v128, kindByte}
 use Rattle.opcode.specs.Effect.{scalar}
 use Rattle.machine.specs.Value.{Value, I32, I64, V128, kindOf, InRange, AllInRange}
-use Rattle.machine.specs.Exec.{State, Outcome, goes, trap, popI32, popI64, popV128, popAny, popScalar, push, pushScalar, goOn, local, alike, access}
+use Rattle.machine.specs.Exec.{State, Outcome, goes, trap, popI32, popI64, popV128, popAny, popScalar, goOn, local, alike, access}
 use Rattle.standard.proofs.Scalars.{narrow}
 
 -- values of these kinds, the top first, and in range

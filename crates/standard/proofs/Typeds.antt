@@ -9,10 +9,9 @@ use lib.IntN.{pos, _+ℤ_, _-ℤ_}
 use lib.ListN.{length, getD, take, set, length-map}
 use lib.Seq.{map-set-same, length-take-le}
 use mir.Syntax.{Width, w8, w16, w32, w64, w128}
-use mir.Val.{bytes}
 use Rattle.lane.specs.Vector.{Sixteen}
 use Rattle.lane.specs.Scalar.{Sign, iadd, isub}
-use Rattle.lane.specs.Op.{Loadop, Op, Load, LoadLane, Store, StoreLane, Const, Shuffle, Splat, ExtractLane, ReplaceLane, Unary, Binary, Bitselect, Test, Shift, unary, binary, bitselect, test, shift, splat, extracted, replaced, shuffled, loaded, laneIn, laneOut}
+use Rattle.lane.specs.Op.{Op, Load, LoadLane, Store, StoreLane, Const, Shuffle, Splat, ExtractLane, ReplaceLane, Unary, Binary, Bitselect, Test, Shift, unary, binary, bitselect, test, shift, splat, extracted, replaced, shuffled, loaded, laneIn, laneOut}
 use Rattle.lane.proofs.Laws.Number.{Bytes, bytes-take}
 use Rattle.lane.proofs.Laws.Vectors.{wrap-lt, test-lt, extracted-lt, sixteen-unary, sixteen-binary, sixteen-bitselect, sixteen-shift, sixteen-splat, sixteen-replaced, sixteen-shuffled, sixteen-loaded, sixteen-laneIn, sixteen-laneOut}
 use Rattle.limits.specs.Limits.{stackLimit}
@@ -32,7 +31,7 @@ use Rattle.machine.proofs.Laws.Ranges.{bytes-part, length-part, sixteen-padded,
 use Rattle.rules.specs.Typing.{Local, Typed, by-signature, dropped, got, set as was-set, teed}
 use Rattle.standard.proofs.Scalars.{scalars, narrow, narrow-scalars}
 use Rattle.standard.proofs.ValueKinds.{local-inside, local-kind}
-use Rattle.standard.proofs.Fine.{Under, Kept, Fine, pop-i32, pop-i64, pop-v128, pop-any, pop-scalar, named, same-kind, accessed, goes-on}
+use Rattle.standard.proofs.Fine.{Under, Fine, pop-i32, pop-v128, pop-any, pop-scalar, named, same-kind, accessed, goes-on}
 
 difference-lt : (a b : ℕ) → isub w32 a b < 2 ^ 32
 unfolding isub
