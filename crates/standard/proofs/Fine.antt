@@ -33,7 +33,7 @@ pub data Fine (σ : State) (κs : List Kind) : Outcome → Type 0 where
   on : {τ : State} → Kept σ κs τ → Fine σ κs (goes τ)
   past : {a n : ℕ} → length (σ .memory) < a + n → Fine σ κs (trap a n)
 
-module _ (σ : State) (κs : List Kind) (room : length κs ≤ stackLimit) where
+module _ {σ : State} {κs : List Kind} where
   -- ---- pops
 
   pub pop-i32 : {ks : List Kind} (vs : List Value) (f : ℕ → List Value → Outcome) → Under (i32 ∷ ks) vs
@@ -94,7 +94,7 @@ module _ (σ : State) (κs : List Kind) (room : length κs ≤ stackLimit) where
 
   -- ---- going on
 
-  pub goes-on : (vs ws : List Value) (m : List ℕ) → Under κs vs → Under (map kindOf (σ .locals)) ws → Bytes m → length m ≡ length (σ .memory) → Fine σ κs (goOn vs ws m)
+  pub goes-on : (vs ws : List Value) (m : List ℕ) → length κs ≤ stackLimit → Under κs vs → Under (map kindOf (σ .locals)) ws → Bytes m → length m ≡ length (σ .memory) → Fine σ κs (goOn vs ws m)
   unfolding goOn
-  goes-on vs ws m u l b e =
+  goes-on vs ws m room u l b e =
       rw (le-ltb stackLimit (length vs) (omega (arith, room, length-map vs kindOf, ap length (u .kinds)))) (on (record { stack = u; locals = l; memory = b; long = e }))
