@@ -1,6 +1,6 @@
 -- An instruction that is not stuck: it goes on with these kinds on the stack, or traps past the memory's end. Each pop takes what follows it as a function.
 use Prim.Native.Nat.{ℕ, _+_, _^_, _≤_, _<_}
-use mathlib.Core.Path.{_≡_, refl, ap, sym, _∙_}
+use mathlib.Core.Path.{_≡_, refl, ap}
 use mathlib.Core.Bool.{Bool, true, false, cond}
 use mathlib.Core.List.{List, [], _∷_, map}
 use native.Mathlib.Omega.{arith}
@@ -14,7 +14,7 @@ use Rattle.limits.specs.Limits.{stackLimit}
 use Rattle.opcode.specs.Kind.{Kind, i32, i64, v128, kindByte}
 use Rattle.opcode.specs.Effect.{scalar}
 use Rattle.machine.specs.Value.{Value, I32, I64, V128, kindOf, InRange, AllInRange}
-use Rattle.machine.specs.Exec.{State, Outcome, goes, trap, popI32, popI64, popV128, popAny, popScalar, push, pushScalar, goOn, local, alike, access}
+use Rattle.machine.specs.Exec.{State, Outcome, goes, trap, popI32, popI64, popV128, popAny, popScalar, goOn, local, alike, access}
 use Rattle.standard.proofs.Scalars.{narrow}
 
 -- values of these kinds, the top first, and in range
@@ -33,7 +33,7 @@ pub data Fine (σ : State) (κs : List Kind) : Outcome → Type 0 where
   on : {τ : State} → Kept σ κs τ → Fine σ κs (goes τ)
   past : {a n : ℕ} → length (σ .memory) < a + n → Fine σ κs (trap a n)
 
-module _ (σ : State) (κs : List Kind) (room : length κs ≤ stackLimit) where
+module _ {σ : State} {κs : List Kind} where
   -- ---- pops
 
   pub pop-i32 : {ks : List Kind} (vs : List Value) (f : ℕ → List Value → Outcome) → Under (i32 ∷ ks) vs
@@ -94,7 +94,7 @@ module _ (σ : State) (κs : List Kind) (room : length κs ≤ stackLimit) where
 
   -- ---- going on
 
-  pub goes-on : (vs ws : List Value) (m : List ℕ) → Under κs vs → Under (map kindOf (σ .locals)) ws → Bytes m → length m ≡ length (σ .memory) → Fine σ κs (goOn vs ws m)
+  pub goes-on : (vs ws : List Value) (m : List ℕ) → length κs ≤ stackLimit → Under κs vs → Under (map kindOf (σ .locals)) ws → Bytes m → length m ≡ length (σ .memory) → Fine σ κs (goOn vs ws m)
   unfolding goOn
-  goes-on vs ws m u l b e =
+  goes-on vs ws m room u l b e =
       rw (le-ltb stackLimit (length vs) (omega (arith, room, length-map vs kindOf, ap length (u .kinds)))) (on (record { stack = u; locals = l; memory = b; long = e }))

@@ -1,7 +1,10 @@
--- For those who call: where a run begins, a turn of the machine, never stuck, stuck where a rule is broken.
+-- For those who call: where a run begins, steps that compose, a turn of the machine and what it leaves, never stuck, stuck where a rule is broken.
 pub mod Begin
+pub mod Along
 pub mod Turn
+pub mod After
 pub mod Never
+pub mod Stuck
 -- What these lean on.
 pub mod Scalars
 pub mod ValueKinds
@@ -9,3 +12,7 @@ pub mod Fine
 pub mod Typeds
 pub mod Next
 pub mod Steps
+pub mod Operands
+pub mod Untyped
+pub mod Full
+pub mod Arrives

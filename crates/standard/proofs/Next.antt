@@ -1,6 +1,6 @@
 -- What stands at a place that a strip reaches, where the strip keeps the rules: an instruction that goes on, or `end` over the results.
 use Prim.Native.Nat.{ℕ, _≤_}
-use mathlib.Core.Path.{_≡_, refl, sym}
+use mathlib.Core.Path.{_≡_, refl}
 use mathlib.Core.List.{List}
 use mathlib.Core.Logic.{⊎-elim}
 use lib.ListN.{length}

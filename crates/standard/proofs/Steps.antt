@@ -1,27 +1,26 @@
 -- One step of the standard's machine at an instruction that is read, and the state that it leaves.
-use Prim.Native.Nat.{ℕ, zero, suc, _+_, _^_, _≤_, _<_}
-use mathlib.Core.Path.{_≡_, refl, ap, ap₂, sym, _∙_, subst}
+use Prim.Native.Nat.{ℕ, zero, suc, _≤_, _<_}
+use mathlib.Core.Path.{_≡_, ap, sym, _∙_, subst}
 use mathlib.Core.List.{List, [], _∷_, _++_, map, reverse, reverse-append, reverse-reverse}
-use mathlib.Core.Bool.{Bool, true, cond}
+use mathlib.Core.Bool.{Bool, cond}
 use native.Mathlib.Omega.{arith}
 use lib.ListN.{length, getD, length-reverse}
-use borrow.Author.Tests.{eq-eqb}
+use borrow.Author.Tests.{ne-eqb}
 use Rattle.card.specs.Card.{DONE}
 use Rattle.limits.specs.Limits.{stackLimit}
 use Rattle.opcode.specs.Kind.{Kind}
-use Rattle.opcode.specs.Table.{End, Code, plain, Row, carried}
+use Rattle.opcode.specs.Table.{End, Code, plain}
 use Rattle.instr.specs.declared.Instr.{Instr}
-use Rattle.instr.specs.declared.Decoded.{Decoded}
 use Rattle.instr.specs.Layout.{Below, rowIn, found, Typed as InTypes}
 use Rattle.instr.specs.Decode.{decodeAt}
 use Rattle.instr.proofs.Decodes.{stands-decodes}
-use Rattle.machine.specs.Value.{Value, kindOf, AllInRange}
-use Rattle.machine.specs.Exec.{State, Outcome, done, stuck, fits, exec}
+use Rattle.machine.specs.Value.{kindOf, AllInRange}
+use Rattle.machine.specs.Exec.{State, done, stuck, fits, exec}
 use Rattle.machine.proofs.Simulates.{Apt}
 use Rattle.rules.specs.Header.{Header, locals}
 use Rattle.rules.specs.Typing.{Typed, Types}
 use Rattle.rules.specs.Strip.{Reads}
-use Rattle.standard.specs.Standard.{Config, Stage, behind, stepRow, stepBy, step}
+use Rattle.standard.specs.Standard.{Config, halted, behind, stepRow, stepBy, step}
 use Rattle.standard.specs.Safety.{Fits}
 use Rattle.standard.proofs.ValueKinds.{reverse-kinds, reverse-range, kinds-fit}
 use Rattle.standard.proofs.Fine.{Fine}
@@ -35,6 +34,12 @@ reads-decoded {s} {p} {n} {i} r = stands-decodes s p i n (r .stands)
 pub step-does : {s : List ℕ} (h : Header) (c : Config) {n : ℕ} {i : Instr} {k : Code} → Reads s (c .place) i k n → step s h c ≡ behind c n (exec (h .results) k i (c .state))
 unfolding step
 step-does h c {n} {i} r = ap (stepBy h c) (reads-decoded r) ∙ ap (stepRow h c (found n i)) (r .does)
+
+pub step-halts : (s : List ℕ) (h : Header) (c : Config) → (decodeAt s (c .place) .code ≡ DONE → ⊥) → step s h c ≡ halted
+unfolding step
+step-halts s h c wrong =
+    let d = decodeAt s (c .place) in
+    ap (λ (t : Bool). cond t (stepRow h c d (rowIn (d .instr))) halted) (ne-eqb (d .code) DONE wrong)
 
 -- ---- its immediates are in the range of their types
 

@@ -9,10 +9,10 @@ use Rattle.opcode.specs.Table.{Code}
 use Rattle.instr.specs.declared.Instr.{Instr}
 use Rattle.instr.specs.Layout.{found}
 use Rattle.instr.specs.Decode.{decodeAt}
-use Rattle.machine.specs.Exec.{State, Outcome, done, stuck, exec}
+use Rattle.machine.specs.Exec.{State, Outcome, stuck, exec}
 use Rattle.rules.specs.Header.{Header}
 use Rattle.rules.specs.Strip.{Reads, Reaches, past, Valid}
-use Rattle.standard.specs.Standard.{Config, Stage, behind, step}
+use Rattle.standard.specs.Standard.{Config, behind, step}
 use Rattle.standard.specs.Safety.{Fits, Sound, Safe, safe-going, safe-ended, safe-trapped}
 use Rattle.standard.proofs.Fine.{Kept, Fine, on, past as trapped-past}
 use Rattle.standard.proofs.Next.{Next, ends, goes-on, what-next}

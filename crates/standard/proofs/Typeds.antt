@@ -9,10 +9,9 @@ use lib.IntN.{pos, _+ℤ_, _-ℤ_}
 use lib.ListN.{length, getD, take, set, length-map}
 use lib.Seq.{map-set-same, length-take-le}
 use mir.Syntax.{Width, w8, w16, w32, w64, w128}
-use mir.Val.{bytes}
 use Rattle.lane.specs.Vector.{Sixteen}
 use Rattle.lane.specs.Scalar.{Sign, iadd, isub}
-use Rattle.lane.specs.Op.{Loadop, Op, Load, LoadLane, Store, StoreLane, Const, Shuffle, Splat, ExtractLane, ReplaceLane, Unary, Binary, Bitselect, Test, Shift, unary, binary, bitselect, test, shift, splat, extracted, replaced, shuffled, loaded, laneIn, laneOut}
+use Rattle.lane.specs.Op.{Op, Load, LoadLane, Store, StoreLane, Const, Shuffle, Splat, ExtractLane, ReplaceLane, Unary, Binary, Bitselect, Test, Shift, unary, binary, bitselect, test, shift, splat, extracted, replaced, shuffled, loaded, laneIn, laneOut}
 use Rattle.lane.proofs.Laws.Number.{Bytes, bytes-take}
 use Rattle.lane.proofs.Laws.Vectors.{wrap-lt, test-lt, extracted-lt, sixteen-unary, sixteen-binary, sixteen-bitselect, sixteen-shift, sixteen-splat, sixteen-replaced, sixteen-shuffled, sixteen-loaded, sixteen-laneIn, sixteen-laneOut}
 use Rattle.limits.specs.Limits.{stackLimit}
@@ -32,7 +31,7 @@ use Rattle.machine.proofs.Laws.Ranges.{bytes-part, length-part, sixteen-padded,
 use Rattle.rules.specs.Typing.{Local, Typed, by-signature, dropped, got, set as was-set, teed}
 use Rattle.standard.proofs.Scalars.{scalars, narrow, narrow-scalars}
 use Rattle.standard.proofs.ValueKinds.{local-inside, local-kind}
-use Rattle.standard.proofs.Fine.{Under, Kept, Fine, pop-i32, pop-i64, pop-v128, pop-any, pop-scalar, named, same-kind, accessed, goes-on}
+use Rattle.standard.proofs.Fine.{Under, Fine, pop-i32, pop-v128, pop-any, pop-scalar, named, same-kind, accessed, goes-on}
 
 difference-lt : (a b : ℕ) → isub w32 a b < 2 ^ 32
 unfolding isub
@@ -62,7 +61,7 @@ module _ (rs : List Kind) (i : Instr) (apt : Apt i) (σ : State) (ok : Ranged σ
   -- a value pushed on what is left
   pushes : {ks : List Kind} (v : Value) (vs : List Value) → InRange v → Under ks vs → length (kindOf v ∷ ks) ≤ stackLimit → Fine σ (kindOf v ∷ ks) (push σ vs v)
   pushes v vs g u room =
-      goes-on σ (kindOf v ∷ _) room (v ∷ vs) (σ .locals) (σ .memory) (record { kinds = ap (λ ks. kindOf v ∷ ks) (u .kinds); range = (g, u .range) }) all-locals (ok .memory) refl
+      goes-on (v ∷ vs) (σ .locals) (σ .memory) room (record { kinds = ap (λ ks. kindOf v ∷ ks) (u .kinds); range = (g, u .range) }) all-locals (ok .memory) refl
 
   -- ---- numbers
 
@@ -71,19 +70,19 @@ module _ (rs : List Kind) (i : Instr) (apt : Apt i) (σ : State) (ok : Ranged σ
 
   two-numbers : (f : ℕ → ℕ → ℕ) → ((a b : ℕ) → f a b < 2 ^ 32) → From (i32 ∷ i32 ∷ []) (i32 ∷ []) (popI32 (σ .stack) (λ b st. popI32 st (λ a st. push σ st (I32 (f a b)))))
   two-numbers f small rest e room =
-      pop-i32 σ _ room (σ .stack) _ (all-stack e) (λ b st l u. pop-i32 σ _ room st _ u (λ a st l u. pushes (I32 (f a b)) st (small a b) u room))
+      pop-i32 (σ .stack) _ (all-stack e) (λ b st l u. pop-i32 st _ u (λ a st l u. pushes (I32 (f a b)) st (small a b) u room))
 
   -- ---- vectors
 
   one-vector : (f : List ℕ → Value) (k : Kind) → ((v : List ℕ) → InRange (f v)) → ((v : List ℕ) → kindOf (f v) ≡ k) → From (v128 ∷ []) (k ∷ []) (popV128 (σ .stack) (λ v st. push σ st (f v)))
   one-vector f k small is rest e room =
-      pop-v128 σ _ room (σ .stack) _ (all-stack e)
+      pop-v128 (σ .stack) _ (all-stack e)
       (λ v st x u. subst (λ (j : Kind). Fine σ (j ∷ rest) (push σ st (f v))) (is v) (pushes (f v) st (small v) u room))
 
   two-vectors : (f : List ℕ → List ℕ → List ℕ) → ((a b : List ℕ) → Sixteen (f a b))
       → From (v128 ∷ v128 ∷ []) (v128 ∷ []) (popV128 (σ .stack) (λ b st. popV128 st (λ a st. push σ st (V128 (f a b)))))
   two-vectors f small rest e room =
-      pop-v128 σ _ room (σ .stack) _ (all-stack e) (λ b st x u. pop-v128 σ _ room st _ u (λ a st y u. pushes (V128 (f a b)) st (small a b) u room))
+      pop-v128 (σ .stack) _ (all-stack e) (λ b st x u. pop-v128 st _ u (λ a st y u. pushes (V128 (f a b)) st (small a b) u room))
 
   -- the bytes read by an access within the memory
   sixteen-read : (o : Op) (at : ℕ) → at + moved o ≤ length (σ .memory) → Sixteen (padded (part (moved o) at (σ .memory)))
@@ -95,8 +94,8 @@ module _ (rs : List Kind) (i : Instr) (apt : Apt i) (σ : State) (ok : Ranged σ
   stores : (n : ℕ) (g : List ℕ → List ℕ) → ((v : List ℕ) → Sixteen v → length (g v) ≡ n) → ((v : List ℕ) → Sixteen v → Bytes (g v))
       → From (i32 ∷ v128 ∷ []) [] (popV128 (σ .stack) (λ v st. popI32 st (λ a st. access σ (a + i .offset) n (goOn st (σ .locals) (stored (σ .memory) (a + i .offset) (g v))))))
   stores n g long small rest e room =
-      pop-v128 σ _ room (σ .stack) _ (all-stack e) (λ v st x u. pop-i32 σ _ room st _ u (λ a st l u. accessed σ _ room (a + i .offset) n _ (λ inside.
-      goes-on σ _ room st (σ .locals) (stored (σ .memory) (a + i .offset) (g v)) u all-locals (bytes-stored (σ .memory) (a + i .offset) (g v) (ok .memory) (small v x))
+      pop-v128 (σ .stack) _ (all-stack e) (λ v st x u. pop-i32 st _ u (λ a st l u. accessed (a + i .offset) n _ (λ inside.
+      goes-on st (σ .locals) (stored (σ .memory) (a + i .offset) (g v)) room u all-locals (bytes-stored (σ .memory) (a + i .offset) (g v) (ok .memory) (small v x))
       (length-stored (σ .memory) (a + i .offset) (g v) (omega (arith, inside, long v x))))))
 
   extracts : (s : Sign) (w : Width) → T (narrow w) → From (v128 ∷ []) (scalar w ∷ []) (execVector (ExtractLane s w) i σ)
@@ -125,10 +124,10 @@ module _ (rs : List Kind) (i : Instr) (apt : Apt i) (σ : State) (ok : Ranged σ
 
   signed-vector : (o : Op) → T (scalars o) → By (some (signature o)) (execVector o i σ)
   signed-vector (Load l) t = λ rest e room.
-      pop-i32 σ _ room (σ .stack) _ (all-stack e) (λ a st l′ u. accessed σ _ room (a + i .offset) (moved (Load l)) _ (λ inside.
+      pop-i32 (σ .stack) _ (all-stack e) (λ a st l′ u. accessed (a + i .offset) (moved (Load l)) _ (λ inside.
       pushes (V128 (loaded l (padded (part (moved (Load l)) (a + i .offset) (σ .memory))))) st (sixteen-loaded l _ (sixteen-read (Load l) (a + i .offset) inside)) u room))
   signed-vector (LoadLane w) t = λ rest e room.
-      pop-v128 σ _ room (σ .stack) _ (all-stack e) (λ v st x u. pop-i32 σ _ room st _ u (λ a st l u. accessed σ _ room (a + i .offset) (moved (LoadLane w)) _ (λ inside.
+      pop-v128 (σ .stack) _ (all-stack e) (λ v st x u. pop-i32 st _ u (λ a st l u. accessed (a + i .offset) (moved (LoadLane w)) _ (λ inside.
       pushes (V128 (laneIn w (padded (part (moved (LoadLane w)) (a + i .offset) (σ .memory))) v (i .lane))) st (sixteen-laneIn w _ v (i .lane)) u room)))
   signed-vector Store t = stores 16 (λ v. v) (λ v x. x .long) (λ v x. x .bytes)
   signed-vector (StoreLane w) t =
@@ -136,18 +135,18 @@ module _ (rs : List Kind) (i : Instr) (apt : Apt i) (σ : State) (ok : Ranged σ
       (λ v x. bytes-take (moved (StoreLane w)) (laneOut w v (i .lane)) (sixteen-laneOut w v (i .lane) .bytes))
   signed-vector Const t = constant (V128 (i .bytes)) (apt .sixteen)
   signed-vector Shuffle t = two-vectors (λ a b. shuffled a b (i .bytes)) (λ a b. sixteen-shuffled a b (i .bytes))
-  signed-vector (Splat w) t = λ rest e room. pop-scalar σ _ room w t (σ .stack) _ (all-stack e) (λ x st u. pushes (V128 (splat w x)) st (sixteen-splat w x) u room)
+  signed-vector (Splat w) t = λ rest e room. pop-scalar w t (σ .stack) _ (all-stack e) (λ x st u. pushes (V128 (splat w x)) st (sixteen-splat w x) u room)
   signed-vector (ExtractLane s w) t = extracts s w t
   signed-vector (ReplaceLane w) t = λ rest e room.
-      pop-scalar σ _ room w t (σ .stack) _ (all-stack e) (λ x st u. pop-v128 σ _ room st _ u (λ a st y u. pushes (V128 (replaced w a (i .lane) x)) st (sixteen-replaced w a (i .lane) x) u room))
+      pop-scalar w t (σ .stack) _ (all-stack e) (λ x st u. pop-v128 st _ u (λ a st y u. pushes (V128 (replaced w a (i .lane) x)) st (sixteen-replaced w a (i .lane) x) u room))
   signed-vector (Unary o) t = one-vector (λ a. V128 (unary o a)) v128 (sixteen-unary o) (λ a. refl)
   signed-vector (Binary o) t = two-vectors (binary o) (sixteen-binary o)
   signed-vector Bitselect t = λ rest e room.
-      pop-v128 σ _ room (σ .stack) _ (all-stack e) (λ m st x u. pop-v128 σ _ room st _ u (λ b st y u. pop-v128 σ _ room st _ u (λ a st z u.
+      pop-v128 (σ .stack) _ (all-stack e) (λ m st x u. pop-v128 st _ u (λ b st y u. pop-v128 st _ u (λ a st z u.
       pushes (V128 (bitselect a b m)) st (sixteen-bitselect a b m) u room)))
   signed-vector (Test o) t = one-vector (λ a. I32 (test o a)) i32 (test-lt o) (λ a. refl)
   signed-vector (Shift o) t = λ rest e room.
-      pop-i32 σ _ room (σ .stack) _ (all-stack e) (λ n st l u. pop-v128 σ _ room st _ u (λ a st x u. pushes (V128 (shift o a n)) st (sixteen-shift o a n) u room))
+      pop-i32 (σ .stack) _ (all-stack e) (λ n st l u. pop-v128 st _ u (λ a st x u. pushes (V128 (shift o a n)) st (sixteen-shift o a n) u room))
 
   signed : (c : Code) → rowIn i ≡ carried c → By (effect c) (exec rs c i σ)
   signed (plain p) row = signed-plain p
@@ -168,17 +167,17 @@ module _ (rs : List Kind) (i : Instr) (apt : Apt i) (σ : State) (ok : Ranged σ
   pub typed-fine : {c : Code} {ins outs : List Kind} → rowIn i ≡ carried c → Typed (map kindOf (σ .locals)) (i .index) c ins outs → From ins outs (exec rs c i σ)
   typed-fine {c} row (by-signature p) = subst (λ (s : Option Signature). By s (exec rs c i σ)) p (signed c row)
   typed-fine row dropped = λ rest e room.
-      pop-any σ _ room (σ .stack) _ (all-stack e) (λ v st k g u. goes-on σ _ room st (σ .locals) (σ .memory) u all-locals (ok .memory) refl)
+      pop-any (σ .stack) _ (all-stack e) (λ v st k g u. goes-on st (σ .locals) (σ .memory) room u all-locals (ok .memory) refl)
   typed-fine row (got {k} l) = λ rest e room.
-      named σ _ room (i .index) _ (inside l)
+      named (i .index) _ (inside l)
       (subst (λ (j : Kind). Fine σ (j ∷ rest) (push σ (σ .stack) named-value)) (local-kind (σ .locals) l)
       (pushes named-value (σ .stack) (range-at (σ .locals) (i .index) (ok .locals) (inside l)) (all-stack e) room))
   typed-fine row (was-set {k} l) = λ rest e room.
-      pop-any σ _ room (σ .stack) _ (all-stack e) (λ v st f g u.
+      pop-any (σ .stack) _ (all-stack e) (λ v st f g u.
       let same = f ∙ sym (local-kind (σ .locals) l) in
-      named σ _ room (i .index) _ (inside l) (same-kind σ _ room v named-value _ same (goes-on σ _ room st _ (σ .memory) u (sets v same g) (ok .memory) refl)))
+      named (i .index) _ (inside l) (same-kind v named-value _ same (goes-on st _ (σ .memory) room u (sets v same g) (ok .memory) refl)))
   typed-fine row (teed {k} l) = λ rest e room.
-      pop-any σ _ room (σ .stack) _ (all-stack e) (λ v st f g u.
+      pop-any (σ .stack) _ (all-stack e) (λ v st f g u.
       let same = f ∙ sym (local-kind (σ .locals) l) in
-      named σ _ room (i .index) _ (inside l) (same-kind σ _ room v named-value _ same
-      (goes-on σ _ room (v ∷ st) _ (σ .memory) (record { kinds = ap₂ _∷_ f (u .kinds); range = (g, u .range) }) (sets v same g) (ok .memory) refl)))
+      named (i .index) _ (inside l) (same-kind v named-value _ same
+      (goes-on (v ∷ st) _ (σ .memory) room (record { kinds = ap₂ _∷_ f (u .kinds); range = (g, u .range) }) (sets v same g) (ok .memory) refl)))

@@ -1,6 +1,6 @@
 -- Kinds of values in a list: the n-th of them, one set anew, all of them turned round, and the test that `end` makes.
 use Prim.Native.Nat.{ℕ, zero, suc, _<_}
-use mathlib.Core.Path.{_≡_, refl, ap, ap₂, sym, _∙_}
+use mathlib.Core.Path.{_≡_, refl, ap, ap₂}
 use mathlib.Core.Bool.{Bool, true, false, _&&_}
 use mathlib.Core.List.{List, [], _∷_, map, reverse, reverseAux}
 use native.Mathlib.Omega.{arith}

@@ -27,6 +27,7 @@ pub data Stage : Type 0 where
   trapped : ℕ → ℕ → Stage  -- an access past the memory's end: its first address, its size
   halted : Stage  -- stuck
 
+-- behind an instruction of n bytes
 abbrev pub behind : Config → ℕ → Outcome → Stage
 behind c n (goes σ) = going (record { place = c .place + n; state = σ })
 behind c n (done vs) = ended vs (c .state .memory)
@@ -39,6 +40,7 @@ stepRow h c d (carried op) = behind c (d .len) (exec (h .results) op (d .instr) 
 stepRow h c d float = halted
 stepRow h c d unassigned = halted
 
+-- nor are bytes that decoding refuses
 abbrev pub stepBy : Header → Config → Decoded → Stage
 stepBy h c d = cond (eqb (d .code) DONE) (stepRow h c d (rowIn (d .instr))) halted
 
@@ -62,5 +64,6 @@ zeroOf i32 = I32 0
 zeroOf i64 = I64 0
 zeroOf v128 = V128 (replicate slot 0)
 
+-- with these arguments and this memory
 abbrev pub begin : Header → List Value → List ℕ → Config
 begin h vs m = record { place = length (headerBytes h); state = record { stack = []; locals = vs ++ map zeroOf (h .further); memory = m } }
