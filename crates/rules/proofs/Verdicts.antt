@@ -145,7 +145,7 @@ says-once a b = verdict-once (verdict a) (verdict b)
 pub one-breach : {s : List ℕ} {c l c′ l′ : ℕ} → Breach s c l → Breach s c′ l′ → (c ≡ c′) × (l ≡ l′)
 one-breach a b = verdict-once (of-breach a) (of-breach b)
 
-breach-coded : {s : List ℕ} {c l : ℕ} → Breach s c l → c ≡ DONE → ⊥
+pub breach-coded : {s : List ℕ} {c l : ℕ} → Breach s c l → c ≡ DONE → ⊥
 breach-coded (long g) e = omega arith
 breach-coded (stub g) e = omega arith
 breach-coded (unmarked z f) e = omega arith
