@@ -5,4 +5,6 @@ pub mod Unique
 pub mod Strips
 pub mod Again
 pub mod Least
+pub mod Copying
 pub mod Passing
+pub mod Room

@@ -6,7 +6,7 @@ use mathlib.Core.List.{List, [], _∷_, _++_, append-assoc}
 use native.Mathlib.Nat.{add-zero, add-suc, suc-add}
 use native.Mathlib.Omega.{arith}
 use lib.ListN.{length, take, drop, set, length-append, length-drop, take-append-drop, length-take}
-use lib.Seq.{sets, sets-eq, length-sets, drop-drop, drop-append-le, take-append-seam}
+use lib.Seq.{sets, sets-eq, length-sets, drop-drop, drop-append-le}
 use borrow.Rule.Slice.PartMut.{putMid}
 use borrow.Author.Tests.{le-leb, eq-eqb}
 use Rattle.card.specs.Card.{DONE}
@@ -109,18 +109,21 @@ module _ {s : List ℕ} {start : ℕ} {writing : Bool} {out₀ out : List ℕ} {
       nothing true = refl
       nothing false = refl
 
-  module _ (h : at < length s) (d : Decoded) (e : d ≡ decodeAt s at) where
+  module _ (h : at < length s) {d : Decoded} (e : d ≡ decodeAt s at) where
     here : Front s at (p .left)
     here = first (p .from-here) h
 
     is-found : d ≡ found (here .size) (here .instr)
     is-found = e ∙ stands-decodes s at (here .instr) (here .size) (here .stands)
 
-    pub is-there : Stands s at (d .instr) (d .len)
+    is-there : Stands s at (d .instr) (d .len)
     is-there = subst (λ (x : Decoded). Stands s at (x .instr) (x .len)) (sym is-found) (here .stands)
 
-    pub goes-on : (0 < d .len) × (at + d .len ≤ length s)
-    goes-on = (stands-some is-there, stands-inside is-there)
+    pub goes-on : at < at + d .len
+    goes-on = omega (arith, stands-some is-there)
+
+    pub stays : at + d .len ≤ length s
+    stays = stands-inside is-there
 
     left-is : p .left ≡ d .instr ∷ here .rest
     left-is = here .list ∙ ap (λ (x : Decoded). x .instr ∷ here .rest) (sym is-found)
@@ -130,9 +133,11 @@ module _ {s : List ℕ} {start : ℕ} {writing : Bool} {out₀ out : List ℕ} {
         ap (λ (x : ℕ). to + x) (sym (length-append (encoding (d .instr)) (encodings (here .rest))) ∙ ap (λ (x : List Instr). length (encodings x)) (sym left-is))
         ∙ p .ends
 
-    -- l bytes more fit into a file
-    pub adds : to + length (encoding (d .instr)) ≤ at + d .len
-    adds = omega (arith, p .less, stands-encodes is-there .shorter)
+    no-longer : to + length (encoding (d .instr)) ≤ at + d .len
+    no-longer = omega (arith, p .less, stands-encodes is-there .shorter)
+
+    pub adds : {l : ℕ} → l ≡ length (encoding (d .instr)) → to + l ≤ length s
+    adds k = omega (arith, k, no-longer, stays)
 
     step : (l : ℕ) (out′ : List ℕ) → l ≡ length (encoding (d .instr)) → out′ ≡ put writing out to (encoding (d .instr))
         → Passing s start writing out₀ out′ (at + d .len) (to + l)
@@ -144,7 +149,7 @@ module _ {s : List ℕ} {start : ℕ} {writing : Bool} {out₀ out : List ℕ} {
           left = here .rest;
           from-start = p .from-start;
           from-here = subst (λ (x : Decoded). Instructions s (at + x .len) (here .rest)) (sym is-found) (here .after);
-          less = omega (arith, k, adds);
+          less = omega (arith, k, no-longer);
           ends = omega (arith, k, lengths);
           room = λ t. omega (arith, q, p .room t);
           same =
@@ -156,13 +161,16 @@ module _ {s : List ℕ} {start : ℕ} {writing : Bool} {out₀ out : List ℕ} {
         }
 
     -- only counted
-    pub counts-on : writing ≡ false → (l : ℕ) → l ≡ length (encoding (d .instr)) → Passing s start writing out₀ out (at + d .len) (to + l)
-    counts-on f l k = step l out k (rw f refl)
+    pub counts-on : writing ≡ false → {l : ℕ} → l ≡ length (encoding (d .instr)) → Passing s start writing out₀ out (at + d .len) (to + l)
+    counts-on f {l} k = step l out k (rw f refl)
 
     -- written
     module _ (t : writing ≡ true) where
-      pub has-room : to + length (encoding (d .instr)) ≤ length out
+      has-room : to + length (encoding (d .instr)) ≤ length out
       has-room = omega (arith, lengths, p .room t)
+
+      pub begins-inside : to ≤ length out
+      begins-inside = omega (arith, has-room)
 
       abbrev part : List ℕ
       part = take (length out - to) (drop to out)
@@ -170,7 +178,7 @@ module _ {s : List ℕ} {start : ℕ} {writing : Bool} {out₀ out : List ℕ} {
       fits : length (encoding (d .instr)) ≤ length part
       fits = omega (arith, has-room, length-take (length out - to) (drop to out), length-drop to out)
 
-      module _ (r : Encoded) (tail : List ℕ) (a : r ≡ encoded (d .instr) part) (b : tail ≡ encodedIn (d .instr) part) where
+      module _ {r : Encoded} {tail : List ℕ} (a : r ≡ encoded (d .instr) part) (b : tail ≡ encodedIn (d .instr) part) where
         pub adds-len : r .len ≡ length (encoding (d .instr))
         unfolding encoded
         adds-len =
@@ -183,10 +191,7 @@ module _ {s : List ℕ} {start : ℕ} {writing : Bool} {out₀ out : List ℕ} {
             let i = d .instr in
             let c : tail ≡ encoding i ++ drop (length (encoding i)) part =
             b ∙ rw (eq-eqb (fault i) DONE (stands-encodes is-there .no-fault), le-leb (length (encoding i)) (length part) fits) in
-            ap (putMid to (length out - to) out) c ∙ part-sets out (encoding i) to (length out - to) (omega (arith, has-room)) refl (omega (arith, has-room))
-
-        pub keeps-length : length (putMid to (length out - to) out tail) ≡ length out₀
-        keeps-length = ap length wrote ∙ length-sets out to (encoding (d .instr)) ∙ p .long
+            ap (putMid to (length out - to) out) c ∙ part-sets out (encoding i) to (length out - to) begins-inside refl (omega (arith, has-room))
 
         pub writes-on : Passing s start writing out₀ (putMid to (length out - to) out tail) (at + d .len) (to + r .len)
         writes-on = step (r .len) (putMid to (length out - to) out tail) adds-len (wrote ∙ rw t refl)

@@ -127,3 +127,10 @@ module _ {s out : List ℕ} {r : Rewritten} {out′ : List ℕ} (w : Rewrites s 
       let twice : Rewrites written out₂ (doneAnswer h is) (doneOut out₂ h is) = done still-valid (holds-again (went w z .holds) written e not-longer) (omega (arith, len)) in
       let same = rewrites-once v twice in
       (same .0 ∙ sym (went w z .result), same .1 ∙ ap₂ (λ (x : List ℕ) (k : ℕ). x ++ drop k out₂) (sym e) (sym len))
+
+-- an output as long as the strip is long enough
+pub enough : {s out : List ℕ} {r : Rewritten} {out′ : List ℕ} → Rewrites s out r out′ → Valid s → length s ≤ length out → r .code ≡ DONE
+enough {out = out} w v l =
+    let a = valid-holds v in
+    let fits : length (shortest (v .header) (instrs v)) ≤ length out = omega (arith, l, holds-least a a) in
+    ap (λ (x : Rewritten). x .code) (rewrites-once w (done v a fits) .0)

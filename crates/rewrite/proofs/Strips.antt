@@ -1,15 +1,15 @@
 -- A strip has one header and one list of instructions; a valid one has them.
-use Prim.Native.Nat.{ℕ, _+_}
-use mathlib.Core.Path.{_≡_, refl, sym, ap₂, subst}
+use Prim.Native.Nat.{ℕ, _+_, _≤_}
+use mathlib.Core.Path.{_≡_, refl, sym, ap, ap₂, subst}
 use mathlib.Core.List.{List, [], _∷_, _++_}
 use native.Mathlib.Omega.{arith}
-use lib.ListN.{length}
+use lib.ListN.{length, getD, length-append, length-map}
 use Rattle.card.specs.Card.{DONE}
-use Rattle.opcode.specs.Kind.{Kind}
+use Rattle.opcode.specs.Kind.{Kind, kindByte}
 use Rattle.instr.specs.declared.Instr.{Instr}
 use Rattle.instr.proofs.Stands.{stands-once}
 use Rattle.instr.proofs.Ranges.{stands-some, stands-inside}
-use Rattle.rules.specs.Header.{Header, headerBytes}
+use Rattle.rules.specs.Header.{Header, Declares, headerBytes, kinds, locals}
 use Rattle.rules.specs.Strip.{Valid}
 use Rattle.rules.specs.Breach.{Breach, Says, valid, breach}
 use Rattle.rules.proofs.Headers.{declares-once}
@@ -58,3 +58,23 @@ says-valid (breach b) e = absurd (breach-coded b e)
 pub says-breach : {s : List ℕ} {c l : ℕ} → Says s c l → (c ≡ DONE → ⊥) → Breach s c l
 says-breach (valid v) f = absurd (f refl)
 says-breach (breach b) f = b
+
+-- the counts say how long the header is
+module _ {s : List ℕ} {h : Header} (d : Declares s h) where
+  pub header-length : length (headerBytes h) ≡ 8 + getD s 5 0 + getD s 6 0 + getD s 7 0
+  header-length =
+      omega (
+        arith,
+        ap (λ (l : List ℕ). getD l 5 0) (d .bytes),
+        ap (λ (l : List ℕ). getD l 6 0) (d .bytes),
+        ap (λ (l : List ℕ). getD l 7 0) (d .bytes),
+        length-map (kinds h) kindByte,
+        length-append (locals h) (h .results),
+        length-append (h .parameters) (h .further),
+      )
+
+  pub header-inside : length (headerBytes h) ≤ length s
+  header-inside = omega (arith, ap length (d .bytes), length-append (headerBytes h) (d .body))
+
+  pub header-counts : 8 ≤ length s
+  header-counts = omega (arith, header-inside)

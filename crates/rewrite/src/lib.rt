@@ -5,7 +5,7 @@ ghost use mathlib.Core.List.{_++_};
 ghost use lib.ListN.{length, take, drop};
 ghost use Rattle.rules.specs.Header.{Header, Declares, headerBytes};
 ghost use Rattle.rules.specs.Strip.{Valid};
-ghost use Rattle.rewrite.specs.Rewrite.{Rewrites};
+ghost use Rattle.rewrite.specs.Rewrite.{answer, Rewrites};
 ghost use Rattle.rewrite.specs.Inner.Pass.{Ready, Passed};
 
 pub struct Rewritten {
@@ -19,11 +19,7 @@ pub fn rewrite(strip: &[u8], out: &mut [u8]) -> Rewritten
 {
     let a = checker::check(strip);
     if a.code != card::DONE {
-        return Rewritten {
-            code: a.code,
-            place: a.place,
-            len: 0,
-        };
+        return refused(a.code, a.place);
     }
     shorten(strip, out)
 }
@@ -36,11 +32,7 @@ fn shorten(strip: &[u8], out: &mut [u8]) -> Rewritten
     let start = header_len(strip);
     let len = pass(strip, start, out, false);
     if out.len() < len {
-        return Rewritten {
-            code: card::SMALL,
-            place: 0,
-            len: 0,
-        };
+        return refused(card::SMALL, 0);
     }
     copy(strip, start, out);
     pass(strip, start, out, true);
@@ -51,6 +43,17 @@ fn shorten(strip: &[u8], out: &mut [u8]) -> Rewritten
     }
 }
 
+fn refused(code: u8, place: usize) -> Rewritten
+    ensures { λ r. ⌜ r ≡ answer code place 0 ⌝ }
+{
+    Rewritten {
+        code,
+        place,
+        len: 0,
+    }
+}
+
+// The counts stand behind mark and version, a kind byte for each behind them.
 fn header_len(strip: &[u8]) -> usize
     requires { ⌜ 8 ≤ length (now strip) ⌝ }
     ensures { λ r. ⌜ ((h : Header) → Declares (now (strip .entry)) h → r ≡ length (headerBytes h)) ⌝ }

@@ -1,50 +1,39 @@
-use borrow.Author.Needs.{needs}
-use Prim.Native.Nat.{_-_, _≤_}
-use mathlib.Core.Path.{_≡_}
-use lib.ListN.{length}
-use lib.Seq.{paste}
+-- The loop has copied `j` bytes.
+use Prim.Native.Nat.{_-_}
+use native.Mathlib.Omega.{arith}
+use Rattle.rewrite.proofs.Copying.{Copying, begins, copies, copied}
 use Rattle.rewrite.proofs.copy.Statement.{statement}
 use Rattle.rewrite.proofs.copy.Tie as tie
-use Rattle.rewrite.proofs.copy.Reads as reads
-use Rattle.rewrite.proofs.copy.Lts as lts
 
 abbrev Inv-loop : tie.InvT-loop
-Inv-loop strip n out₀ j₀ out j = (j ≤ n) × (n ≤ length strip) × (n ≤ length out₀) × (length out ≡ length out₀) × (out ≡ paste out₀ 0 strip j)
+Inv-loop strip n out₀ j₀ out j = Copying strip n out₀ out j
 
 abbrev μ-loop : tie.MeasureT-loop
 μ-loop strip n out₀ j₀ out j = n - j
 
--- src/lib.rt:67:5
 loop-holds : tie.Need-loop-holds Inv-loop μ-loop
-loop-holds c = ?
+loop-holds c = begins (c .pre .0) (c .pre .1)
 
--- src/lib.rt:68:18
 shared-slice-read-out : tie.Need-shared-slice-read-out Inv-loop μ-loop
-shared-slice-read-out c = ?
+shared-slice-read-out c = omega (arith, c .before .before .loop .inv .source)
 
--- src/lib.rt:68:9
 slice-write-out : tie.Need-slice-write-out Inv-loop μ-loop
-slice-write-out c = ?
+slice-write-out c = omega (arith, c .before .before .loop .inv .room, c .before .before .loop .inv .long)
 
--- src/lib.rt:69:13
 add-j : tie.Need-add-j Inv-loop μ-loop
-add-j c = ?
+add-j c = omega (arith, c .before .before .loop .inv .source)
 
--- src/lib.rt:67:5
 loop-less : tie.Need-loop-less Inv-loop μ-loop
-loop-less c = ?
+loop-less c = omega (arith, c .before .before .loop .inv .most)
 
--- src/lib.rt:67:5
 loop-again : tie.Need-loop-again Inv-loop μ-loop
-loop-again c = ?
+loop-again c = copies (c .before .before .loop .inv) (c .before .loop-test .taken)
 
--- src/lib.rt:62:1
 same-length : tie.Need-same-length Inv-loop μ-loop
-same-length c = ?
+same-length c = c .before .loop .inv .long
 
--- src/lib.rt:62:1
 returns : tie.Need-returns Inv-loop μ-loop
-returns c = ?
+returns c = copied (c .before .loop .inv) (c .loop-test .left)
 
 pub copy-spec : {M : Type 1} → statement M
 copy-spec =
