@@ -5,7 +5,6 @@ use mathlib.Core.List.{List, [], _∷_, _++_, append-assoc}
 use native.Mathlib.Omega.{arith}
 use lib.ListN.{length, drop, length-append, length-drop}
 use lib.Seq.{drop-append-seam}
-use Rattle.limits.specs.Limits.{fileLimit}
 use Rattle.opcode.specs.Kind.{Kind}
 use Rattle.instr.specs.declared.Instr.{Instr}
 use Rattle.instr.specs.Layout.{layout, Stands}
@@ -15,7 +14,7 @@ use Rattle.instr.proofs.Encodes.{encode-shortest}
 use Rattle.instr.proofs.Places as Places
 use Rattle.instr.proofs.Ranges.{end-first, end-one}
 use Rattle.rules.specs.Header.{Header, Declares, headerBytes}
-use Rattle.rules.specs.Strip.{Reads, Reaches, front, past, Valid}
+use Rattle.rules.specs.Strip.{Reaches, front, past, Valid}
 use Rattle.rules.proofs.Onward.{Onward, here, next, from-front, declared}
 use Rattle.rewrite.specs.Rewrite.{Instructions, no-more, one-more, Holds, encodings, shortest}
 use Rattle.rewrite.proofs.Strips.{between, instrs, valid-holds}

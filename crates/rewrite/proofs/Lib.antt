@@ -6,5 +6,6 @@ pub mod Strips
 pub mod Again
 pub mod Least
 pub mod Copying
+pub mod Puts
 pub mod Passing
 pub mod Room

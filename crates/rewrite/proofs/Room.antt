@@ -1,8 +1,8 @@
 -- A breach is passed on. The shortest form of a valid strip is counted; then there is room for it or not; then it is written.
 use Prim.Native.Nat.{ℕ, _+_, _<_, _≤_}
 use mathlib.Core.Bool.{Bool, true, false, false≢true}
-use mathlib.Core.Path.{_≡_, refl, sym, ap, ap₂, subst, _∙_}
-use mathlib.Core.List.{List, _++_, append-assoc}
+use mathlib.Core.Path.{_≡_, sym, ap, ap₂, subst, _∙_}
+use mathlib.Core.List.{List, _++_}
 use native.Mathlib.Omega.{arith}
 use lib.ListN.{length, take, drop, length-append, length-drop}
 use lib.Seq.{sets, sets-eq, take-append-seam, drop-append-add, drop-drop}
@@ -11,7 +11,7 @@ use Rattle.instr.specs.declared.Instr.{Instr}
 use Rattle.rules.specs.Header.{Header, Declares, headerBytes}
 use Rattle.rules.specs.Strip.{Valid}
 use Rattle.rules.specs.Breach.{Breach}
-use Rattle.rewrite.specs.Rewrite.{Instructions, Holds, encodings, shortest, answer, Rewrites, refused, small, done}
+use Rattle.rewrite.specs.Rewrite.{Instructions, encodings, shortest, answer, Rewrites, refused, small, done}
 use Rattle.rewrite.specs.Inner.Pass.{Ready, Passed}
 use Rattle.rewrite.specs.declared.Rewritten.{Rewritten}
 use Rattle.rewrite.proofs.Strips.{instructions-once, instrs, valid-holds, header-inside}
