@@ -1,0 +1,10 @@
+-- No bytes.
+use mathlib.Core.Path.{refl}
+use Rattle.rewrite.proofs.refused.Statement.{statement}
+use Rattle.rewrite.proofs.refused.Tie as tie
+
+returns : tie.Need-returns
+returns c = refl
+
+pub refused-spec : {M : Type 1} → statement M
+refused-spec = tie.close (tie.spec returns)

@@ -1,0 +1,3 @@
+pub mod Rewrite
+pub mod Shortened
+pub mod Inner

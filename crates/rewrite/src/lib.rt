@@ -1,0 +1,96 @@
+// The rewriter: the same strip, every number in its shortest form.
+ghost use Prim.Native.Nat.{_≤_};
+ghost use mathlib.Core.Path.{_≡_};
+ghost use mathlib.Core.List.{_++_};
+ghost use lib.ListN.{length, take, drop};
+ghost use Rattle.rules.specs.Header.{Header, Declares, headerBytes};
+ghost use Rattle.rules.specs.Strip.{Valid};
+ghost use Rattle.rewrite.specs.Rewrite.{answer, Rewrites};
+ghost use Rattle.rewrite.specs.Inner.Pass.{Ready, Passed};
+
+pub struct Rewritten {
+    pub code: u8,
+    pub place: usize,
+    pub len: usize,
+}
+
+pub fn rewrite(strip: &[u8], out: &mut [u8]) -> Rewritten
+    ensures { λ r. ⌜ Rewrites (now (strip .entry)) (now (out .entry)) r (now (out .exit)) ⌝ }
+{
+    let a = checker::check(strip);
+    if a.code != card::DONE {
+        return refused(a.code, a.place);
+    }
+    shorten(strip, out)
+}
+
+// A strip that keeps every rule: the room is asked about before the first byte is written.
+fn shorten(strip: &[u8], out: &mut [u8]) -> Rewritten
+    requires { ⌜ Valid (now strip) ⌝ }
+    ensures { λ r. ⌜ Rewrites (now (strip .entry)) (now (out .entry)) r (now (out .exit)) ⌝ }
+{
+    let start = header_len(strip);
+    let len = pass(strip, start, out, false);
+    if out.len() < len {
+        return refused(card::SMALL, 0);
+    }
+    copy(strip, start, out);
+    pass(strip, start, out, true);
+    Rewritten {
+        code: card::DONE,
+        place: 0,
+        len,
+    }
+}
+
+fn refused(code: u8, place: usize) -> Rewritten
+    ensures { λ r. ⌜ r ≡ answer code place 0 ⌝ }
+{
+    Rewritten {
+        code,
+        place,
+        len: 0,
+    }
+}
+
+// The counts stand behind mark and version, a kind byte for each behind them.
+fn header_len(strip: &[u8]) -> usize
+    requires { ⌜ 8 ≤ length (now strip) ⌝ }
+    ensures { λ r. ⌜ ((h : Header) → Declares (now (strip .entry)) h → r ≡ length (headerBytes h)) ⌝ }
+{
+    8 + strip[5] as usize + strip[6] as usize + strip[7] as usize
+}
+
+// The first n bytes.
+fn copy(strip: &[u8], n: usize, out: &mut [u8])
+    requires { ⌜ (n ≤ length (now strip)) × (n ≤ length (now out)) ⌝ }
+    ensures { λ r. ⌜ now (out .exit) ≡ take n (now (strip .entry)) ++ drop n (now (out .entry)) ⌝ }
+{
+    let mut j: usize = 0;
+    while j < n {
+        out[j] = strip[j];
+        j = j + 1;
+    }
+}
+
+// A pass over the instructions from `start` to the end of the file. Their shortest forms are written, or only counted, from the same place of the output on;
+// the answer is the place after them. One function for both passes: the decoder and the encoder have one caller here.
+fn pass(strip: &[u8], start: usize, out: &mut [u8], writing: bool) -> usize
+    requires { ⌜ Ready (now strip) start writing (length (now out)) ⌝ }
+    ensures { λ r. ⌜ Passed (now (strip .entry)) start writing (now (out .entry)) r (now (out .exit)) ⌝ }
+{
+    let mut at = start;
+    let mut to = start;
+    while at < strip.len() {
+        let d = instr::decode(strip, at);
+        let i = d.instr;
+        at = at + d.len;
+        if writing {
+            let e = instr::encode(i, &mut out[to..]);
+            to = to + e.len;
+        } else {
+            to = to + instr::encoded_len(i);
+        }
+    }
+    to
+}
