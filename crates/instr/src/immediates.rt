@@ -16,7 +16,14 @@ ghost use Rattle.instr.specs.Decode.{immediatesAt};
 ghost use Rattle.instr.specs.Inner.Steps.{memoryClass, laneEnds, Scanned};
 ghost use Rattle.instr.specs.Inner.Version.{immediatesBy};
 
-pub(crate) fn with_index(version: Version, s: &[u8], at: usize, p: usize, first: u8, number: u32) -> Decoded
+pub(crate) fn with_index(
+    version: Version,
+    s: &[u8],
+    at: usize,
+    p: usize,
+    first: u8,
+    number: u32,
+) -> Decoded
     requires { ⌜ at ≤ p ⌝ }
     ensures { λ r. ⌜ r ≡ immediatesBy version Class.index 0 0 (now (s .entry)) at p (head first number) ⌝ }
 {
@@ -26,7 +33,14 @@ pub(crate) fn with_index(version: Version, s: &[u8], at: usize, p: usize, first:
     }
 }
 
-pub(crate) fn with_word(version: Version, s: &[u8], at: usize, p: usize, first: u8, number: u32) -> Decoded
+pub(crate) fn with_word(
+    version: Version,
+    s: &[u8],
+    at: usize,
+    p: usize,
+    first: u8,
+    number: u32,
+) -> Decoded
     requires { ⌜ at ≤ p ⌝ }
     ensures { λ r. ⌜ r ≡ immediatesBy version Class.word 0 0 (now (s .entry)) at p (head first number) ⌝ }
 {
@@ -36,7 +50,14 @@ pub(crate) fn with_word(version: Version, s: &[u8], at: usize, p: usize, first: 
     }
 }
 
-pub(crate) fn with_long(version: Version, s: &[u8], at: usize, p: usize, first: u8, number: u32) -> Decoded
+pub(crate) fn with_long(
+    version: Version,
+    s: &[u8],
+    at: usize,
+    p: usize,
+    first: u8,
+    number: u32,
+) -> Decoded
     requires { ⌜ at ≤ p ⌝ }
     ensures { λ r. ⌜ r ≡ immediatesBy version Class.long 0 0 (now (s .entry)) at p (head first number) ⌝ }
 {
