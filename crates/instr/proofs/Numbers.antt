@@ -15,7 +15,7 @@ use Rattle.leb128.specs.declared.read.Leb.{Leb}
 use Rattle.leb128.specs.declared.read.Leb.the-variants.{Val, Short, Number}
 use Rattle.leb128.proofs.Bounds.{found-32, found-64}
 use Rattle.opcode.specs.Table.{PREFIX}
-use Rattle.instr.specs.Decode.{Item, got, no, itemOf, numberItem}
+use Rattle.instr.specs.Decode.{Item, got, no, itemOf}
 use Rattle.instr.specs.Inner.Version.{judged, numberBy, exponentBy, opcodeBy}
 use Rattle.instr.specs.declared.version.Version.{Version}
 use Rattle.instr.proofs.Items.{number-item}
@@ -42,7 +42,7 @@ module _ (ver : Version) (sign : Bool) (N : ℕ) (s : List ℕ) (p : ℕ) where
           ∙ rw (ne-eqb (ver .padded) DONE w, lt-leb (p + n) (p + length (bytesOf sign N v)) (omega (arith, f, ltb-true k n t)))
 
 -- which of the two, and its value and place
-abbrev kind : Item → ℕ
+abbrev pub kind : Item → ℕ
 kind (got v next) = 1
 kind (no c p) = 0
 

@@ -17,7 +17,7 @@ use Rattle.opcode.specs.Number.{classOf, movedBy, lanesOf, rowOf}
 use Rattle.opcode.proofs.Id.{Way, byte, number, beyond, way}
 use Rattle.opcode.proofs.Rows.{vector-beyond}
 use Rattle.instr.specs.Layout.{rowIn, Head, head}
-use Rattle.instr.specs.Decode.{Item, got, no, andThen, andRead, itemOf, numberItem, byteAt, exponentAt, immediatesAt, bodyOf, opcodeNumber, decodeAt}
+use Rattle.instr.specs.Decode.{Item, got, no, andThen, itemOf, numberItem, byteAt, exponentAt, immediatesAt, bodyOf, opcodeNumber, decodeAt}
 use Rattle.instr.specs.Encode.{faultOf, fault, encoded, encodedIn}
 use Rattle.instr.specs.Inner.Version.{one, judged, numberBy, exponentBy, immediatesBy, rowBy, bodyBy, opcodeBy, decodeBy, faultBy, encodedBy, encodedInBy}
 use Rattle.instr.specs.declared.Instr.{Instr}

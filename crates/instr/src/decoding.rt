@@ -15,7 +15,7 @@ ghost use mathlib.Core.Path.{_≡_};
 ghost use Prim.Native.Nat.{_≤_};
 ghost use lib.ListN.{length};
 ghost use Rattle.instr.specs.Layout.{head, instr};
-ghost use Rattle.instr.specs.Decode.{refusal, done, bodyOf, decodeAt};
+ghost use Rattle.instr.specs.Decode.{refusal, done, decodeAt};
 ghost use Rattle.instr.specs.Inner.Version.{item, rowBy, opcodeBy, bodyBy, decodeBy};
 
 pub fn decode(s: &[u8], at: usize) -> Decoded

@@ -88,12 +88,12 @@ pub(crate) fn with_memory(
                 return refused(card::ALIGN, p);
             }
             match u32_at(version, s, q) {
-                Read::Got(o, e) => {
+                Read::Got(o, next) => {
                     let offset = o as u32;
                     if laned {
-                        with_lane(s, at, e, first, number, lanes, align, offset)
+                        with_lane(s, at, next, first, number, lanes, align, offset)
                     } else {
-                        whole(at, e, first, number, 0, 0, 0, align, offset, 0, [0; 16])
+                        whole(at, next, first, number, 0, 0, 0, align, offset, 0, [0; 16])
                     }
                 }
                 Read::No(code, place) => refused(code, place),

@@ -1,4 +1,4 @@
-// A number of an instruction, by a version's rules.
+// The numbers of an instruction by a version's rules: every one is read here. A padded one is refused once it is known to be a number at all.
 use crate::version::Version;
 use leb128::Leb;
 ghost use mathlib.Core.Path.{_≡_};
