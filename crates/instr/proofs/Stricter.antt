@@ -1,5 +1,5 @@
--- What versions may differ in: each answers as version 1 does, or turns away what version 1 takes. One with a code for padding takes
--- shortest numbers only.
+-- What a version decodes, version 1 decodes to the same: with the table as it is, a version can only turn more away. One with a code for
+-- padding takes shortest numbers only.
 use Prim.Native.Nat.{ℕ, _+_, _<_}
 use mathlib.Core.Bool.{Bool, true, false, cond, _&&_, _||_}
 use mathlib.Core.List.{List, _++_}

@@ -59,7 +59,7 @@ immediatesBy ver laneIndex m n s at p h = immediatesAt laneIndex m n s at p h
 immediatesBy ver sixteenBytes m n s at p h = immediatesAt sixteenBytes m n s at p h
 immediatesBy ver sixteenLanes m n s at p h = immediatesAt sixteenLanes m n s at p h
 
--- a number after FD that the version does not assign
+-- the table's row, where the version assigns the number after FD
 unfoldable pub rowBy : Version → ℕ → ℕ → Row
 rowBy ver first n = cond (eqb first PREFIX && leb (ver .vectors) n) unassigned (rowAt first n)
 
