@@ -5,8 +5,11 @@ pub mod Lacking
 pub mod Ranges
 pub mod Unique
 -- What these and the functions' proofs lean on.
+pub mod Versions
+pub mod Stricter
 pub mod Classes
 pub mod Items
+pub mod Numbers
 pub mod Memory
 pub mod Scan
 pub mod Sets

@@ -8,26 +8,33 @@ use crate::immediates::with_lanes;
 use crate::immediates::with_long;
 use crate::immediates::with_memory;
 use crate::immediates::with_word;
-use leb128::Leb;
+use crate::number::Read;
+use crate::number::u32_at;
+use crate::version::Version;
 ghost use mathlib.Core.Path.{_≡_};
 ghost use Prim.Native.Nat.{_≤_};
 ghost use lib.ListN.{length};
-ghost use Rattle.opcode.specs.Table.{rowAt};
 ghost use Rattle.instr.specs.Layout.{head, instr};
-ghost use Rattle.instr.specs.Decode.{refusal, done, bodyOf, opcodeNumber, decodeAt};
+ghost use Rattle.instr.specs.Decode.{refusal, done, decodeAt};
+ghost use Rattle.instr.specs.Inner.Version.{item, rowBy, opcodeBy, bodyBy, decodeBy};
 
 pub fn decode(s: &[u8], at: usize) -> Decoded
     ensures { λ r. ⌜ r ≡ decodeAt (now (s .entry)) at ⌝ }
+{
+    decode_by(crate::version::ONE, s, at)
+}
+
+// By a version's rules.
+fn decode_by(version: Version, s: &[u8], at: usize) -> Decoded
+    ensures { λ r. ⌜ r ≡ decodeBy version (now (s .entry)) at ⌝ }
 {
     if s.len() <= at {
         return refused(card::SHORT, s.len());
     }
     let first = s[at];
-    let p = at + 1;
-    match opcode_number(s, p, first) {
-        Leb::Val(n, k) => body(s, at, p + k, first, n as u32),
-        Leb::Short => refused(card::SHORT, s.len()),
-        Leb::Number => refused(card::NUMBER, p),
+    match opcode_number(version, s, at + 1, first) {
+        Read::Got(n, p) => body(version, s, at, p, first, n as u32),
+        Read::No(code, place) => refused(code, place),
     }
 }
 
@@ -88,31 +95,32 @@ pub(crate) fn whole(
 }
 
 // The number after FD; after another byte there is none, and it is 0.
-fn opcode_number(s: &[u8], p: usize, first: u8) -> Leb
-    ensures { λ r. ⌜ r ≡ opcodeNumber first (now (s .entry)) p ⌝ }
+fn opcode_number(version: Version, s: &[u8], p: usize, first: u8) -> Read
+    ensures { λ r. ⌜ item r ≡ opcodeBy version first (now (s .entry)) p ⌝ }
 {
     if first == opcode::PREFIX {
-        leb128::read_u32(s, p)
+        u32_at(version, s, p)
     } else {
-        Leb::Val(0, 0)
+        Read::Got(0, p)
     }
 }
 
 // What follows the opcode. One caller, so that it becomes part of it; MEMORY and MEMORY_LANE share an arm for the same reason.
-fn body(s: &[u8], at: usize, p: usize, first: u8, number: u32) -> Decoded
+fn body(version: Version, s: &[u8], at: usize, p: usize, first: u8, number: u32) -> Decoded
     requires { ⌜ (at ≤ p) × (p ≤ length (now s)) ⌝ }
-    ensures { λ r. ⌜ r ≡ bodyOf (rowAt first number) (now (s .entry)) at p (head first number) ⌝ }
+    ensures { λ r. ⌜ r ≡ bodyBy version (rowBy version first number) (now (s .entry)) at p (head first number) ⌝ }
 {
-    let id = opcode::id_of(first, number);
+    let id = crate::version::id_by(version, first, number);
     let class = opcode::immediates(id);
     match class {
         opcode::NOTHING => whole(at, p, first, number, 0, 0, 0, 0, 0, 0, [0; 16]),
-        opcode::INDEX => with_index(s, at, p, first, number),
-        opcode::WORD => with_word(s, at, p, first, number),
-        opcode::LONG => with_long(s, at, p, first, number),
+        opcode::INDEX => with_index(version, s, at, p, first, number),
+        opcode::WORD => with_word(version, s, at, p, first, number),
+        opcode::LONG => with_long(version, s, at, p, first, number),
         opcode::MEMORY | opcode::MEMORY_LANE => {
             let laned = class == opcode::MEMORY_LANE;
             with_memory(
+                version,
                 s,
                 at,
                 p,

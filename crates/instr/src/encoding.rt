@@ -1,6 +1,7 @@
 // Encoding: what is wrong, then the room, then the bytes.
 use crate::Encoded;
 use crate::Instr;
+use crate::version::Version;
 use leb128::Wrote;
 ghost use mathlib.Core.Path.{_≡_};
 ghost use Prim.Native.Nat.{_+_, _<_, _≤_};
@@ -10,16 +11,25 @@ ghost use lib.ListN.{length};
 ghost use Rattle.leb128.specs.Shortest.{bytesOf};
 ghost use Rattle.opcode.specs.Number.{classOf, rowOf};
 ghost use Rattle.instr.specs.Layout.{opcodeFields, fieldsOf, rowIn};
-ghost use Rattle.instr.specs.Encode.{written, encoding, allBelow, exponentFault, fault, encoded, encodedIn};
+ghost use Rattle.instr.specs.Encode.{written, encoding, allBelow, exponentFault, faultOf, encoded, encodedIn};
 ghost use Rattle.instr.specs.Inner.Steps.{Put};
+ghost use Rattle.instr.specs.Inner.Version.{encodedBy, encodedInBy};
 
 pub fn encode(i: Instr, out: &mut [u8]) -> Encoded
     ensures answer { λ r. ⌜ r ≡ encoded i (now (out .entry)) ⌝ }
     ensures bytes { λ r. ⌜ now (out .exit) ≡ encodedIn i (now (out .entry)) ⌝ }
 {
+    encode_by(crate::version::ONE, i, out)
+}
+
+// By a version's rules: what it does not carry is OPCODE.
+fn encode_by(version: Version, i: Instr, out: &mut [u8]) -> Encoded
+    ensures answer { λ r. ⌜ r ≡ encodedBy version i (now (out .entry)) ⌝ }
+    ensures bytes { λ r. ⌜ now (out .exit) ≡ encodedInBy version i (now (out .entry)) ⌝ }
+{
     let first = i.first;
     let number = i.number;
-    let id = opcode::id_of(first, number);
+    let id = crate::version::id_by(version, first, number);
     let wrong = fault_of(id, i);
     if wrong != card::DONE {
         return Encoded {
@@ -58,8 +68,7 @@ pub fn encoded_len(i: Instr) -> usize
 
 // A lane index is asked about before the exponent.
 fn fault_of(id: u32, i: Instr) -> u8
-    requires { ⌜ rowOf id ≡ rowIn i ⌝ }
-    ensures { λ r. ⌜ r ≡ fault i ⌝ }
+    ensures { λ r. ⌜ r ≡ faultOf (rowOf id) i ⌝ }
 {
     match opcode::immediates(id) {
         opcode::MEMORY => exponent_fault(i.align, opcode::moved(id)),

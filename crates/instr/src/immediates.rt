@@ -2,7 +2,11 @@
 use crate::Decoded;
 use crate::decoding::refused;
 use crate::decoding::whole;
-use leb128::Leb;
+use crate::number::Read;
+use crate::number::s32_at;
+use crate::number::s64_at;
+use crate::number::u32_at;
+use crate::version::Version;
 ghost use mathlib.Core.Path.{_≡_};
 ghost use Prim.Native.Nat.{_+_, _≤_};
 ghost use lib.ListN.{length, take, drop};
@@ -10,41 +14,61 @@ ghost use Rattle.opcode.specs.Immediate as Class;
 ghost use Rattle.instr.specs.Layout.{head};
 ghost use Rattle.instr.specs.Decode.{immediatesAt};
 ghost use Rattle.instr.specs.Inner.Steps.{memoryClass, laneEnds, Scanned};
+ghost use Rattle.instr.specs.Inner.Version.{immediatesBy};
 
-pub(crate) fn with_index(s: &[u8], at: usize, p: usize, first: u8, number: u32) -> Decoded
+pub(crate) fn with_index(
+    version: Version,
+    s: &[u8],
+    at: usize,
+    p: usize,
+    first: u8,
+    number: u32,
+) -> Decoded
     requires { ⌜ at ≤ p ⌝ }
-    ensures { λ r. ⌜ r ≡ immediatesAt Class.index 0 0 (now (s .entry)) at p (head first number) ⌝ }
+    ensures { λ r. ⌜ r ≡ immediatesBy version Class.index 0 0 (now (s .entry)) at p (head first number) ⌝ }
 {
-    match leb128::read_u32(s, p) {
-        Leb::Val(v, n) => whole(at, p + n, first, number, v as u32, 0, 0, 0, 0, 0, [0; 16]),
-        Leb::Short => refused(card::SHORT, s.len()),
-        Leb::Number => refused(card::NUMBER, p),
+    match u32_at(version, s, p) {
+        Read::Got(v, q) => whole(at, q, first, number, v as u32, 0, 0, 0, 0, 0, [0; 16]),
+        Read::No(code, place) => refused(code, place),
     }
 }
 
-pub(crate) fn with_word(s: &[u8], at: usize, p: usize, first: u8, number: u32) -> Decoded
+pub(crate) fn with_word(
+    version: Version,
+    s: &[u8],
+    at: usize,
+    p: usize,
+    first: u8,
+    number: u32,
+) -> Decoded
     requires { ⌜ at ≤ p ⌝ }
-    ensures { λ r. ⌜ r ≡ immediatesAt Class.word 0 0 (now (s .entry)) at p (head first number) ⌝ }
+    ensures { λ r. ⌜ r ≡ immediatesBy version Class.word 0 0 (now (s .entry)) at p (head first number) ⌝ }
 {
-    match leb128::read_s32(s, p) {
-        Leb::Val(v, n) => whole(at, p + n, first, number, 0, v as u32, 0, 0, 0, 0, [0; 16]),
-        Leb::Short => refused(card::SHORT, s.len()),
-        Leb::Number => refused(card::NUMBER, p),
+    match s32_at(version, s, p) {
+        Read::Got(v, q) => whole(at, q, first, number, 0, v as u32, 0, 0, 0, 0, [0; 16]),
+        Read::No(code, place) => refused(code, place),
     }
 }
 
-pub(crate) fn with_long(s: &[u8], at: usize, p: usize, first: u8, number: u32) -> Decoded
+pub(crate) fn with_long(
+    version: Version,
+    s: &[u8],
+    at: usize,
+    p: usize,
+    first: u8,
+    number: u32,
+) -> Decoded
     requires { ⌜ at ≤ p ⌝ }
-    ensures { λ r. ⌜ r ≡ immediatesAt Class.long 0 0 (now (s .entry)) at p (head first number) ⌝ }
+    ensures { λ r. ⌜ r ≡ immediatesBy version Class.long 0 0 (now (s .entry)) at p (head first number) ⌝ }
 {
-    match leb128::read_s64(s, p) {
-        Leb::Val(v, n) => whole(at, p + n, first, number, 0, 0, v, 0, 0, 0, [0; 16]),
-        Leb::Short => refused(card::SHORT, s.len()),
-        Leb::Number => refused(card::NUMBER, p),
+    match s64_at(version, s, p) {
+        Read::Got(v, q) => whole(at, q, first, number, 0, 0, v, 0, 0, 0, [0; 16]),
+        Read::No(code, place) => refused(code, place),
     }
 }
 
 pub(crate) fn with_memory(
+    version: Version,
     s: &[u8],
     at: usize,
     p: usize,
@@ -55,30 +79,27 @@ pub(crate) fn with_memory(
     laned: bool,
 ) -> Decoded
     requires { ⌜ (at ≤ p) × (moved ≤ 16) ⌝ }
-    ensures { λ r. ⌜ r ≡ immediatesAt (memoryClass laned) moved lanes (now (s .entry)) at p (head first number) ⌝ }
+    ensures { λ r. ⌜ r ≡ immediatesBy version (memoryClass laned) moved lanes (now (s .entry)) at p (head first number) ⌝ }
 {
-    match leb128::read_u32(s, p) {
-        Leb::Val(a, n) => {
+    match u32_at(version, s, p) {
+        Read::Got(a, q) => {
             let align = a as u32;
             if !crate::exponent_fits(align, moved) {
                 return refused(card::ALIGN, p);
             }
-            let q = p + n;
-            match leb128::read_u32(s, q) {
-                Leb::Val(o, k) => {
+            match u32_at(version, s, q) {
+                Read::Got(o, next) => {
                     let offset = o as u32;
                     if laned {
-                        with_lane(s, at, q + k, first, number, lanes, align, offset)
+                        with_lane(s, at, next, first, number, lanes, align, offset)
                     } else {
-                        whole(at, q + k, first, number, 0, 0, 0, align, offset, 0, [0; 16])
+                        whole(at, next, first, number, 0, 0, 0, align, offset, 0, [0; 16])
                     }
                 }
-                Leb::Short => refused(card::SHORT, s.len()),
-                Leb::Number => refused(card::NUMBER, q),
+                Read::No(code, place) => refused(code, place),
             }
         }
-        Leb::Short => refused(card::SHORT, s.len()),
-        Leb::Number => refused(card::NUMBER, p),
+        Read::No(code, place) => refused(code, place),
     }
 }
 

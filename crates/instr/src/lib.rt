@@ -2,6 +2,8 @@
 mod decoding;
 mod encoding;
 mod immediates;
+mod number;
+mod version;
 
 pub use decoding::decode;
 pub use encoding::encode;

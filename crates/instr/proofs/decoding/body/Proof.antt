@@ -6,12 +6,13 @@ use Rattle.opcode.specs.Number.{rowOf}
 use Rattle.opcode.specs.Immediate.{nothing, index, word, long, sixteenBytes, sixteenLanes}
 use Rattle.opcode.proofs.Classes.{row-moved-small}
 use Rattle.instr.specs.Decode.{immediatesAt}
+use Rattle.instr.specs.Inner.Version.{immediatesBy}
 use Rattle.instr.proofs.Classes.{class-at, body-class, body-lane, body-memory, body-float, body-none}
 use Rattle.instr.proofs.decoding.body.Statement.{statement}
 use Rattle.instr.proofs.decoding.body.Tie as tie
 
-id-of-requires : tie.Need-id-of-requires
-id-of-requires c κs = search needs
+id-by-requires : tie.Need-id-by-requires
+id-by-requires c κs = search needs
 
 immediates-requires : tie.Need-immediates-requires
 immediates-requires c κs = search needs
@@ -52,99 +53,89 @@ lanes-requires-2 c κs = search needs
 with-memory-requires : tie.Need-with-memory-requires
 with-memory-requires c κs =
     let start = c .before .before .before .before .before .before .before in
-    let at-id-of = c .before .before .before .before .before in
-    (start .pre .0, omega (arith, c .before .moved .ensures, row-moved-small (rowOf (at-id-of .id-of .result))))
+    let at-id-by = c .before .before .before .before .before in
+    (start .pre .0, omega (arith, c .before .moved .ensures, row-moved-small (rowOf (at-id-by .id-by .result))))
 
 refused-requires-2 : tie.Need-refused-requires-2
 refused-requires-2 c κs = search needs
 
 returns : tie.Need-returns
-unfolding immediatesAt
+unfolding immediatesBy immediatesAt
 returns c =
-    let start = c .before .before .before .before .before in
-    let at-id-of = c .before .before .before in
-    c .whole .ensures ∙ sym (body-class _ nothing (class-at (start .args .first) (start .args .number) _ _ (search needs) (at-id-of .id-of .ensures)
-    (c .before .before .immediates .ensures) (c .before .match .keys1)) _ _ _ _)
+    let at-id-by = c .before .before .before in
+    c .whole .ensures ∙ sym (body-class _ nothing (class-at _ _ _ (at-id-by .id-by .ensures)
+    (c .before .before .immediates .ensures) (c .before .match .keys1)) _ _ _ _ _)
 
 returns-2 : tie.Need-returns-2
-unfolding immediatesAt
+unfolding immediatesBy
 returns-2 c =
-    let start = c .before .before .before .before .before in
-    let at-id-of = c .before .before .before in
-    c .with-index .ensures ∙ sym (body-class _ index (class-at (start .args .first) (start .args .number) _ _ (search needs) (at-id-of .id-of .ensures)
-    (c .before .before .immediates .ensures) (c .before .match .keys2)) _ _ _ _)
+    let at-id-by = c .before .before .before in
+    c .with-index .ensures ∙ sym (body-class _ index (class-at _ _ _ (at-id-by .id-by .ensures)
+    (c .before .before .immediates .ensures) (c .before .match .keys2)) _ _ _ _ _)
 
 returns-3 : tie.Need-returns-3
-unfolding immediatesAt
+unfolding immediatesBy
 returns-3 c =
-    let start = c .before .before .before .before .before in
-    let at-id-of = c .before .before .before in
-    c .with-word .ensures ∙ sym (body-class _ word (class-at (start .args .first) (start .args .number) _ _ (search needs) (at-id-of .id-of .ensures)
-    (c .before .before .immediates .ensures) (c .before .match .keys3)) _ _ _ _)
+    let at-id-by = c .before .before .before in
+    c .with-word .ensures ∙ sym (body-class _ word (class-at _ _ _ (at-id-by .id-by .ensures)
+    (c .before .before .immediates .ensures) (c .before .match .keys3)) _ _ _ _ _)
 
 returns-4 : tie.Need-returns-4
-unfolding immediatesAt
+unfolding immediatesBy
 returns-4 c =
-    let start = c .before .before .before .before .before in
-    let at-id-of = c .before .before .before in
-    c .with-long .ensures ∙ sym (body-class _ long (class-at (start .args .first) (start .args .number) _ _ (search needs) (at-id-of .id-of .ensures)
-    (c .before .before .immediates .ensures) (c .before .match .keys4)) _ _ _ _)
+    let at-id-by = c .before .before .before in
+    c .with-long .ensures ∙ sym (body-class _ long (class-at _ _ _ (at-id-by .id-by .ensures)
+    (c .before .before .immediates .ensures) (c .before .match .keys4)) _ _ _ _ _)
 
 returns-5 : tie.Need-returns-5
 returns-5 c =
-    let start = c .before .before .before .before .before .before in
-    let at-id-of = c .before .before .before .before in
+    let at-id-by = c .before .before .before .before in
     let at-immediates = c .before .before .before in
-    c .with-lane .ensures ∙ body-lane (start .args .first) (start .args .number) _ _ (search needs) (at-id-of .id-of .ensures)
-    (at-immediates .immediates .ensures) _ _ _ _ _ (c .before .lanes .ensures) (c .before .before .match .keys5)
+    c .with-lane .ensures ∙ body-lane _ _ _ (at-id-by .id-by .ensures)
+    (at-immediates .immediates .ensures) _ _ _ _ _ _ (c .before .lanes .ensures) (c .before .before .match .keys5)
 
 returns-6 : tie.Need-returns-6
-unfolding immediatesAt
+unfolding immediatesBy immediatesAt
 returns-6 c =
-    let start = c .before .before .before .before .before in
-    let at-id-of = c .before .before .before in
-    c .with-bytes .ensures ∙ sym (body-class _ sixteenBytes (class-at (start .args .first) (start .args .number) _ _ (search needs) (at-id-of .id-of .ensures)
-    (c .before .before .immediates .ensures) (c .before .match .keys6)) _ _ _ _)
+    let at-id-by = c .before .before .before in
+    c .with-bytes .ensures ∙ sym (body-class _ sixteenBytes (class-at _ _ _ (at-id-by .id-by .ensures)
+    (c .before .before .immediates .ensures) (c .before .match .keys6)) _ _ _ _ _)
 
 returns-7 : tie.Need-returns-7
-unfolding immediatesAt
+unfolding immediatesBy immediatesAt
 returns-7 c =
-    let start = c .before .before .before .before .before in
-    let at-id-of = c .before .before .before in
-    c .with-lanes .ensures ∙ sym (body-class _ sixteenLanes (class-at (start .args .first) (start .args .number) _ _ (search needs) (at-id-of .id-of .ensures)
-    (c .before .before .immediates .ensures) (c .before .match .keys7)) _ _ _ _)
+    let at-id-by = c .before .before .before in
+    c .with-lanes .ensures ∙ sym (body-class _ sixteenLanes (class-at _ _ _ (at-id-by .id-by .ensures)
+    (c .before .before .immediates .ensures) (c .before .match .keys7)) _ _ _ _ _)
 
 returns-8 : tie.Need-returns-8
 returns-8 c =
-    let start = c .before .before .before .before .before in
-    let at-id-of = c .before .before .before in
-    c .refused .ensures ∙ sym (body-float _ (class-at (start .args .first) (start .args .number) _ _ (search needs) (at-id-of .id-of .ensures)
-    (c .before .before .immediates .ensures) (c .before .match .keys8)) _ _ _ _)
+    let at-id-by = c .before .before .before in
+    c .refused .ensures ∙ sym (body-float _ (class-at _ _ _ (at-id-by .id-by .ensures)
+    (c .before .before .immediates .ensures) (c .before .match .keys8)) _ _ _ _ _)
 
 returns-9 : tie.Need-returns-9
 returns-9 c =
-    let start = c .before .before .before .before .before .before .before .before in
-    let at-id-of = c .before .before .before .before .before .before in
+    let at-id-by = c .before .before .before .before .before .before in
     let at-immediates = c .before .before .before .before .before in
     let at-match = c .before .before .before .before in
     let at-if1 = c .before .before .before in
-    c .with-memory .ensures ∙ body-memory (start .args .first) (start .args .number) _ _ (search needs) (at-id-of .id-of .ensures)
-    (at-immediates .immediates .ensures) _ _ _ _ _ _ _ (c .before .before .moved .ensures) (c .before .lanes2 .ensures) refl (at-match .match .rest)
+    c .with-memory .ensures ∙ body-memory _ _ _ (at-id-by .id-by .ensures)
+    (at-immediates .immediates .ensures) _ _ _ _ _ _ _ _ (c .before .before .moved .ensures) (c .before .lanes2 .ensures) refl (at-match .match .rest)
     (at-if1 .if1 .taken)
 
 returns-10 : tie.Need-returns-10
 returns-10 c =
-    let start = c .before .before .before .before .before .before in
-    let at-id-of = c .before .before .before .before in
+    let at-id-by = c .before .before .before .before in
     let at-immediates = c .before .before .before in
-    c .refused2 .ensures ∙ sym (body-none (start .args .first) (start .args .number) _ _ (search needs) (at-id-of .id-of .ensures)
-    (at-immediates .immediates .ensures) _ _ _ _ (c .before .before .match .rest) (c .before .if1 .left))
+    c .refused2 .ensures ∙ sym (body-none _ _ _ (at-id-by .id-by .ensures)
+    (at-immediates .immediates .ensures) _ _ _ _ _ (c .before .before .match .rest) (c .before .if1 .left))
 
 pub body-spec : {M : Type 1} → statement M
 body-spec =
     tie.close
     (tie.spec
-    id-of-requires
+    id-by-requires
     immediates-requires
     whole-requires
     with-index-requires

@@ -1,12 +1,10 @@
 -- What is wrong, class by class.
 use borrow.Author.Needs.{needs}
 use mathlib.Core.Bool.{true, false}
-use mathlib.Core.Path.{sym, ap, subst, _∙_}
+use mathlib.Core.Path.{sym, subst, _∙_}
 use native.Mathlib.Omega.{arith}
-use Rattle.opcode.specs.Table.{Row}
 use Rattle.opcode.specs.Number.{rowOf}
 use Rattle.opcode.proofs.Classes.{row-moved-small}
-use Rattle.instr.specs.Encode.{faultOf}
 use Rattle.instr.proofs.Classes.{fault-memory, fault-memory-lane, fault-lane-memory, no-fault-lane, fault-lane, fault-lanes, fault-float, fault-unassigned, AllBut, judged, fault-other}
 use Rattle.instr.proofs.encoding.fault_of.Statement.{statement}
 use Rattle.instr.proofs.encoding.fault_of.Tie as tie
@@ -50,7 +48,7 @@ returns c =
     let start = c .before .before .before .before in
     let at-immediates = c .before .before .before in
     c .exponent-fault .ensures ∙ fault-memory (rowOf (start .args .id)) (start .args .i) _ (c .before .moved .ensures)
-    (sym (at-immediates .immediates .ensures) ∙ c .before .before .match .keys1) ∙ ap (λ (r : Row). faultOf r (start .args .i)) (start .pre)
+    (sym (at-immediates .immediates .ensures) ∙ c .before .before .match .keys1)
 
 returns-2 : tie.Need-returns-2
 returns-2 c =
@@ -60,8 +58,7 @@ returns-2 c =
     let at-wide = c .before .before .before .before in
     let at-lanes = c .before .before .before in
     c .exponent-fault2 .ensures ∙ fault-memory-lane (rowOf (start .args .id)) (start .args .i) _ (at-lanes .lanes .ensures) _ (c .before .moved2 .ensures)
-    (sym (at-immediates .immediates .ensures) ∙ at-match .match .keys2) (rw (at-wide .wide .ensures) at (c .before .before .if1 .taken)) ∙ ap
-    (λ (r : Row). faultOf r (start .args .i)) (start .pre)
+    (sym (at-immediates .immediates .ensures) ∙ at-match .match .keys2) (rw (at-wide .wide .ensures) at (c .before .before .if1 .taken))
 
 returns-3 : tie.Need-returns-3
 returns-3 c =
@@ -69,8 +66,7 @@ returns-3 c =
     let at-immediates = c .before .before .before .before in
     let at-match = c .before .before .before in
     fault-lane-memory (rowOf (start .args .id)) (start .args .i) _ (c .before .lanes .ensures)
-    (sym (at-immediates .immediates .ensures) ∙ at-match .match .keys2) (rw (c .before .before .wide .ensures) at (c .if1 .left)) ∙ ap
-    (λ (r : Row). faultOf r (start .args .i)) (start .pre)
+    (sym (at-immediates .immediates .ensures) ∙ at-match .match .keys2) (rw (c .before .before .wide .ensures) at (c .if1 .left))
 
 returns-4 : tie.Need-returns-4
 returns-4 c =
@@ -78,7 +74,7 @@ returns-4 c =
     let at-immediates = c .before .before .before .before in
     let at-match = c .before .before .before in
     no-fault-lane (rowOf (start .args .id)) (start .args .i) _ (c .before .lanes2 .ensures) (sym (at-immediates .immediates .ensures) ∙ at-match .match .keys3)
-    (rw (c .before .before .wide2 .ensures) at (c .if2 .taken)) ∙ ap (λ (r : Row). faultOf r (start .args .i)) (start .pre)
+    (rw (c .before .before .wide2 .ensures) at (c .if2 .taken))
 
 returns-5 : tie.Need-returns-5
 returns-5 c =
@@ -86,7 +82,7 @@ returns-5 c =
     let at-immediates = c .before .before .before .before in
     let at-match = c .before .before .before in
     fault-lane (rowOf (start .args .id)) (start .args .i) _ (c .before .lanes2 .ensures) (sym (at-immediates .immediates .ensures) ∙ at-match .match .keys3)
-    (rw (c .before .before .wide2 .ensures) at (c .if2 .left)) ∙ ap (λ (r : Row). faultOf r (start .args .i)) (start .pre)
+    (rw (c .before .before .wide2 .ensures) at (c .if2 .left))
 
 returns-6 : tie.Need-returns-6
 returns-6 c =
@@ -94,7 +90,7 @@ returns-6 c =
     let at-immediates = c .before .before .before .before in
     let at-match = c .before .before .before in
     fault-lanes (rowOf (start .args .id)) (start .args .i) true (sym (c .if3 .taken) ∙ c .before .all-lanes .ensures)
-    (sym (at-immediates .immediates .ensures) ∙ at-match .match .keys4) ∙ ap (λ (r : Row). faultOf r (start .args .i)) (start .pre)
+    (sym (at-immediates .immediates .ensures) ∙ at-match .match .keys4)
 
 returns-7 : tie.Need-returns-7
 returns-7 c =
@@ -102,25 +98,22 @@ returns-7 c =
     let at-immediates = c .before .before .before .before in
     let at-match = c .before .before .before in
     fault-lanes (rowOf (start .args .id)) (start .args .i) false (sym (c .if3 .left) ∙ c .before .all-lanes .ensures)
-    (sym (at-immediates .immediates .ensures) ∙ at-match .match .keys4) ∙ ap (λ (r : Row). faultOf r (start .args .i)) (start .pre)
+    (sym (at-immediates .immediates .ensures) ∙ at-match .match .keys4)
 
 returns-8 : tie.Need-returns-8
 returns-8 c =
     let start = c .before .before in
-    sym (fault-float (rowOf (start .args .id)) (sym (c .before .immediates .ensures) ∙ c .match .keys5) (start .args .i)) ∙ ap
-    (λ (r : Row). faultOf r (start .args .i)) (start .pre)
+    sym (fault-float (rowOf (start .args .id)) (sym (c .before .immediates .ensures) ∙ c .match .keys5) (start .args .i))
 
 returns-9 : tie.Need-returns-9
 returns-9 c =
     let start = c .before .before in
-    sym (fault-unassigned (rowOf (start .args .id)) (sym (c .before .immediates .ensures) ∙ c .match .keys6) (start .args .i)) ∙ ap
-    (λ (r : Row). faultOf r (start .args .i)) (start .pre)
+    sym (fault-unassigned (rowOf (start .args .id)) (sym (c .before .immediates .ensures) ∙ c .match .keys6) (start .args .i))
 
 returns-10 : tie.Need-returns-10
 returns-10 c =
     let start = c .before .before in
-    sym (fault-other (rowOf (start .args .id)) (subst (AllBut judged) (c .before .immediates .ensures) (c .match .rest)) (start .args .i)) ∙ ap
-    (λ (r : Row). faultOf r (start .args .i)) (start .pre)
+    sym (fault-other (rowOf (start .args .id)) (subst (AllBut judged) (c .before .immediates .ensures) (c .match .rest)) (start .args .i))
 
 pub fault-of-spec : {M : Type 1} → statement M
 fault-of-spec =

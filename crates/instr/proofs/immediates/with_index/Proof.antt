@@ -1,84 +1,63 @@
--- The number and its three answers.
+-- The number and its two answers.
 use borrow.Author.Needs.{needs}
-use mathlib.Core.Path.{sym, _∙_}
+use mathlib.Core.Path.{sym, ap, _∙_}
 use native.Mathlib.Omega.{arith}
-use Rattle.leb128.proofs.Bounds.{found-32}
-use Rattle.instr.specs.Decode.{numberItem, immediatesAt}
+use Rattle.instr.specs.Inner.Version.{item, immediatesBy}
+use Rattle.instr.proofs.Numbers.{number-32}
 use Rattle.instr.proofs.immediates.with_index.Statement.{statement}
 use Rattle.instr.proofs.immediates.with_index.Tie as tie
 
-read-u32-requires : tie.Need-read-u32-requires
-read-u32-requires c κs = search needs
+u32-at-requires : tie.Need-u32-at-requires
+u32-at-requires c κs = search needs
 
 enum-known-v : tie.Need-enum-known-v
 enum-known-v c = search needs
 
-add-whole : tie.Need-add-whole
-add-whole c =
-    let at-shared-slice-known = c .before .before .before .before in
-    let at-read-u32 = c .before .before .before in
-    omega (
-      arith,
-      found-32 _ _ _ (λ j. at-shared-slice-known .shared-slice-known .given j .fits) _ _
-          (sym (at-read-u32 .read-u32 .ensures .answer) ∙ c .before .v .given .1),
-    )
-
 cast-whole : tie.Need-cast-whole
 cast-whole c =
     let at-shared-slice-known = c .before .before .before .before in
-    let at-read-u32 = c .before .before .before in
+    let at-u32-at = c .before .before .before in
     omega (
       arith,
-      found-32 _ _ _ (λ j. at-shared-slice-known .shared-slice-known .given j .fits) _ _
-          (sym (at-read-u32 .read-u32 .ensures .answer) ∙ c .before .v .given .1),
+      number-32 _ _ _ _ (λ j. at-shared-slice-known .shared-slice-known .given j .fits) _ _ (sym (at-u32-at .u32-at .ensures) ∙ ap item (c .before .v .given .1)),
     )
 
 whole-requires : tie.Need-whole-requires
-whole-requires c κs = search needs
+whole-requires c κs =
+    let at-shared-slice-known = c .before .before .before .before in
+    let at-u32-at = c .before .before .before in
+    omega (
+      arith,
+      number-32 _ _ _ _ (λ j. at-shared-slice-known .shared-slice-known .given j .fits) _ _ (sym (at-u32-at .u32-at .ensures) ∙ ap item (c .before .v .given .1)),
+    )
 
-enum-told : tie.Need-enum-told
-enum-told c = search needs
+enum-known-code : tie.Need-enum-known-code
+enum-known-code c = search needs
 
 refused-requires : tie.Need-refused-requires
 refused-requires c κs = search needs
 
-enum-told-2 : tie.Need-enum-told-2
-enum-told-2 c = search needs
-
-refused-requires-2 : tie.Need-refused-requires-2
-refused-requires-2 c κs = search needs
-
 returns : tie.Need-returns
-unfolding immediatesAt numberItem
+unfolding immediatesBy
 returns c =
-    let at-read-u32 = c .before .before .before .before in
-    simp (sym (at-read-u32 .read-u32 .ensures .answer) ∙ c .before .before .v .given .1) (c .whole .ensures)
+    let at-u32-at = c .before .before .before .before in
+    simp (sym (at-u32-at .u32-at .ensures) ∙ ap item (c .before .before .v .given .1)) (c .whole .ensures)
 
 returns-2 : tie.Need-returns-2
-unfolding immediatesAt numberItem
+unfolding immediatesBy
 returns-2 c =
-    let at-read-u32 = c .before .before .before in
-    simp (sym (at-read-u32 .read-u32 .ensures .answer) ∙ c .before .enum-told .given .1) (c .refused .ensures)
-
-returns-3 : tie.Need-returns-3
-unfolding immediatesAt numberItem
-returns-3 c =
-    let at-read-u32 = c .before .before .before in
-    simp (sym (at-read-u32 .read-u32 .ensures .answer) ∙ c .before .enum-told2 .given .1) (c .refused2 .ensures)
+    let at-u32-at = c .before .before .before .before in
+    simp (sym (at-u32-at .u32-at .ensures) ∙ ap item (c .before .before .code .given .1)) (c .refused .ensures)
 
 pub with-index-spec : {M : Type 1} → statement M
 with-index-spec =
     tie.close
     (tie.spec
-    read-u32-requires
+    u32-at-requires
     enum-known-v
-    add-whole
     cast-whole
     whole-requires
-    enum-told
+    enum-known-code
     refused-requires
-    enum-told-2
-    refused-requires-2
     returns
-    returns-2
-    returns-3)
+    returns-2)
