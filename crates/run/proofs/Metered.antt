@@ -1,20 +1,20 @@
 -- What 01 says of a run's answer, read off the meter.
-use Prim.Native.Nat.{ℕ, zero, suc, _+_, _*_, _≤_, _<_}
+use Prim.Native.Nat.{ℕ, zero, suc, _+_, _*_}
 use mathlib.Core.Path.{_≡_, refl, ap, sym, _∙_, subst}
-use mathlib.Core.List.{List, map}
+use mathlib.Core.List.{List}
 use native.Mathlib.Nat.{add-zero, zero-add}
 use native.Mathlib.Omega.{arith}
 use lib.ListN.{length, length-map}
 use Rattle.card.specs.Card.{DONE, TRAP, BUDGET}
 use Rattle.limits.specs.Limits.{slot}
-use Rattle.machine.specs.Value.{Value, kindOf, AllInRange, allBytes}
+use Rattle.machine.specs.Value.{Value, kindOf, allBytes}
 use Rattle.rules.specs.Header.{Header}
 use Rattle.rules.specs.Strip.{Valid}
 use Rattle.standard.specs.Standard.{Config, Stage, going, ended, trapped, halted, step, onward, runs}
 use Rattle.standard.specs.Safety.{Sound, Safe, safe-going, safe-ended, safe-trapped}
 use Rattle.standard.proofs.Turn.{safe-step}
 use Rattle.standard.proofs.Along.{one-more}
-use Rattle.run.specs.Meter.{Left, leaves, meter, meterBy}
+use Rattle.run.specs.Meter.{leaves, meter, meterBy}
 use Rattle.run.specs.Told.{Told, told-done, told-trap, told-budget}
 use Rattle.run.proofs.Start.{all-long}
 

@@ -1,29 +1,28 @@
 -- What 01 promises of every run, whatever comes in. That a memory is bytes is what every lent one is.
-use Prim.Native.Nat.{ℕ, zero, suc, _+_, _*_, _≤_, _<_}
-use mathlib.Core.Path.{_≡_, refl, ap, sym, _∙_, subst}
+use Prim.Native.Nat.{ℕ, suc, _≤_, _<_}
+use mathlib.Core.Path.{_≡_, refl, sym, _∙_, subst}
 use mathlib.Core.List.{List}
-use mathlib.Core.Logic.{_⊎_, inl, inr}
+use mathlib.Core.Logic.{inl, inr}
 use native.Mathlib.Omega.{arith}
 use lib.ListN.{length}
-use Rattle.card.specs.Card.{DONE, LONG, TRAILING, ROOM, ARGS, OUT, FORM, SMALL, TRAP, BUDGET}
-use Rattle.limits.specs.Limits.{slot, fileLimit}
+use Rattle.card.specs.Card.{DONE, LONG, TRAILING, ROOM, ARGS, OUT, FORM, SMALL}
+use Rattle.limits.specs.Limits.{fileLimit}
 use Rattle.leb128.specs.Bytes.{bytes}
 use Rattle.opcode.specs.Kind.{Kind}
-use Rattle.machine.specs.Value.{Value, allBytes}
+use Rattle.machine.specs.Value.{Value}
 use Rattle.instr.proofs.Ranges.{stands-inside}
 use Rattle.rules.specs.Header.{Header}
 use Rattle.rules.specs.Strip.{Reaches, front, past, Valid}
 use Rattle.rules.proofs.Onward.{declared}
 use Rattle.rules.specs.Breach.{Breach, long, stub, unmarked, other-version, parameters, further, results, kind, kinds-short, short, opcode, float, number, lane, align, local, operand, deep, result, trailing, breach}
-use Rattle.checker.specs.Check.{Checked}
 use Rattle.checker.proofs.Exact as Exact
-use Rattle.standard.specs.Standard.{Config, going, ended, trapped, step, runs, begin}
-use Rattle.standard.specs.Safety.{Given, Sound, Safe, safe-going, safe-ended, safe-trapped}
+use Rattle.standard.specs.Standard.{Config, going, ended, step, runs, begin}
+use Rattle.standard.specs.Safety.{Given, Sound, Safe, safe-going, safe-ended}
 use Rattle.standard.proofs.Begin.{begin-sound}
 use Rattle.standard.proofs.Never.{never-stuck-from-begin}
 use Rattle.standard.proofs.Along.{one-more}
-use Rattle.run.specs.Meter.{Left, leaves, meter}
-use Rattle.run.specs.Run.{Holds, Slots, Runs, refused, room, arguments, outsized, malformed, metered}
+use Rattle.run.specs.Meter.{Left}
+use Rattle.run.specs.Run.{Slots, Runs, refused, room, arguments, outsized, malformed, metered}
 use Rattle.run.specs.Told.{Told, told-done, told-trap, told-budget, OnCard, Ran, turned-away, ran}
 use Rattle.run.proofs.HeaderBytes.{inside}
 use Rattle.run.proofs.Metered.{metered-tells}

@@ -1,15 +1,13 @@
 -- What the run promises leaves one answer, one memory and one content of the results.
-use Prim.Native.Nat.{ℕ, zero, suc, _+_, _*_, _≤_, _<_}
+use Prim.Native.Nat.{ℕ, zero, suc, _*_, _≤_}
 use mathlib.Core.Path.{_≡_, refl, ap, ap₂, sym, _∙_, subst}
-use mathlib.Core.List.{List, [], _∷_, _++_, map}
+use mathlib.Core.List.{List, [], _∷_, map}
 use native.Mathlib.Omega.{arith}
 use lib.ListN.{length, length-map}
 use denote.Ref.{now}
 use Rattle.card.specs.Card.{ROOM, ARGS, OUT, FORM}
 use Rattle.card.specs.declared.Answer.{Answer}
 use Rattle.limits.specs.Limits.{slot, memoryLimit}
-use Rattle.lane.specs.Vector.{number, le}
-use Rattle.lane.proofs.Laws.Number.{number-le}
 use Rattle.opcode.specs.Kind.{Kind}
 use Rattle.machine.specs.Value.{Value, I32, I64, V128, kindOf, InRange, AllInRange, bytesOf, allBytes}
 use Rattle.machine.proofs.Laws.Rep.{sixteen-bytes, low-i32, low-i64}
