@@ -14,7 +14,7 @@ use Rattle.rules.proofs.Onward.{declared}
 use Rattle.checker.specs.Check.{Checked}
 use Rattle.checker.proofs.Exact.{done-exact, breach-exact}
 use Rattle.run.specs.Meter.{leaves}
-use Rattle.run.specs.Run.{Slots, Holds, Runs, refused, room, arguments, outsized, malformed, metered}
+use Rattle.run.specs.Run.{Holds, Runs, refused, room, arguments, outsized, malformed, metered}
 use Rattle.run.specs.Inner.Steps.{Tells, Sized, Ready, Drove}
 use Rattle.run.proofs.HeaderBytes.{Counts, counts-read, parameter-count, result-count}
 use Rattle.run.proofs.Upto.{told-yes, told-no}

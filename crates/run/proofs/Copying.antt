@@ -4,7 +4,7 @@ use mathlib.Core.Path.{_≡_, refl, ap, sym, _∙_}
 use mathlib.Core.List.{List, _++_, append-nil}
 use native.Mathlib.Nat.{zero-add}
 use native.Mathlib.Omega.{arith}
-use lib.ListN.{length, getD, set, take, drop, drop-of-length-le}
+use lib.ListN.{length, getD, set, take, drop-of-length-le}
 use lib.Seq.{paste, take-all}
 use Rattle.machine.specs.Memory.{stored}
 use Rattle.machine.proofs.Laws.Copy.{turn, overwritten}

@@ -1,5 +1,5 @@
 -- The run, instruction after instruction: what is left to do is what the standard's machine has left, with the rest of the budget.
-use Prim.Native.Nat.{ℕ, zero, suc, _+_, _*_, _-_, _≤_, _<_}
+use Prim.Native.Nat.{ℕ, suc, _+_, _*_, _-_, _≤_, _<_}
 use mathlib.Core.Path.{_≡_, refl, ap, ap₂, sym, _∙_, subst}
 use mathlib.Core.List.{List, reverse}
 use native.Mathlib.Omega.{arith}
@@ -10,25 +10,24 @@ use lib.ListN.{length, take, length-map, length-reverse, replicate}
 use Rattle.card.specs.Card.{DONE, TRAP, BUDGET}
 use Rattle.lane.proofs.Laws.Number.{Bytes}
 use Rattle.limits.specs.Limits.{slot, localCount, stackBytes, localBytes}
-use Rattle.opcode.specs.Kind.{Kind}
-use Rattle.opcode.specs.Table.{End, Code, plain, carried}
+use Rattle.opcode.specs.Table.{Code, carried}
 use Rattle.opcode.specs.Number.{idOf, rowOf, groupOf}
 use Rattle.instr.specs.declared.Instr.{Instr}
 use Rattle.instr.specs.declared.Decoded.{Decoded}
 use Rattle.instr.specs.Decode.{decodeAt}
 use Rattle.instr.proofs.Ranges.{stands-inside}
-use Rattle.machine.specs.Value.{Value, kindOf, allBytes}
+use Rattle.machine.specs.Value.{kindOf, allBytes}
 use Rattle.machine.specs.Memory.{stored}
-use Rattle.machine.specs.Exec.{State, Outcome, goes, done, trap, stuck, exec}
+use Rattle.machine.specs.Exec.{State}
 use Rattle.machine.specs.Inner.Fit.{Fits, DidBy, boundsOf}
 use Rattle.machine.specs.Inner.Fit.{Ready as Apt}
 use Rattle.machine.specs.declared.access.Bounds.{Bounds}
 use Rattle.machine.specs.declared.access.Bounds.the-variants.{Clear, Past}
 use Rattle.machine.proofs.Laws.Rep.{Rep}
 use Rattle.rules.specs.Header.{Header, Declares, headerBytes}
-use Rattle.rules.specs.Strip.{Reads, Valid}
+use Rattle.rules.specs.Strip.{Reads}
 use Rattle.rules.proofs.Onward.{declared}
-use Rattle.standard.specs.Standard.{Config, Stage, going, ended, trapped, behind, step, begin}
+use Rattle.standard.specs.Standard.{Config, Stage, behind, step, begin}
 use Rattle.standard.specs.Safety.{Sound}
 use Rattle.standard.proofs.Begin.{begin-sound}
 use Rattle.standard.proofs.Steps.{step-does, end-done, result-kinds}

@@ -1,9 +1,9 @@
 -- What the bytes of a strip tell of the header that it declares.
 use Prim.Native.Nat.{ℕ, zero, suc, _+_, _≤_, _<_}
-use mathlib.Core.Path.{_≡_, refl, ap, sym, _∙_}
+use mathlib.Core.Path.{_≡_, refl, ap, _∙_}
 use mathlib.Core.List.{List, [], _∷_, _++_, map}
 use native.Mathlib.Omega.{arith}
-use lib.ListN.{length, getD, length-append, length-map, List·getD-append, List·getD-map}
+use lib.ListN.{length, getD, length-append, length-map, List·getD-append}
 use lib.Seq.{getD-append-add}
 use Rattle.limits.specs.Limits.{parameterLimit, localLimit, resultLimit}
 use Rattle.opcode.specs.Kind.{Kind, i32, kindByte}

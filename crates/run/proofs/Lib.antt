@@ -8,3 +8,6 @@ pub mod Start
 pub mod Ways
 pub mod Driving
 pub mod Asking
+pub mod Metered
+pub mod Promises
+pub mod Unique

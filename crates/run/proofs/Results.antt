@@ -3,11 +3,10 @@ use Prim.Native.Nat.{ℕ, suc, _+_, _*_}
 use mathlib.Core.Path.{_≡_, refl, ap, ap₂, sym, _∙_}
 use mathlib.Core.List.{List, [], _∷_, _++_, reverse, reverse-cons, append-nil, append-assoc}
 use native.Mathlib.Omega.{arith}
-use lib.ListN.{length, take, drop}
+use lib.ListN.{length, take}
 use lib.Seq.{take-add}
 use Rattle.limits.specs.Limits.{slot}
 use Rattle.machine.specs.Value.{Value, bytesOf, allBytes}
-use Rattle.machine.specs.Inner.Flat.{slotAt}
 use Rattle.machine.proofs.Laws.Rep.{Slots}
 
 all-append : (vs ws : List Value) → allBytes (vs ++ ws) ≡ allBytes vs ++ allBytes ws

@@ -1,6 +1,6 @@
 -- The arrays with which a run starts hold the standard's first state.
 use Prim.Native.Nat.{ℕ, zero, suc, _+_, _*_, _-_, _≤_, _<_}
-use mathlib.Core.Path.{_≡_, refl, ap, ap₂, sym, _∙_, subst}
+use mathlib.Core.Path.{_≡_, refl, ap, sym, _∙_}
 use mathlib.Core.Bool.{Bool, true, false}
 use mathlib.Core.List.{List, [], _∷_, _++_, map, append-assoc}
 use mathlib.Core.Logic.{inr}
@@ -8,17 +8,17 @@ use native.Mathlib.Omega.{arith}
 use lib.Dec.{ltb}
 use borrow.Author.Tests.{ltb-true, ltb-false}
 use lib.ListN.{length, getD, take, drop, replicate, length-append, length-map, length-replicate, length-drop, getD-replicate, List·getD-append}
-use lib.Seq.{length-take-le, getD-take, getD-drop, ext-getD, take-append-le, drop-append-le, drop-at, drop-drop, take-at, getD-append-add}
+use lib.Seq.{length-take-le, getD-take, getD-drop, ext-getD, drop-at, drop-drop, take-at, getD-append-add}
 use Rattle.lane.proofs.Laws.Number.{Bytes}
-use Rattle.limits.specs.Limits.{slot, stackLimit, localCount, stackBytes, localBytes}
+use Rattle.limits.specs.Limits.{slot, localCount, stackBytes, localBytes}
 use Rattle.opcode.specs.Kind.{Kind, i32, i64, v128}
 use Rattle.machine.specs.Value.{Value, I32, kindOf, AllInRange, bytesOf, allBytes}
 use Rattle.machine.specs.Memory.{part, stored}
 use Rattle.machine.specs.Inner.Flat.{slotAt}
 use Rattle.machine.proofs.Laws.Stored.{length-stored, part-other}
 use Rattle.machine.proofs.Laws.Rep.{Rep, sixteen-bytes}
-use Rattle.rules.specs.Header.{Header, Declares}
-use Rattle.standard.specs.Standard.{Config, begin, zeroOf}
+use Rattle.rules.specs.Header.{Header}
+use Rattle.standard.specs.Standard.{begin, zeroOf}
 use Rattle.standard.specs.Safety.{Sound}
 use Rattle.run.specs.Run.{Holds}
 

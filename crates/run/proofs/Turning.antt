@@ -1,24 +1,22 @@
 -- One instruction of a strip that keeps the rules, as the code does it: what is asked of the machine's two functions holds, and what they do is the standard's.
-use Prim.Native.Nat.{ℕ, zero, suc, _+_, _≤_, _<_}
-use mathlib.Core.Path.{_≡_, refl, ap, sym, _∙_, subst}
+use Prim.Native.Nat.{ℕ, zero, suc, _<_}
+use mathlib.Core.Path.{_≡_, refl, sym, _∙_, subst}
 use mathlib.Core.List.{List, [], _∷_}
 use mathlib.Core.Logic.{inl, inr}
 use native.Mathlib.Omega.{arith}
 use lib.ListN.{length, getD}
-use Rattle.lane.specs.Shape.{i8x16}
-use Rattle.lane.specs.Vector.{lane}
 use Rattle.lane.specs.Op.{Op, Load, LoadLane, Store, StoreLane, Const, Shuffle, Splat, ExtractLane, ReplaceLane, Unary, Binary, Bitselect, Test, Shift}
 use Rattle.lane.proofs.Laws.Lane.{lane-byte}
 use Rattle.opcode.specs.Kind.{Kind}
-use Rattle.opcode.specs.Table.{Plain, Code, plain, vector, carried}
+use Rattle.opcode.specs.Table.{Code, plain, vector, carried}
 use Rattle.opcode.specs.Number.{idOf, rowOf}
 use Rattle.opcode.proofs.Id.{row-of-id}
 use Rattle.instr.specs.declared.Instr.{Instr}
-use Rattle.instr.specs.Layout.{Below, Allowed, Stands, rowIn}
+use Rattle.instr.specs.Layout.{Below, Allowed}
 use Rattle.instr.proofs.Ranges.{lane-range, shuffle-range}
 use Rattle.machine.specs.Exec.{State, Outcome, goes, trap, stuck, exec}
 use Rattle.machine.specs.Inner.Flat.{flat}
-use Rattle.machine.specs.Inner.Fit.{Fit, Fits, Indexed, Named, Ready, Did, DidBy, boundsOf}
+use Rattle.machine.specs.Inner.Fit.{Fit, Fits, Indexed, Named, Ready, DidBy, boundsOf}
 use Rattle.machine.specs.declared.access.Bounds.{Bounds}
 use Rattle.machine.specs.declared.access.Bounds.the-variants.{Clear, Past}
 use Rattle.machine.proofs.Simulates.{simulates}

@@ -2,21 +2,19 @@
 use Prim.Native.Nat.{ℕ, _+_, _≤_}
 use mathlib.Core.Path.{_≡_, refl, ap, sym, _∙_, subst}
 use mathlib.Core.List.{List, reverse}
-use native.Mathlib.Omega.{arith}
 use lib.ListN.{length}
 use Rattle.limits.specs.Limits.{stackLimit}
 use Rattle.opcode.specs.Kind.{Kind}
-use Rattle.opcode.specs.Table.{End, Code, plain, carried}
+use Rattle.opcode.specs.Table.{End, Code, plain}
 use Rattle.opcode.specs.Number.{idOf, rowOf, groupOf, groupOfCode}
 use Rattle.opcode.proofs.Groups.{by-group}
 use Rattle.instr.specs.declared.Instr.{Instr}
 use Rattle.instr.specs.declared.Decoded.{Decoded}
-use Rattle.instr.specs.Layout.{found}
 use Rattle.instr.specs.Decode.{decodeAt}
 use Rattle.machine.specs.Exec.{State, Outcome, goes, trap, exec}
 use Rattle.rules.specs.Header.{Header, locals}
 use Rattle.rules.specs.Typing.{Types}
-use Rattle.rules.specs.Strip.{Reads, Reaches, past, Valid}
+use Rattle.rules.specs.Strip.{Reads, past, Valid}
 use Rattle.rules.proofs.Events.{end-untyped}
 use Rattle.standard.specs.Standard.{Config}
 use Rattle.standard.specs.Safety.{Sound}

@@ -1,3 +1,4 @@
 pub mod Meter
 pub mod Run
+pub mod Told
 pub mod Inner

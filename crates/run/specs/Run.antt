@@ -7,7 +7,6 @@ use Rattle.card.specs.Card.{ROOM, ARGS, OUT, FORM}
 use Rattle.limits.specs.Limits.{memoryLimit, slot}
 use Rattle.opcode.specs.Kind.{Kind}
 use Rattle.machine.specs.Value.{Value, kindOf, AllInRange, allBytes}
-use Rattle.rules.specs.Header.{Header}
 use Rattle.rules.specs.Strip.{Valid}
 use Rattle.rules.specs.Breach.{Breach}
 use Rattle.standard.specs.Standard.{begin}

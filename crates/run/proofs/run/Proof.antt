@@ -1,7 +1,5 @@
 -- Each question in turn; then the instructions.
-use Prim.Native.Nat.{_≤_}
 use native.Mathlib.Omega.{arith}
-use borrow.Author.Needs.{needs}
 use borrow.Author.Tests.{not-true, not-false}
 use Rattle.run.proofs.Asking.{counts-of, checked-first, no-room, other-args, other-out, other-form, sized, ready, ran}
 use Rattle.run.proofs.run.Statement.{statement}

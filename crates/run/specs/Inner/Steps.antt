@@ -1,11 +1,10 @@
 -- Inner: what the parts of a run are asked, and leave.
-use Prim.Native.Nat.{ℕ, _*_, _≤_, _<_}
+use Prim.Native.Nat.{ℕ, _≤_, _<_}
 use mathlib.Core.Path.{_≡_}
 use mathlib.Core.Bool.{Bool, true, false, cond}
 use mathlib.Core.List.{List}
 use lib.Dec.{eqb}
 use lib.ListN.{length, getD}
-use Rattle.limits.specs.Limits.{slot}
 use Rattle.opcode.specs.Kind.{i32, i64, v128, kindByte, bytesUsed}
 use Rattle.machine.specs.Value.{Value}
 use Rattle.rules.specs.Header.{Header, Declares}

@@ -1,10 +1,9 @@
 -- The arguments before the j-th have their form.
-use Prim.Native.Nat.{_+_, _-_, _≤_, _<_}
+use Prim.Native.Nat.{_+_, _-_, _≤_}
 use native.Mathlib.Omega.{arith}
 use lib.ListN.{getD}
 use borrow.Author.Tests.{not-true, not-false}
 use borrow.Author.Needs.{needs}
-use Rattle.run.specs.Inner.Steps.{yes, no}
 use Rattle.limits.specs.Limits.{parameterLimit}
 use Rattle.run.proofs.Upto.{Upto, few, kind-inside, sixteen-each, used-most, asked-yes, asked-no, upto-none, upto-more, upto-all, not-formed}
 use Rattle.run.proofs.arguments.formed.Statement.{statement}

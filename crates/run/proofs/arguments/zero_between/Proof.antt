@@ -1,5 +1,5 @@
 -- All before k are zero.
-use Prim.Native.Nat.{_-_, _≤_, _<_}
+use Prim.Native.Nat.{_-_, _≤_}
 use native.Mathlib.Omega.{arith}
 use borrow.Author.Needs.{needs}
 use Rattle.run.specs.Inner.Steps.{Zeros, yes, no}

@@ -1,25 +1,14 @@
+-- The invariant is one record (`Driving.Drives`), and each need of the loop cites one law of it.
 use Prim.Native.Nat.{_-_}
 use borrow.Author.Needs.{needs}
 use native.Mathlib.Omega.{arith}
-use mathlib.Core.Path.{_≡_, refl, ap, sym, _∙_}
-use Prim.Native.Nat.{ℕ, _≤_, _<_}
-use mathlib.Core.Path.{subst}
-use mathlib.Core.List.{List}
+use mathlib.Core.Path.{ap, _∙_}
 use lib.ListN.{length}
 use Rattle.rules.proofs.Onward.{declared}
 use Rattle.run.proofs.HeaderBytes.{counts-read}
 use Rattle.run.proofs.Driving.{Drives, spent, inside, results-fit, finished, bounds-fits, exec-apt, onward, strayed, args-fit, starts, below, not-clear}
 use Rattle.run.proofs.running.drive.Statement.{statement}
 use Rattle.run.proofs.running.drive.Tie as tie
-use Rattle.run.proofs.running.drive.Reads as reads
-use Rattle.run.proofs.running.drive.Lts as lts
-use Rattle.instr.proofs.decode.Reads as decode-reads
-use Rattle.machine.proofs.bounds.Reads as bounds-reads
-use Rattle.opcode.proofs.group.Reads as group-reads
-use Rattle.opcode.proofs.id_of.Reads as id-of-reads
-use Rattle.run.proofs.arguments.locals_of.Reads as locals-of-reads
-use Rattle.run.proofs.running.exec.Reads as exec-reads
-use Rattle.run.proofs.running.put_results.Reads as put-results-reads
 
 abbrev Inv-loop : tie.InvT-loop
 Inv-loop strip args mem₀ results₀ budget count stack₀ locals₀ at₀ steps₀ mem results stack locals at steps = Drives strip args mem₀ results₀ budget mem results (stack .bytes) (stack .depth) (locals .bytes) at steps
@@ -27,148 +16,115 @@ Inv-loop strip args mem₀ results₀ budget count stack₀ locals₀ at₀ step
 abbrev μ-loop : tie.MeasureT-loop
 μ-loop strip args mem₀ results₀ budget count stack₀ locals₀ at₀ steps₀ mem results stack locals at steps = budget - steps
 
--- src/running.rt:18:17
 shared-slice-read-count : tie.Need-shared-slice-read-count Inv-loop μ-loop
 shared-slice-read-count c = omega (arith, counts-read (declared (c .before .before .before .before .before .pre .valid .reached)))
 
--- src/running.rt:18:17
 cast-count : tie.Need-cast-count Inv-loop μ-loop
 cast-count c = omega (arith, counts-read (declared (c .before .before .before .before .before .pre .valid .reached)))
 
--- src/running.rt:18:37
 shared-slice-read-count-2 : tie.Need-shared-slice-read-count-2 Inv-loop μ-loop
 shared-slice-read-count-2 c = omega (arith, counts-read (declared (c .before .before .before .before .before .before .pre .valid .reached)))
 
--- src/running.rt:18:37
 cast-count-2 : tie.Need-cast-count-2 Inv-loop μ-loop
 cast-count-2 c = omega (arith, counts-read (declared (c .before .before .before .before .before .before .pre .valid .reached)))
 
--- src/running.rt:18:17
 add-count : tie.Need-add-count Inv-loop μ-loop
 add-count c = omega (arith, counts-read (declared (c .before .before .before .before .before .before .pre .valid .reached)))
 
--- src/running.rt:20:22
 locals-of-requires : tie.Need-locals-of-requires Inv-loop μ-loop
 locals-of-requires c κs = args-fit (c .before .before .before .before .before .before .pre)
 
--- src/running.rt:21:18
 add-at : tie.Need-add-at Inv-loop μ-loop
 add-at c = omega (arith, counts-read (declared (c .before .before .before .before .before .before .before .pre .valid .reached)))
 
--- src/running.rt:21:30
 shared-slice-read-at : tie.Need-shared-slice-read-at Inv-loop μ-loop
 shared-slice-read-at c = omega (arith, counts-read (declared (c .before .before .before .before .before .before .before .before .pre .valid .reached)))
 
--- src/running.rt:21:30
 cast-at : tie.Need-cast-at Inv-loop μ-loop
 cast-at c = omega (arith, counts-read (declared (c .before .before .before .before .before .before .before .before .pre .valid .reached)))
 
--- src/running.rt:21:18
 add-at-2 : tie.Need-add-at-2 Inv-loop μ-loop
 add-at-2 c = omega (arith, counts-read (declared (c .before .before .before .before .before .before .before .before .pre .valid .reached)))
 
--- src/running.rt:23:5
 loop-holds : tie.Need-loop-holds Inv-loop μ-loop
 loop-holds c =
     let b = c .before .before .before .before .before .before .before .before in
     starts (b .pre) (b .args .budget) (b .args .mem .now) (λ k. c .before .before .before .before .before .slice-known .given k) (c .before .locals-of .ensures .0)
     (counts-read (declared (b .pre .valid .reached)) .body)
 
--- src/running.rt:25:13
 same-length : tie.Need-same-length Inv-loop μ-loop
 same-length c = c .before .loop .inv .long
 
--- src/running.rt:25:13
 same-length-2 : tie.Need-same-length-2 Inv-loop μ-loop
 same-length-2 c = ap length (c .before .loop .inv .untouched)
 
--- src/running.rt:25:13
 returns : tie.Need-returns Inv-loop μ-loop
 returns c = spent (c .before .loop .inv) (c .if1 .taken)
 
--- src/running.rt:27:13
 decode-requires : tie.Need-decode-requires Inv-loop μ-loop
 decode-requires c κs = tt
 
--- src/running.rt:29:13
 id-of-requires : tie.Need-id-of-requires Inv-loop μ-loop
 id-of-requires c κs = tt
 
--- src/running.rt:30:12
 group-requires : tie.Need-group-requires Inv-loop μ-loop
 group-requires c κs = tt
 
--- src/running.rt:31:13
 put-results-requires : tie.Need-put-results-requires Inv-loop μ-loop
 put-results-requires c κs = results-fit (c .before .before .before .before .before .before .before .before .before .before .loop .inv)
 
--- src/running.rt:32:64
 add-t31 : tie.Need-add-t31 Inv-loop μ-loop
 add-t31 c = omega (arith, c .before .before .before .before .before .before .before .before .before .before .before .before .before .loop .inv .within, c .before .before .before .before .before .before .before .before .before .before .before .before .if1 .left, c .before .before .before .before .before .before .before .before .before .before .before .before .before .before .before .before .before .before .before .before .before .before .fits .budget)
 
--- src/running.rt:32:13
 same-length-3 : tie.Need-same-length-3 Inv-loop μ-loop
 same-length-3 c = c .before .before .before .before .before .before .before .before .before .before .before .before .before .loop .inv .long
 
--- src/running.rt:32:13
 same-length-4 : tie.Need-same-length-4 Inv-loop μ-loop
 same-length-4 c = c .before .before .put-results .kept .1 .0 ∙ ap length (c .before .before .before .before .before .before .before .before .before .before .before .before .before .loop .inv .untouched)
 
--- src/running.rt:32:13
 returns-2 : tie.Need-returns-2 Inv-loop μ-loop
 returns-2 c =
     let a = c .before .before .before .before .before .before .before .before .before .before .before .before .before .loop .inv in let d = c .before .before .before .before .before .before .before .before .before .before .before .decode in let n = c .before .before .before .before .before .before .before .before .before .id-of in let g = c .before .before .before .before .before .before .before .before .group in
     finished a (d .result) (d .ensures) (n .result) (g .result) (n .ensures) (g .ensures) (below (a .within) (c .before .before .before .before .before .before .before .before .before .before .before .before .if1 .left)) (c .before .before .before .before .before .before .before .if2 .taken) (c .before .before .put-results .ensures)
 
--- src/running.rt:35:15
 bounds-requires : tie.Need-bounds-requires Inv-loop μ-loop
 bounds-requires c κs =
     let a = c .before .before .before .before .before .before .before .before .before .loop .inv in let d = c .before .before .before .before .before .before .before .decode in let n = c .before .before .before .before .before .id-of in let g = c .before .before .before .before .group in
     bounds-fits a (d .result) (d .ensures) (n .result) (g .result) (n .ensures) (g .ensures) (below (a .within) (c .before .before .before .before .before .before .before .before .if1 .left)) (c .before .before .before .if2 .left)
 
--- src/running.rt:37:43
 enum-told : tie.Need-enum-told Inv-loop μ-loop
 enum-told c = search needs
 
--- src/running.rt:37:31
 exec-requires : tie.Need-exec-requires Inv-loop μ-loop
 exec-requires c κs =
     let a = c .before .before .before .before .before .before .before .before .before .before .before .before .before .before .before .loop .inv in let d = c .before .before .before .before .before .before .before .before .before .before .before .before .before .decode in let n = c .before .before .before .before .before .before .before .before .before .before .before .id-of in let g = c .before .before .before .before .before .before .before .before .before .before .group in let b = c .before .before .before .before .before .bounds in
     exec-apt a (d .result) (d .ensures) (n .result) (g .result) (n .ensures) (g .ensures) (below (a .within) (c .before .before .before .before .before .before .before .before .before .before .before .before .before .before .if1 .left)) (c .before .before .before .before .before .before .before .before .before .if2 .left) (b .result) (b .ensures) (c .before .before .before .enum-told .given .1)
 
--- src/running.rt:38:17
 add-at-3 : tie.Need-add-at-3 Inv-loop μ-loop
 add-at-3 c =
     let a = c .before .before .before .before .before .before .before .before .before .before .before .before .before .before .before .before .before .before .before .loop .inv in let d = c .before .before .before .before .before .before .before .before .before .before .before .before .before .before .before .before .before .decode in let n = c .before .before .before .before .before .before .before .before .before .before .before .before .before .before .before .id-of in let g = c .before .before .before .before .before .before .before .before .before .before .before .before .before .before .group in
     omega (arith, inside a (d .result) (d .ensures), declared (a .ready .valid .reached) .sized)
 
--- src/running.rt:39:17
 add-steps : tie.Need-add-steps Inv-loop μ-loop
 add-steps c = omega (arith, c .before .before .before .before .before .before .before .before .before .before .before .before .before .before .before .before .before .before .before .loop .inv .within, c .before .before .before .before .before .before .before .before .before .before .before .before .before .before .before .before .before .before .if1 .left, c .before .before .before .before .before .before .before .before .before .before .before .before .before .before .before .before .before .before .before .before .before .before .before .before .before .before .before .before .fits .budget)
 
--- src/running.rt:23:5
 loop-less : tie.Need-loop-less Inv-loop μ-loop
 loop-less c = let more = below (c .before .before .before .before .before .before .before .before .before .before .before .before .before .before .before .before .before .before .before .loop .inv .within) (c .before .before .before .before .before .before .before .before .before .before .before .before .before .before .before .before .before .before .if1 .left) in omega arith
 
--- src/running.rt:23:5
 loop-again : tie.Need-loop-again Inv-loop μ-loop
 loop-again c =
     let a = c .before .before .before .before .before .before .before .before .before .before .before .before .before .before .before .before .before .before .before .loop .inv in let d = c .before .before .before .before .before .before .before .before .before .before .before .before .before .before .before .before .before .decode in let n = c .before .before .before .before .before .before .before .before .before .before .before .before .before .before .before .id-of in let g = c .before .before .before .before .before .before .before .before .before .before .before .before .before .before .group in let b = c .before .before .before .before .before .before .before .before .before .bounds in
     onward a (d .result) (d .ensures) (n .result) (g .result) (n .ensures) (g .ensures) (below (a .within) (c .before .before .before .before .before .before .before .before .before .before .before .before .before .before .before .before .before .before .if1 .left)) (c .before .before .before .before .before .before .before .before .before .before .before .before .before .if2 .left) (b .result) (b .ensures) (c .before .before .before .before .before .before .before .enum-told .given .1) (c .before .before .before .exec .ensures) (c .before .before .before .exec .kept .1 .1 .1 .1 .1 .0)
 
--- src/running.rt:41:32
 enum-told-2 : tie.Need-enum-told-2 Inv-loop μ-loop
 enum-told-2 c = search needs
 
--- src/running.rt:41:32
 same-length-5 : tie.Need-same-length-5 Inv-loop μ-loop
 same-length-5 c = c .before .before .before .before .before .before .before .before .before .before .before .before .loop .inv .long
 
--- src/running.rt:41:32
 same-length-6 : tie.Need-same-length-6 Inv-loop μ-loop
 same-length-6 c = ap length (c .before .before .before .before .before .before .before .before .before .before .before .before .loop .inv .untouched)
 
--- src/running.rt:41:32
 returns-3 : tie.Need-returns-3 Inv-loop μ-loop
 returns-3 c =
     let a = c .before .before .before .before .before .before .before .before .before .before .before .before .loop .inv in let d = c .before .before .before .before .before .before .before .before .before .before .decode in let n = c .before .before .before .before .before .before .before .before .id-of in let g = c .before .before .before .before .before .before .before .group in let b = c .before .before .bounds in
