@@ -42,7 +42,7 @@ answer-requires-2 c κs = search needs
 returns-2 : tie.Need-returns-2
 returns-2 c =
     let w = c .before .before .before .before .before .before .pre in
-    checked (c .answer2 .ensures) (breach (trails w (compared w (c .before .before .before .same .ensures) .same (not-false _ (c .before .before .if1 .left))) (c .before .if2 .taken)))
+    checked (c .answer2 .ensures) (breach (trails w (compared w (c .before .before .before .same .ensures) .same (not-false _ (c .before .before .if1 .left))) (omega (arith, c .before .if2 .taken))))
 
 -- src/body.rt:61:5
 answer-requires-3 : tie.Need-answer-requires-3
@@ -52,7 +52,7 @@ answer-requires-3 c κs = search needs
 returns-3 : tie.Need-returns-3
 returns-3 c =
     let w = c .before .before .before .before .before .before .pre in
-    checked (c .answer3 .ensures) (valid (passes w (compared w (c .before .before .before .same .ensures) .same (not-false _ (c .before .before .if1 .left))) (c .before .if2 .left)))
+    checked (c .answer3 .ensures) (valid (passes w (compared w (c .before .before .before .same .ensures) .same (not-false _ (c .before .before .if1 .left))) (omega (arith, c .before .if2 .left))))
 
 pub ending-spec : {M : Type 1} → statement M
 ending-spec =

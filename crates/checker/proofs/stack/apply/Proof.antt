@@ -41,7 +41,7 @@ same-length-3 c = search needs
 -- src/stack.rt:62:9
 returns-3 : tie.Need-returns-3
 returns-3 c κs ins outs h small is =
-    applies-over small is h (c .before .before .before .before .before .before .pre .0) (c .before .before .before .under .ensures κs ins h (low-bytes small is)) (c .before .if2 .left) (c .if3 .taken)
+    applies-over small is h (c .before .before .before .before .before .before .pre .0) (c .before .before .before .under .ensures κs ins h (low-bytes small is)) (c .before .if2 .left) (omega (arith, c .if3 .taken))
 
 -- src/stack.rt:67:5
 slice-write-kinds : tie.Need-slice-write-kinds
