@@ -5,16 +5,16 @@ use mathlib.Core.List.{List, [], _∷_, _++_, map}
 use mathlib.Core.Logic.{_⊎_, inl, inr}
 use mathlib.Core.Option.{Option, none, some}
 use native.Mathlib.Omega.{arith}
-use lib.Dec.{lit≤, lit<}
+use lib.Dec.{lit≤}
 use lib.ListN.{length, getD, drop, length-append}
-use Rattle.card.specs.Card.{DONE, LOCAL}
+use Rattle.card.specs.Card.{LOCAL}
 use Rattle.opcode.specs.Kind.{Kind, i32, kindByte}
 use Rattle.opcode.specs.Table.{End, Drop, LocalGet, LocalSet, LocalTee, I32Const, I64Const, I32Add, I32Sub, Code, plain, vector, carried}
 use Rattle.opcode.specs.Effect.{Signature, _⇒_, effect}
 use Rattle.opcode.specs.Number.{rowOf, packed, effectOf, groupOfCode, groupOf}
 use Rattle.opcode.proofs.Effects.{kind-range, unpacked, no-signature}
 use Rattle.opcode.proofs.Groups.{by-group}
-use Rattle.rules.specs.Typing.{Local, first, later, Typed, by-signature, dropped, got, set, teed, Types, Names, get-names, set-names, tee-names}
+use Rattle.rules.specs.Typing.{Local, first, later, Typed, by-signature, dropped, got, set, teed, Names, get-names, set-names, tee-names}
 use Rattle.rules.proofs.Lists.{ends-once}
 use Rattle.rules.proofs.Typings.{local-once}
 use Rattle.rules.proofs.Events.{declared-local}

@@ -1,11 +1,10 @@
 -- EXACTLY: the check answers 0 where the strip keeps every rule and nowhere else, and a code and a place where that is its first breach. It
 -- always answers, so a strip that breaks no rule keeps them all.
 use Prim.Native.Nat.{ℕ, _+_, _≤_}
-use mathlib.Core.Path.{_≡_, refl, subst, _∙_}
+use mathlib.Core.Path.{_≡_, refl, subst}
 use mathlib.Core.List.{List}
 use mathlib.Core.Logic.{_↔_}
 use native.Mathlib.Omega.{arith}
-use lib.ListN.{length}
 use Rattle.card.specs.Card.{DONE}
 use Rattle.card.specs.declared.Answer.{Answer}
 use Rattle.limits.specs.Limits.{fileLimit}

@@ -1,6 +1,6 @@
 -- The header, byte by byte.
 use Prim.Native.Nat.{ℕ, suc, _+_, _≤_, _<_}
-use mathlib.Core.Path.{_≡_, refl, sym, ap, ap₂, subst, _∙_}
+use mathlib.Core.Path.{_≡_, refl, sym, ap, subst, _∙_}
 use mathlib.Core.Bool.{Bool, true, false, _||_}
 use mathlib.Core.List.{List, [], _∷_, _++_, map, map-append, append-nil, append-assoc}
 use native.Mathlib.Omega.{arith}
@@ -10,7 +10,6 @@ use lib.ListN.{length, getD, take, drop, length-append, length-drop, take-append
 use lib.Seq.{length-take-le, drop-cons}
 use Rattle.card.specs.Card.{DONE, SHORT, KIND}
 use Rattle.card.specs.declared.Answer.{Answer}
-use Rattle.limits.specs.Limits.{fileLimit}
 use Rattle.opcode.specs.Kind.{Kind, i32, i64, v128, kindByte}
 use Rattle.rules.specs.Header.{Header, Few, Declares, mark, kinds}
 use Rattle.rules.specs.Breach.{front, Sized, Breach, kind, kinds-short}

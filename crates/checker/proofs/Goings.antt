@@ -1,8 +1,8 @@
 -- The instructions, one after the other.
 use Prim.Native.Nat.{ℕ, _+_, _-_, _≤_, _<_}
 use mathlib.Core.Path.{_≡_, refl, sym, ap, subst, _∙_}
-use mathlib.Core.Bool.{Bool, true, false}
-use mathlib.Core.List.{List, [], _∷_, _++_, map, map-append, append-assoc}
+use mathlib.Core.Bool.{Bool}
+use mathlib.Core.List.{List, [], _++_, map, map-append, append-assoc}
 use native.Mathlib.Omega.{arith}
 use lib.ListN.{length, getD, drop, length-append, length-map}
 use lib.Seq.{drop-at, drop-drop}
@@ -20,10 +20,9 @@ use Rattle.instr.specs.Layout.{Allowed, rowIn, Stands}
 use Rattle.instr.specs.Decode.{decodeAt}
 use Rattle.instr.proofs.Stands.{decoded-stands}
 use Rattle.instr.proofs.Ranges.{stands-some, stands-inside, end-first, first-end, end-one}
-use Rattle.rules.specs.Header.{Header, Declares, headerBytes, locals, kinds}
-use Rattle.rules.specs.Typing.{Types}
+use Rattle.rules.specs.Header.{Header, Declares, locals, kinds}
 use Rattle.rules.specs.Strip.{Reads, Reaches, front, past, Valid}
-use Rattle.rules.specs.Breach.{At, Breach, local, operand, deep, result, trailing, Says, valid, breach}
+use Rattle.rules.specs.Breach.{At, Breach, local, operand, deep, result, trailing, Says, breach}
 use Rattle.checker.specs.Check.{Checked}
 use Rattle.checker.specs.Inner.Kinds.{Holds, Compares}
 use Rattle.checker.specs.Inner.Judging.{Judges, no-local, untyped, too-deep, typed}

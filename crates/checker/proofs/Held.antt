@@ -1,12 +1,12 @@
 -- Kinds that are held as bytes. Assumes nothing.
-use Prim.Native.Nat.{ℕ, zero, suc, _+_, _-_, _≤_, _<_}
+use Prim.Native.Nat.{ℕ, suc, _+_, _-_, _≤_, _<_}
 use mathlib.Core.Path.{_≡_, refl, sym, ap, ap₂, subst, _∙_}
 use mathlib.Core.Bool.{true, false}
 use mathlib.Core.Logic.{⊎-elim}
 use native.Mathlib.Nat.{eq-or-lt-of-le}
 use mathlib.Core.List.{List, [], _∷_, _++_, map, map-append, append-assoc}
 use native.Mathlib.Omega.{arith}
-use lib.ListN.{length, getD, set, drop, length-append, length-map, length-set, List·getD-append}
+use lib.ListN.{length, getD, set, drop, length-append, length-map, List·getD-append}
 use lib.Seq.{getD-at, set-at, getD-drop}
 use Rattle.opcode.specs.Kind.{Kind, kindByte}
 use Rattle.opcode.proofs.Effects.{kind-once}

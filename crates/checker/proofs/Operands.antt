@@ -1,5 +1,5 @@
 -- The operands, popped one by one from the top.
-use Prim.Native.Nat.{ℕ, zero, suc, _+_, _-_, _/_, _%_, _≤_, _<_}
+use Prim.Native.Nat.{ℕ, _+_, _-_, _/_, _%_, _≤_, _<_}
 use mathlib.Core.Path.{_≡_, refl, sym, ap, subst, _∙_}
 use mathlib.Core.List.{List, [], _∷_, _++_, map, reverse, reverseAux, reverseAux-eq, reverse-reverse, append-nil, append-assoc}
 use native.Mathlib.Omega.{arith}

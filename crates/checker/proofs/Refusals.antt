@@ -1,10 +1,9 @@
 -- The codes that decoding answers: 0, or one of the card's 2 and 7 to 11.
 use Prim.Native.Nat.{ℕ, zero, suc, _+_, _^_}
-use mathlib.Core.Path.{_≡_, refl, sym, subst, _∙_}
+use mathlib.Core.Path.{_≡_, refl, sym, subst}
 use mathlib.Core.Bool.{Bool, true, false, cond}
 use mathlib.Core.List.{List}
-use native.Mathlib.Omega.{arith}
-use lib.Dec.{ltb, leb, eqb}
+use lib.Dec.{ltb, leb}
 use lib.ListN.{length, getD}
 use Rattle.card.specs.Card.{DONE, SHORT, OPCODE, FLOAT, NUMBER, LANE, ALIGN}
 use Rattle.leb128.specs.Number.{numberAt}

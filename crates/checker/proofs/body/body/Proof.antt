@@ -1,6 +1,6 @@
 -- A turn is one instruction.
 use borrow.Author.Needs.{needs}
-use Prim.Native.Nat.{ℕ, _-_}
+use Prim.Native.Nat.{_-_}
 use mathlib.Core.Path.{refl}
 use native.Mathlib.Omega.{arith}
 use lib.ListN.{length}
@@ -15,74 +15,59 @@ Inv-loop strip start locals results kinds₀ depth₀ at₀ kinds depth at = Goi
 abbrev μ-loop : tie.MeasureT-loop
 μ-loop strip start locals results kinds₀ depth₀ at₀ kinds depth at = length strip - at
 
--- src/body.rt:24:5
 loop-holds : tie.Need-loop-holds Inv-loop μ-loop
 loop-holds c = starts _ refl (c .before .pre)
 
--- src/body.rt:25:13
 decode-requires : tie.Need-decode-requires Inv-loop μ-loop
 decode-requires c κs = search needs
 
--- src/body.rt:27:13
 answer-requires : tie.Need-answer-requires Inv-loop μ-loop
 answer-requires c κs = search needs
 
--- src/body.rt:27:13
 returns : tie.Need-returns Inv-loop μ-loop
 returns c =
     let d = c .before .before .before .decode in
     checked (c .answer .ensures) (breach (refuses (c .before .before .before .before .loop .inv) (d .result) (d .ensures) (c .before .if1 .taken)))
 
--- src/body.rt:31:55
 slice-aggregate-ending : tie.Need-slice-aggregate-ending Inv-loop μ-loop
 slice-aggregate-ending c = search needs
 
--- src/body.rt:31:13
 ending-requires : tie.Need-ending-requires Inv-loop μ-loop
 ending-requires c κs =
     let d = c .before .before .before .before .before .before .decode in let l = c .before .before .before .before .before .before .before .loop in
     at-end (l .inv) (d .result) (d .ensures) (λ j. c .before .before .before .before .before .before .before .before .shared-slice-known .given j .fits) (c .before .before .before .before .if1 .left) (c .before .if2 .taken)
 
--- src/body.rt:31:13
 returns-2 : tie.Need-returns-2 Inv-loop μ-loop
 returns-2 c = c .ending .ensures
 
--- src/body.rt:33:13
 id-of-requires : tie.Need-id-of-requires Inv-loop μ-loop
 id-of-requires c κs = search needs
 
--- src/body.rt:34:59
 slice-aggregate-judge : tie.Need-slice-aggregate-judge Inv-loop μ-loop
 slice-aggregate-judge c = search needs
 
--- src/body.rt:34:13
 judge-requires : tie.Need-judge-requires Inv-loop μ-loop
 judge-requires c κs = let w = c .before .before .before .before .before .before .before .before .loop .inv in (omega (arith, counts-inside (w .counts)), w .most, w .long)
 
--- src/body.rt:36:13
 answer-requires-2 : tie.Need-answer-requires-2 Inv-loop μ-loop
 answer-requires-2 c κs = search needs
 
--- src/body.rt:36:13
 returns-3 : tie.Need-returns-3 Inv-loop μ-loop
 returns-3 c =
     let d = c .before .before .before .before .before .before .before .before .before .before .before .before .decode in let l = c .before .before .before .before .before .before .before .before .before .before .before .before .before .loop in
     checked (c .answer2 .ensures)
     (breach (breaks (l .inv) (d .result) (d .ensures) (λ j. c .before .before .before .before .before .before .before .before .before .before .before .before .before .before .shared-slice-known .given j .fits) (c .before .before .before .before .before .before .before .before .before .before .if1 .left) (c .before .before .before .before .before .before .before .if2 .left) _ (c .before .before .before .before .before .before .id-of .ensures) (c .before .before .before .before .judge .ensures) (c .before .if3 .taken)))
 
--- src/body.rt:39:9
 add-at : tie.Need-add-at Inv-loop μ-loop
 add-at c =
     let d = c .before .before .before .before .before .before .before .before .before .before .before .before .decode in let l = c .before .before .before .before .before .before .before .before .before .before .before .before .before .loop in
     omega (arith, moves (l .inv) (d .result) (d .ensures) (λ j. c .before .before .before .before .before .before .before .before .before .before .before .before .before .before .shared-slice-known .given j .fits) (c .before .before .before .before .before .before .before .before .before .before .if1 .left))
 
--- src/body.rt:24:5
 loop-less : tie.Need-loop-less Inv-loop μ-loop
 loop-less c =
     let d = c .before .before .before .before .before .before .before .before .before .before .before .before .decode in let l = c .before .before .before .before .before .before .before .before .before .before .before .before .before .loop in
     omega (arith, moves (l .inv) (d .result) (d .ensures) (λ j. c .before .before .before .before .before .before .before .before .before .before .before .before .before .before .shared-slice-known .given j .fits) (c .before .before .before .before .before .before .before .before .before .before .if1 .left))
 
--- src/body.rt:24:5
 loop-again : tie.Need-loop-again Inv-loop μ-loop
 loop-again c =
     let d = c .before .before .before .before .before .before .before .before .before .before .before .before .decode in let l = c .before .before .before .before .before .before .before .before .before .before .before .before .before .loop in

@@ -14,10 +14,10 @@ abbrev μ-loop : tie.MeasureT-loop
 μ-loop strip from n kinds depth k₀ k = n - k
 
 returns : tie.Need-returns Inv-loop μ-loop
-returns c κs λs h g = let a = c .before .args in compares-long (a .kinds .now) (a .strip .now) (a .from) h g (c .if1 .taken)
+returns c κs λs h g = let a = c .before .args in compares-long (a .kinds .now) (a .strip .now) (a .from) h g (λ e. omega (arith, c .if1 .taken, e))
 
 loop-holds : tie.Need-loop-holds Inv-loop μ-loop
-loop-holds c = let a = c .before .args in (omega arith, c .if1 .left, agree-none (a .kinds .now) (a .strip .now) (a .from))
+loop-holds c = let a = c .before .args in (omega arith, omega (arith, c .if1 .left), agree-none (a .kinds .now) (a .strip .now) (a .from))
 
 shared-slice-read-if2 : tie.Need-shared-slice-read-if2 Inv-loop μ-loop
 shared-slice-read-if2 c = omega (arith, c .before .before .loop .inv .1)

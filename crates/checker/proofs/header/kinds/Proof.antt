@@ -14,70 +14,55 @@ Inv-loop strip n k₀ k = (k ≤ n) × KindsRead strip k
 abbrev μ-loop : tie.MeasureT-loop
 μ-loop strip n k₀ k = n - k
 
--- src/header.rt:55:5
 loop-holds : tie.Need-loop-holds Inv-loop μ-loop
 loop-holds c = (omega arith, read-none (c .before .args .strip .now))
 
--- src/header.rt:56:27
 add-if1 : tie.Need-add-if1 Inv-loop μ-loop
 add-if1 c = search needs
 
--- src/header.rt:57:13
 answer-requires : tie.Need-answer-requires Inv-loop μ-loop
 answer-requires c κs = search needs
 
--- src/header.rt:57:13
 returns : tie.Need-returns Inv-loop μ-loop
 returns c =
     let a = c .before .before .before .before .before .args in let l = c .before .before .before .loop in
     said (c .answer .ensures) (read-cut (a .strip .now) (l .inv .1) (a .n) (c .before .before .loop-test .taken) (c .before .if1 .taken))
 
--- src/header.rt:59:33
 add-is-kind : tie.Need-add-is-kind Inv-loop μ-loop
 add-is-kind c = search needs
 
--- src/header.rt:59:27
 shared-slice-read-is-kind : tie.Need-shared-slice-read-is-kind Inv-loop μ-loop
 shared-slice-read-is-kind c = search needs
 
--- src/header.rt:59:13
 is-kind-requires : tie.Need-is-kind-requires Inv-loop μ-loop
 is-kind-requires c κs = search needs
 
--- src/header.rt:60:39
 add-answer : tie.Need-add-answer Inv-loop μ-loop
 add-answer c = search needs
 
--- src/header.rt:60:13
 answer-requires-2 : tie.Need-answer-requires-2 Inv-loop μ-loop
 answer-requires-2 c κs = search needs
 
--- src/header.rt:60:13
 returns-2 : tie.Need-returns-2 Inv-loop μ-loop
 returns-2 c =
     let a = c .before .before .before .before .before .before .before .before .args in let l = c .before .before .before .before .before .before .loop in
     said (c .answer2 .ensures)
     (read-other (a .strip .now) (l .inv .1) (a .n) (c .before .before .before .before .before .loop-test .taken) (c .before .before .before .before .if1 .left) (sym (c .before .before .is-kind .ensures) ∙ not-true _ (c .before .if2 .taken)))
 
--- src/header.rt:62:9
 add-k : tie.Need-add-k Inv-loop μ-loop
 add-k c = search needs
 
--- src/header.rt:55:5
 loop-less : tie.Need-loop-less Inv-loop μ-loop
 loop-less c = search needs
 
--- src/header.rt:55:5
 loop-again : tie.Need-loop-again Inv-loop μ-loop
 loop-again c =
     let a = c .before .before .before .before .before .before .before .args in let l = c .before .before .before .before .before .loop in
     (omega arith, read-more (a .strip .now) (l .inv .1) (c .before .before .before .if1 .left) (sym (c .before .is-kind .ensures) ∙ not-false _ (c .if2 .left)))
 
--- src/header.rt:64:5
 answer-requires-3 : tie.Need-answer-requires-3 Inv-loop μ-loop
 answer-requires-3 c κs = search needs
 
--- src/header.rt:50:1
 returns-3 : tie.Need-returns-3 Inv-loop μ-loop
 returns-3 c =
     let a = c .before .before .before .before .args in let l = c .before .before .loop in

@@ -4,58 +4,43 @@ use native.Mathlib.Omega.{arith}
 use Rattle.checker.proofs.Applied.{low-bytes, applies-lacks, applies-none, applies-over, applies-one}
 use Rattle.checker.proofs.stack.apply.Statement.{statement}
 use Rattle.checker.proofs.stack.apply.Tie as tie
-use Rattle.checker.proofs.stack.apply.Reads as reads
-use Rattle.checker.proofs.stack.apply.Lts as lts
-use Rattle.checker.proofs.stack.under.Reads as under-reads
 
--- src/stack.rt:47:9
 under-requires : tie.Need-under-requires
 under-requires c κs = search needs
 
--- src/stack.rt:49:9
 same-length : tie.Need-same-length
 same-length c = search needs
 
--- src/stack.rt:49:9
 returns : tie.Need-returns
 returns c κs ins outs h small is =
     applies-lacks small is h (c .before .before .before .before .pre .0) (c .before .under .ensures κs ins h (low-bytes small is)) (c .if1 .taken)
 
--- src/stack.rt:54:18
 cast-result : tie.Need-cast-result
 cast-result c = search needs
 
--- src/stack.rt:56:9
 same-length-2 : tie.Need-same-length-2
 same-length-2 c = search needs
 
--- src/stack.rt:56:9
 returns-2 : tie.Need-returns-2
 returns-2 c κs ins outs h small is =
     applies-none small is h (c .before .before .before .before .before .pre .0) (c .before .before .under .ensures κs ins h (low-bytes small is)) (c .before .if1 .left) (c .if2 .taken)
 
--- src/stack.rt:62:9
 same-length-3 : tie.Need-same-length-3
 same-length-3 c = search needs
 
--- src/stack.rt:62:9
 returns-3 : tie.Need-returns-3
 returns-3 c κs ins outs h small is =
-    applies-over small is h (c .before .before .before .before .before .before .pre .0) (c .before .before .before .under .ensures κs ins h (low-bytes small is)) (c .before .if2 .left) (c .if3 .taken)
+    applies-over small is h (c .before .before .before .before .before .before .pre .0) (c .before .before .before .under .ensures κs ins h (low-bytes small is)) (c .before .if2 .left) (omega (arith, c .if3 .taken))
 
--- src/stack.rt:67:5
 slice-write-kinds : tie.Need-slice-write-kinds
 slice-write-kinds c = search needs
 
--- src/stack.rt:70:16
 add-t11 : tie.Need-add-t11
 add-t11 c = search needs
 
--- src/stack.rt:43:1
 same-length-4 : tie.Need-same-length-4
 same-length-4 c = search needs
 
--- src/stack.rt:43:1
 returns-4 : tie.Need-returns-4
 returns-4 c κs ins outs h small is =
     let start = c .before .before .before .before .before .before in

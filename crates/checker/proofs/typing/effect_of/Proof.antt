@@ -7,97 +7,74 @@ use Rattle.opcode.specs.Number.{groupOf}
 use Rattle.checker.proofs.Effects.{effected-signature, effected-none, effected-drop, names-local, at-group, effected-undeclared, effected-get, effected-set, effected-tee}
 use Rattle.checker.proofs.typing.effect_of.Statement.{statement}
 use Rattle.checker.proofs.typing.effect_of.Tie as tie
-use Rattle.checker.proofs.typing.effect_of.Reads as reads
-use Rattle.checker.proofs.typing.effect_of.Lts as lts
-use Rattle.opcode.proofs.effect.Reads as effect-reads
-use Rattle.opcode.proofs.group.Reads as group-reads
 
--- src/typing.rt:22:9
 effect-requires : tie.Need-effect-requires
 effect-requires c κs = search needs
 
--- src/typing.rt:24:9
 returns : tie.Need-returns
 returns c v ls κs row other h g = effected-signature ls (c .before .before .before .before .args .index) v κs (c .before .before .before .before .args .id) _ (c .before .effect .ensures) row (c .if1 .taken)
 
--- src/typing.rt:26:9
 group-requires : tie.Need-group-requires
 group-requires c κs = search needs
 
--- src/typing.rt:30:20
 cast-result : tie.Need-cast-result
 cast-result c = search needs
 
--- src/typing.rt:30:13
 returns-2 : tie.Need-returns-2
 returns-2 c v ls κs row other h g =
     let a = c .before .before .before .before .before .before .before .args in
     effected-none ls (a .index) κs _ g v (a .id) _ row (c .before .before .group .ensures) (c .before .if2 .taken) (c .if3 .taken) refl
 
--- src/typing.rt:32:22
 sub-result : tie.Need-sub-result
 sub-result c = search needs
 
--- src/typing.rt:32:16
 shared-slice-read-result : tie.Need-shared-slice-read-result
 shared-slice-read-result c = search needs
 
--- src/typing.rt:32:16
 cast-result-2 : tie.Need-cast-result-2
 cast-result-2 c = let a = c .before .before .before .before .before .before .before .before .args in omega (arith, c .shared-slice-known3 .given (a .depth - 1))
 
--- src/typing.rt:32:9
 returns-3 : tie.Need-returns-3
 returns-3 c v ls κs row other h g =
     let a = c .before .before .before .before .before .before .before .before .args in
     effected-drop ls (a .index) κs _ g v (a .id) _ row (c .before .before .before .group .ensures) (c .before .before .if2 .taken) (c .before .if3 .left) refl
 
--- src/typing.rt:36:9
 returns-4 : tie.Need-returns-4
 returns-4 c v ls κs row other h g =
     let a = c .before .before .before .before .before .before .before .args in
     let names = names-local v (a .id) _ _ row other (c .before .before .before .before .effect .ensures) (c .before .before .before .if1 .left) (c .before .before .group .ensures) (c .before .if2 .left) in
     effected-undeclared ls (a .index) κs _ (a .strip .now) h v names (c .if4 .taken) refl
 
--- src/typing.rt:38:19
 add-k : tie.Need-add-k
 add-k c = search needs
 
--- src/typing.rt:38:13
 shared-slice-read-k : tie.Need-shared-slice-read-k
 shared-slice-read-k c = search needs
 
--- src/typing.rt:38:13
 cast-k : tie.Need-cast-k
 cast-k c = let a = c .before .before .before .before .before .before .before .before .args in omega (arith, c .shared-slice-known4 .given (8 + a .index))
 
--- src/typing.rt:40:36
 mul-result : tie.Need-mul-result
 mul-result c = let a = c .before .before .before .before .before .before .before .before .before .args in omega (arith, c .before .shared-slice-known4 .given (8 + a .index))
 
--- src/typing.rt:42:14
 mul-result-2 : tie.Need-mul-result-2
 mul-result-2 c = let a = c .before .before .before .before .before .before .before .before .before .args in omega (arith, c .before .shared-slice-known4 .given (8 + a .index))
 
--- src/typing.rt:42:14
 add-result : tie.Need-add-result
 add-result c = let a = c .before .before .before .before .before .before .before .before .before .args in omega (arith, c .before .shared-slice-known4 .given (8 + a .index))
 
--- src/typing.rt:18:1
 returns-5 : tie.Need-returns-5
 returns-5 c v ls κs row other h g =
     let a = c .before .before .before .before .before .before .before .before .before .args in
     let names = names-local v (a .id) _ _ row other (c .before .before .before .before .before .before .effect .ensures) (c .before .before .before .before .before .if1 .left) (c .before .before .before .before .group .ensures) (c .before .before .before .if2 .left) in
     effected-get ls (a .index) κs _ (a .strip .now) h v names (c .before .before .if4 .left) _ refl (at-group v (a .id) row (c .before .before .before .before .group .ensures) (c .match .keys1)) refl
 
--- src/typing.rt:18:1
 returns-6 : tie.Need-returns-6
 returns-6 c v ls κs row other h g =
     let a = c .before .before .before .before .before .before .before .before .before .args in
     let names = names-local v (a .id) _ _ row other (c .before .before .before .before .before .before .effect .ensures) (c .before .before .before .before .before .if1 .left) (c .before .before .before .before .group .ensures) (c .before .before .before .if2 .left) in
     effected-set ls (a .index) κs _ (a .strip .now) h v names (c .before .before .if4 .left) _ refl (at-group v (a .id) row (c .before .before .before .before .group .ensures) (c .match .keys2)) refl
 
--- src/typing.rt:18:1
 returns-7 : tie.Need-returns-7
 returns-7 c v ls κs row other h g =
     let a = c .before .before .before .before .before .before .before .before .before .args in

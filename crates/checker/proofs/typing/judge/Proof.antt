@@ -3,32 +3,22 @@ use borrow.Author.Needs.{needs}
 use Rattle.checker.proofs.Effects.{judges-local, judges-applies}
 use Rattle.checker.proofs.typing.judge.Statement.{statement}
 use Rattle.checker.proofs.typing.judge.Tie as tie
-use Rattle.checker.proofs.typing.judge.Reads as reads
-use Rattle.checker.proofs.typing.judge.Lts as lts
-use Rattle.checker.proofs.stack.apply.Reads as apply-reads
-use Rattle.checker.proofs.typing.effect_of.Reads as effect-of-reads
 
--- src/typing.rt:57:9
 effect-of-requires : tie.Need-effect-of-requires
 effect-of-requires c κs = search needs
 
--- src/typing.rt:59:9
 same-length : tie.Need-same-length
 same-length c = search needs
 
--- src/typing.rt:59:9
 returns : tie.Need-returns
 returns c v ls κs row other h g = judges-local (c .before .effect-of .ensures v ls κs row other h g) (c .if1 .taken)
 
--- src/typing.rt:64:5
 apply-requires : tie.Need-apply-requires
 apply-requires c κs = search needs
 
--- src/typing.rt:46:1
 same-length-2 : tie.Need-same-length-2
 same-length-2 c = search needs
 
--- src/typing.rt:46:1
 returns-2 : tie.Need-returns-2
 returns-2 c v ls κs row other h g =
     judges-applies (c .before .before .before .before .before .effect-of .ensures v ls κs row other h g) (c .before .before .before .before .if1 .left) (λ ins outs small is. c .before .before .apply .ensures κs ins outs g small is)
