@@ -1,6 +1,5 @@
 // The instructions, one after the other, from a start on, with the kinds of locals and results in the strip's bytes from 8 on.
 ghost use Prim.Native.Nat.{_+_, _≤_};
-ghost use mathlib.Core.Path.{_≡_};
 ghost use mathlib.Core.List.{List};
 ghost use lib.ListN.{length, drop};
 ghost use Rattle.opcode.specs.Kind.{Kind};

@@ -2,10 +2,11 @@
 ghost use Prim.Native.Nat.{_≤_};
 ghost use mathlib.Core.Path.{_≡_};
 ghost use lib.ListN.{length};
+ghost use Rattle.checker.specs.Inner.Kinds.{isKind};
 ghost use Rattle.checker.specs.Inner.Parts.{Headed, KindsSay};
 use crate::answer;
-use crate::kind;
 use card::Answer;
+use opcode::kind;
 
 pub(crate) fn header(strip: &[u8]) -> Answer
     ensures { λ r. ⌜ Headed (now (strip .entry)) r ⌝ }
@@ -56,10 +57,22 @@ fn kinds(strip: &[u8], n: usize) -> Answer
         if strip.len() <= 8 + k {
             return answer(card::SHORT, strip.len());
         }
-        if !kind::is_kind(strip[8 + k]) {
+        if !is_kind(strip[8 + k]) {
             return answer(card::KIND, 8 + k);
         }
         k += 1;
     }
     answer(card::DONE, 0)
+}
+
+fn is_kind(b: u8) -> bool
+    ensures { λ r. ⌜ r ≡ isKind b ⌝ }
+{
+    if b == kind::I32 {
+        return true;
+    }
+    if b == kind::I64 {
+        return true;
+    }
+    b == kind::V128
 }

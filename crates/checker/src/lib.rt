@@ -1,7 +1,6 @@
 // The check of a whole strip: its header, then its instructions one after the other.
 mod body;
 mod header;
-mod kind;
 mod stack;
 mod typing;
 

@@ -9,9 +9,9 @@ ghost use Rattle.opcode.specs.Table.{End, Code, plain, carried};
 ghost use Rattle.opcode.specs.Number.{rowOf};
 ghost use Rattle.checker.specs.Inner.Kinds.{Holds};
 ghost use Rattle.checker.specs.Inner.Judging.{Effected, Judges};
-use crate::kind;
 use crate::stack;
 use crate::stack::Judged;
+use opcode::kind;
 
 // What the instruction takes and leaves, in a number as opcode::effect has it: by its signature, or by the kind of the value or of the
 // local. 0 where the local is not declared.

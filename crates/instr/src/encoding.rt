@@ -6,7 +6,7 @@ use leb128::Wrote;
 ghost use mathlib.Core.Path.{_≡_};
 ghost use Prim.Native.Nat.{_+_, _<_, _≤_};
 ghost use mathlib.Core.Bool.{true, false};
-ghost use mathlib.Core.List.{[], _∷_, _++_};
+ghost use mathlib.Core.List.{[], _∷_};
 ghost use lib.ListN.{length};
 ghost use Rattle.leb128.specs.Shortest.{bytesOf};
 ghost use Rattle.opcode.specs.Number.{classOf, rowOf};

@@ -17,7 +17,7 @@ use Rattle.opcode.specs.Table.{Plain, End, Drop, LocalGet, LocalSet, LocalTee, 
 use Rattle.opcode.specs.Immediate.{moved}
 use Rattle.instr.specs.declared.Instr.{Instr}
 use Rattle.machine.specs.Value.{Value, I32, I64}
-use Rattle.machine.specs.Exec.{State, Outcome, goes, done, trap, stuck, push, pushScalar, goOn, access, fits, popI32, popV128, execPlain, execVector, exec}
+use Rattle.machine.specs.Exec.{State, Outcome, goes, done, trap, stuck, pushScalar, goOn, access, fits, popI32, popV128, execPlain, execVector, exec}
 use Rattle.machine.specs.Inner.Flat.{slotAt, topOf, low32, reach}
 use Rattle.machine.specs.Inner.Fit.{takenByPlain, takenByOp, takenBy, Slotted, boundsAt, boundsOp, boundsOf}
 use Rattle.machine.specs.declared.access.Bounds.{Bounds}

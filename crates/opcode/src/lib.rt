@@ -1,5 +1,6 @@
 // What the code asks of an instruction. An instruction goes from function to function as one number, its id: the first byte, or 256
 // and FD's number.
+pub mod kind;
 mod table;
 
 ghost use mathlib.Core.Path.{_≡_};

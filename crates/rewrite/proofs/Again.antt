@@ -15,7 +15,7 @@ use Rattle.instr.proofs.Places as Places
 use Rattle.instr.proofs.Ranges.{end-first, end-one}
 use Rattle.rules.specs.Header.{Header, Declares, headerBytes}
 use Rattle.rules.specs.Strip.{Reaches, front, past, Valid}
-use Rattle.rules.proofs.Onward.{Onward, here, next, from-front, declared}
+use Rattle.rules.proofs.Onward.{Onward, here, next, from-front}
 use Rattle.rewrite.specs.Rewrite.{Instructions, no-more, one-more, Holds, encodings, shortest}
 use Rattle.rewrite.proofs.Strips.{between, instrs, valid-holds}
 

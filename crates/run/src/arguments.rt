@@ -31,8 +31,8 @@ fn used(kind: u8) -> usize
     ensures { λ r. ⌜ r ≡ usedBy kind ⌝ }
 {
     match kind {
-        0x7F => 4,
-        0x7E => 8,
+        opcode::kind::I32 => 4,
+        opcode::kind::I64 => 8,
         _ => 16,
     }
 }

@@ -1,7 +1,7 @@
 -- One of the three bytes.
 use borrow.Author.Tests.{eq-eqb, ne-eqb}
-use Rattle.checker.proofs.kind.is_kind.Statement.{statement}
-use Rattle.checker.proofs.kind.is_kind.Tie as tie
+use Rattle.checker.proofs.header.is_kind.Statement.{statement}
+use Rattle.checker.proofs.header.is_kind.Tie as tie
 
 returns : tie.Need-returns
 returns c = simp (eq-eqb _ _ (c .if1 .taken))
