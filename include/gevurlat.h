@@ -1,9 +1,11 @@
 /*
  * Gevurlat: the check and the run of a strip, for firmware in C99 or C++.
+ * Link with libdoors.a; docs/FIRMWARE.md says how it is built.
  *
- * Link with libdoors.a (docs/FIRMWARE.md says how it is built). Both functions
- * always return, whatever bytes come in. Neither allocates, neither keeps
- * anything between two calls: the archive has no variable of its own.
+ * Both functions return, whatever bytes come in. They call memcpy and memset
+ * and nothing else, allocate nothing and keep nothing between two calls. As
+ * built for x86-64 the check takes 392 bytes of stack and the run 2,856,
+ * beside what memcpy and memset take.
  *
  * What the caller owes, since nothing proves a C caller:
  *  - each pointer leads to as many bytes as the length beside it says;
