@@ -1,0 +1,118 @@
+/*
+ * Gevurlat: the check and the run of a strip, for firmware in C99 or C++.
+ * Link with libdoors.a; docs/FIRMWARE.md says how it is built.
+ *
+ * Both functions return, whatever bytes come in. They call memcpy and memset
+ * and nothing else, allocate nothing and keep nothing between two calls. As
+ * built for x86-64 the check takes 392 bytes of stack and the run 2,856,
+ * beside what memcpy and memset take.
+ *
+ * What the caller owes, since nothing proves a C caller:
+ *  - each pointer leads to as many bytes as the length beside it says;
+ *  - every byte that is lent has been written before the call;
+ *  - memory and results overlap neither each other nor strip or args;
+ *  - nobody else writes what is lent before the call returns.
+ * Where a length is 0 nothing is read or written behind its pointer, and the
+ * pointer may be NULL.
+ */
+#ifndef GEVURLAT_H
+#define GEVURLAT_H
+
+#include <stddef.h>
+#include <stdint.h>
+
+#ifdef __cplusplus
+extern "C" {
+#endif
+
+/* Limits. A longer strip is LONG, a larger memory is ROOM. */
+#define GEVURLAT_STRIP_MOST 65536      /* bytes of a strip */
+#define GEVURLAT_MEMORY_MOST 65536     /* bytes of the lent memory */
+#define GEVURLAT_PARAMETERS_MOST 16    /* values that a strip takes */
+#define GEVURLAT_RESULTS_MOST 4        /* values that a strip gives */
+#define GEVURLAT_VALUE_BYTES 16        /* bytes of a value in args and results */
+
+/* The codes of the inspector's card, and the place that goes with each. */
+enum {
+    GEVURLAT_DONE = 0,      /* all is well; 0 */
+    /* The strip is turned away: the check and the run answer these. */
+    GEVURLAT_LONG = 1,      /* over 65,536 bytes; 0 */
+    GEVURLAT_SHORT = 2,     /* stops before the item being read is whole; the strip's length */
+    GEVURLAT_MARK = 3,      /* does not begin with "WGP"; 0 */
+    GEVURLAT_VERSION = 4,   /* the version is not 1; 3 */
+    GEVURLAT_COUNT = 5,     /* too many parameters, further locals or results; 5, 6 or 7 */
+    GEVURLAT_KIND = 6,      /* a byte that is no kind; that byte */
+    GEVURLAT_OPCODE = 7,    /* no such instruction here; the instruction */
+    GEVURLAT_FLOAT = 8,     /* a float instruction, which is not carried; the instruction */
+    GEVURLAT_NUMBER = 9,    /* a LEB128 number too long or with bad last bits; its first byte */
+    GEVURLAT_LANE = 10,     /* a lane index too large; that byte */
+    GEVURLAT_ALIGN = 11,    /* an alignment exponent too large; its first byte */
+    GEVURLAT_LOCAL = 12,    /* a local that is not declared; the instruction */
+    GEVURLAT_OPERAND = 13,  /* an operand missing or of another kind; the instruction */
+    GEVURLAT_DEEP = 14,     /* more than 64 values on the stack; the instruction */
+    GEVURLAT_RESULT = 15,   /* the stack at `end` is not the results; `end` */
+    GEVURLAT_TRAILING = 16, /* bytes after `end`; the first of them */
+    /* The strip is good, what is lent is not: only the run answers these. */
+    GEVURLAT_ROOM = 20,     /* the memory is over 65,536 bytes; 0 */
+    GEVURLAT_ARGS = 21,     /* args_len is not 16 for each parameter; 0 */
+    GEVURLAT_OUT = 22,      /* results_len is not 16 for each result; 0 */
+    GEVURLAT_FORM = 23,     /* an argument's unused bytes are not zero; 0 */
+    GEVURLAT_SMALL = 24,    /* the rewriter's output is too short; neither door answers it */
+    /* The run began and did not reach `end`. */
+    GEVURLAT_TRAP = 30,     /* an access past the memory's end; the instruction */
+    GEVURLAT_BUDGET = 31    /* as many steps as the budget; the next instruction */
+};
+
+/*
+ * The answer of both doors is one number: code in bits 0-7, place in bits 8-31,
+ * steps in bits 32-63. A place is a byte offset in the strip; steps are the
+ * instructions completed, `end` included.
+ */
+static inline uint8_t gevurlat_code(uint64_t answer)
+{
+    return (uint8_t)(answer & 0xFF);
+}
+
+static inline uint32_t gevurlat_place(uint64_t answer)
+{
+    return (uint32_t)(answer >> 8 & 0xFFFFFF);
+}
+
+static inline uint32_t gevurlat_steps(uint64_t answer)
+{
+    return (uint32_t)(answer >> 32);
+}
+
+/*
+ * The check: DONE where the strip keeps every rule, else its first breach, 1 to
+ * 16, and where it is. Steps are 0. Nothing is written.
+ */
+uint64_t gevurlat_check(const uint8_t *strip, size_t strip_len);
+
+/*
+ * The run. It asks what the check asks, then 20 to 23, then runs the strip.
+ *
+ *  strip    the strip file
+ *  args     16 bytes for each parameter, first parameter first: an i32 in the
+ *           first 4 bytes, an i64 in the first 8, least byte first, the rest
+ *           zero; a v128 in all 16, byte 0 first
+ *  memory   what the strip loads from and stores to, 0 to 65,536 bytes
+ *  results  16 bytes for each result, in the same form
+ *  budget   how many instructions may be completed
+ *
+ * What is written:
+ *  DONE          memory, by the strip's stores, and all bytes of results
+ *  TRAP, BUDGET  memory, by the stores of the completed steps; not results
+ *  any other     nothing, and steps are 0
+ */
+uint64_t gevurlat_run(const uint8_t *strip, size_t strip_len,
+                      const uint8_t *args, size_t args_len,
+                      uint8_t *memory, size_t memory_len,
+                      uint8_t *results, size_t results_len,
+                      uint32_t budget);
+
+#ifdef __cplusplus
+}
+#endif
+
+#endif
