@@ -1,5 +1,6 @@
-// Strips checked, run and rewritten, as the lines of data/cases.txt say. Prints for each its name and the answer, of a run the results and what has changed
-// in the memory, of a rewriting the output. stdout was worked out from document 01 before this was run.
+// Strips checked, run and rewritten, as the lines of data/cases.txt say. One line each: the name, of a run its budget, then code, place and steps (of a rewriting
+// the length); behind them the results and each part of the memory that has changed, or the output. stdout was worked out from document 01 by a check, a run
+// and a rewriter written for that in another language, with no use of this code, before this was first run.
 mod text;
 
 use libc::STDOUT_FILENO;

@@ -1,8 +1,9 @@
 -- Every weight of the list holds: the operations and the readings compute to what 01 says.
 use Prim.Native.Nat.{ℕ, zero, suc}
-use mathlib.Core.Path.{_≡_, refl}
+use mathlib.Core.Path.{_≡_, refl, sym, _∙_}
 use mathlib.Core.Bool.{Bool, true, false, _&&_}
 use mathlib.Core.List.{List, [], _∷_}
+use mathlib.Core.Logic.{_↔_}
 use lib.Dec.{T, ltb, ltb→lt, lit<}
 use Rattle.lane.specs.Vector.{lane, build}
 use Rattle.lane.specs.Scalar.{clamp, sat, iaddsat, inarrow, iq15mulrsat, idot}
@@ -26,9 +27,9 @@ are-bytes [] h i = lit< tt
 are-bytes (b ∷ bs) h zero = ltb→lt b 256 (both (ltb b 256) (small bs) h .0)
 are-bytes (b ∷ bs) h (suc i) = are-bytes bs (both (ltb b 256) (small bs) h .1) i
 
--- what the reader computes from bytes is what the contract says of them
-read : (sign : Bool) (N : ℕ) (s : List ℕ) → T (small s) → (r : Leb) → r ≡ numberAt sign N s 0 → ReadsNumber sign N s 0 r
-read sign N s h r e = reads-number sign N s 0 (are-bytes s h) r e
+-- what the reader computes from bytes meets its contract, and nothing else does
+read : (sign : Bool) (N : ℕ) (s : List ℕ) → T (small s) → (said : Leb) → numberAt sign N s 0 ≡ said → (r : Leb) → ReadsNumber sign N s 0 r ↔ (r ≡ said)
+read sign N s h said e r = ((λ m. m .answer ∙ e), (λ f. reads-number sign N s 0 (are-bytes s h) r (f ∙ sym e)))
 
 pub all-hold : All Holds weights
 unfolding lane build clamp sat iaddsat inarrow iq15mulrsat idot numberAt intOf lastOf before

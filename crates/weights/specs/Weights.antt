@@ -2,6 +2,7 @@
 use Prim.Native.Nat.{ℕ}
 use mathlib.Core.Path.{_≡_}
 use mathlib.Core.Bool.{Bool, true, false}
+use mathlib.Core.Logic.{_↔_}
 use mathlib.Core.List.{List, [], _∷_}
 use lib.IntN.{ℤ, pos, negℤ}
 use mir.Syntax.{Width}
@@ -20,10 +21,10 @@ pub data Weight : Type 0 where
   -- a number of N bits (true: signed) read from the first of these bytes on, and what is answered
   reading : Bool → ℕ → List ℕ → Leb → Weight
 
--- lane's functions answer `binary`, and leb128's what `ReadsNumber` says
+-- by lane's contracts `binary op a b` is what a function answers; by leb128's an answer meets `ReadsNumber`
 abbrev pub Holds : Weight → Type 0
-Holds (lanes op a b r) = binary op a b ≡ r
-Holds (reading sign N bytes r) = ReadsNumber sign N bytes 0 r
+Holds (lanes op a b said) = binary op a b ≡ said
+Holds (reading sign N bytes said) = (r : Leb) → ReadsNumber sign N bytes 0 r ↔ (r ≡ said)
 
 -- of every weight of a list
 infixr 5 _and_
