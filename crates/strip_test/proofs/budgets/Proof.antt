@@ -12,4 +12,7 @@ abbrev μ-loop : tie.MeasureT-loop
 μ-loop line last k₀ k = last + 1 - k
 
 pub budgets-spec : {M : Type 1} → statement M
-budgets-spec = tie.close (tie.spec Inv-loop μ-loop (λ c κs. search needs) (λ c. omega arith) (λ c. omega arith) (λ c κs. search needs) (λ c. omega arith) (λ c. omega arith) (λ c. omega arith) (λ c. search needs))
+budgets-spec =
+    tie.close
+    (tie.spec Inv-loop μ-loop (λ c κs. search needs) (λ c. omega arith) (λ c. omega arith) (λ c κs. search needs) (λ c. omega arith) (λ c. omega arith)
+    (λ c. omega arith) (λ c. search needs))

@@ -13,4 +13,7 @@ abbrev μ-loop : tie.MeasureT-loop
 μ-loop s at₀ at = length s - at
 
 pub cases-spec : {M : Type 1} → statement M
-cases-spec = tie.close (tie.spec Inv-loop μ-loop (λ c. tt) (λ c κs. omega arith) (λ c. search needs) (λ c. omega arith) (λ c. omega arith) (λ c κs. search needs) (λ c. omega arith) (λ c. omega arith) (λ c. tt) (λ c. search needs))
+cases-spec =
+    tie.close
+    (tie.spec Inv-loop μ-loop (λ c. tt) (λ c κs. omega arith) (λ c. search needs) (λ c. omega arith) (λ c. omega arith) (λ c κs. search needs)
+    (λ c. omega arith) (λ c. omega arith) (λ c. tt) (λ c. search needs))

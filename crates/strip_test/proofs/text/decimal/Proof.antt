@@ -13,4 +13,7 @@ abbrev μ-loop : tie.MeasureT-loop
 μ-loop s value₀ i₀ value i = length s - i
 
 pub decimal-spec : {M : Type 1} → statement M
-decimal-spec = tie.close (tie.spec Inv-loop μ-loop (λ c. omega arith) (λ c. omega arith) (λ c. search needs) (λ c κs. search needs) (λ c. omega arith) (λ c. omega arith) (λ c κs. search needs) (λ c. omega arith) (λ c. omega arith) (λ c. omega arith) (λ c. omega arith))
+decimal-spec =
+    tie.close
+    (tie.spec Inv-loop μ-loop (λ c. omega arith) (λ c. omega arith) (λ c. search needs) (λ c κs. search needs) (λ c. omega arith) (λ c. omega arith)
+    (λ c κs. search needs) (λ c. omega arith) (λ c. omega arith) (λ c. omega arith) (λ c. omega arith))

@@ -13,4 +13,7 @@ abbrev μ-loop : tie.MeasureT-loop
 μ-loop s at c i₀ i = length s - i
 
 pub find-spec : {M : Type 1} → statement M
-find-spec = tie.close (tie.spec Inv-loop μ-loop (λ c. (omega arith, omega arith)) (λ c. search needs) (λ c. (omega arith, omega arith)) (λ c. search needs) (λ c. omega arith) (λ c. (omega arith, omega arith)) (λ c. (omega arith, omega arith)))
+find-spec =
+    tie.close
+    (tie.spec Inv-loop μ-loop (λ c. (omega arith, omega arith)) (λ c. search needs) (λ c. (omega arith, omega arith)) (λ c. search needs)
+    (λ c. omega arith) (λ c. (omega arith, omega arith)) (λ c. (omega arith, omega arith)))

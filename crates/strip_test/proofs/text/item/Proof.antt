@@ -14,4 +14,8 @@ abbrev μ-loop : tie.MeasureT-loop
 μ-loop s out₀ n x times from to₀ i₀ out to i = times - i
 
 pub item-spec : {M : Type 1} → statement M
-item-spec = tie.close (tie.spec Inv-loop μ-loop (λ c κs. omega arith) (λ c κs. omega arith) (λ c. omega arith) (λ c. omega arith) (λ c. search needs) (λ c. omega arith) (λ c. omega arith) (λ c κs. search needs) (λ c. omega arith) (λ c. (omega arith, omega arith)) (λ c. search needs) (λ c. omega arith) (λ c. omega arith) (λ c κs. omega arith) (λ c. omega arith) (λ c. omega arith) (λ c. (omega arith, omega arith)) (λ c. omega arith) (λ c. omega arith))
+item-spec =
+    tie.close
+    (tie.spec Inv-loop μ-loop (λ c κs. omega arith) (λ c κs. omega arith) (λ c. omega arith) (λ c. omega arith) (λ c. search needs) (λ c. omega arith)
+    (λ c. omega arith) (λ c κs. search needs) (λ c. omega arith) (λ c. (omega arith, omega arith)) (λ c. search needs) (λ c. omega arith)
+    (λ c. omega arith) (λ c κs. omega arith) (λ c. omega arith) (λ c. omega arith) (λ c. (omega arith, omega arith)) (λ c. omega arith) (λ c. omega arith))

@@ -15,4 +15,7 @@ abbrev μ-loop : tie.MeasureT-loop
 μ-loop s out₀ n₀ at₀ out n at = length s - at
 
 pub items-spec : {M : Type 1} → statement M
-items-spec = tie.close (tie.spec Inv-loop μ-loop (λ c. (omega arith, omega arith)) (λ c κs. omega arith) (λ c. search needs) (λ c. omega arith) (λ c. omega arith) (λ c κs. omega arith) (λ c. omega arith) (λ c. omega arith) (λ c. (omega arith, omega arith)) (λ c. omega arith) (λ c. counts _ _ (omega arith)))
+items-spec =
+    tie.close
+    (tie.spec Inv-loop μ-loop (λ c. (omega arith, omega arith)) (λ c κs. omega arith) (λ c. search needs) (λ c. omega arith) (λ c. omega arith)
+    (λ c κs. omega arith) (λ c. omega arith) (λ c. omega arith) (λ c. (omega arith, omega arith)) (λ c. omega arith) (λ c. counts _ _ (omega arith)))
