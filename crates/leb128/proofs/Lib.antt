@@ -5,7 +5,6 @@ pub mod Puts
 pub mod Unique
 pub mod Bounds
 pub mod LastBytes
-pub mod Weights
 -- What these lean on.
 pub mod Arith
 pub mod Grammars

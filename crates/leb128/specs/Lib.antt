@@ -6,6 +6,5 @@ pub mod Shortest
 pub mod Promise
 pub mod Found
 pub mod LastByte
-pub mod Weights
 pub mod Bytes
 pub mod Inner

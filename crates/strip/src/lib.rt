@@ -1,4 +1,5 @@
 // Strips: the check, the run, the rewriter.
 pub use checker::check;
+pub use rewrite::Rewritten;
 pub use rewrite::rewrite;
 pub use run::run;

@@ -1,0 +1,193 @@
+// Strips checked, run and rewritten, as the lines of data/cases.txt say. One line each: the name, of a run its budget, then code, place and steps (of a rewriting
+// the length); behind them the results and each part of the memory that has changed, or the output. stdout was worked out from document 01 and Core's table of opcodes by a check,
+// a run and a rewriter written for that in another language, with no use of this code, before this was first run.
+mod text;
+
+use libc::STDOUT_FILENO;
+use text::bytes_in;
+use text::field;
+use text::find;
+use text::length_in;
+use text::number_in;
+
+// One byte more than a strip or a memory may have.
+const ROOM: usize = 65537;
+
+fn main() {
+    let path = b"cases.txt";
+    let fd = os::open_read(path);
+    if fd < 0 {
+        os::fail(path);
+        return;
+    }
+    let mut text = [0u8; 65536];
+    let n = io::read_full(fd, &mut text);
+    libc::close(fd);
+    cases(&text[..n]);
+}
+
+fn cases(s: &[u8]) {
+    let mut at = 0;
+    while at < s.len() {
+        let end = find(s, at, b'\n');
+        case(&s[at..end]);
+        at = end + 1;
+    }
+}
+
+// A line's first word says what is done.
+fn case(line: &[u8]) {
+    if line.len() == 0 {
+        return;
+    }
+    match line[0] {
+        b'c' => check(line),
+        b'r' => run(line),
+        b'b' => budgets(line),
+        b's' => shorten(line),
+        _ => {}
+    }
+}
+
+// check NAME STRIP
+fn check(line: &[u8]) {
+    let mut strip = [0u8; ROOM];
+    let n = bytes_in(line, 2, &mut strip);
+    let a = strip::check(&strip[..n]);
+    name(line);
+    answer(a.code, a.place, a.steps as usize);
+    end_line();
+}
+
+// run NAME STRIP ARGUMENTS MEMORY RESULTS BUDGET
+fn run(line: &[u8]) {
+    run_at(line, number_in(line, 6) as u32);
+}
+
+// budgets NAME STRIP ARGUMENTS MEMORY RESULTS LAST: run at every budget from 0 to the last.
+fn budgets(line: &[u8]) {
+    let last = number_in(line, 6);
+    let mut k = 0;
+    while k <= last {
+        run_at(line, k as u32);
+        k += 1;
+    }
+}
+
+fn run_at(line: &[u8], budget: u32) {
+    let mut strip = [0u8; ROOM];
+    let n = bytes_in(line, 2, &mut strip);
+    let mut args = [0u8; 512];
+    let p = bytes_in(line, 3, &mut args);
+    let mut mem = [0u8; ROOM];
+    let m = length_in(line, 4, &mem);
+    let mut results = [0xEEu8; 128];
+    let r = length_in(line, 5, &results);
+    name(line);
+    decimal(budget as u64);
+    run_in(
+        &strip[..n],
+        &args[..p],
+        &mut mem[..m],
+        &mut results[..r],
+        budget,
+    );
+}
+
+fn run_in(strip: &[u8], args: &[u8], mem: &mut [u8], results: &mut [u8], budget: u32) {
+    fill(mem);
+    let a = strip::run(strip, args, mem, results, budget);
+    answer(a.code, a.place, a.steps as usize);
+    hex(results);
+    changes(mem);
+    end_line();
+}
+
+// shorten NAME STRIP OUTPUT
+fn shorten(line: &[u8]) {
+    let mut strip = [0u8; ROOM];
+    let n = bytes_in(line, 2, &mut strip);
+    let mut out = [0xEEu8; 64];
+    let m = length_in(line, 3, &out);
+    name(line);
+    shorten_in(&strip[..n], &mut out[..m]);
+}
+
+fn shorten_in(strip: &[u8], out: &mut [u8]) {
+    let w = strip::rewrite(strip, out);
+    answer(w.code, w.place, w.len);
+    hex(out);
+    end_line();
+}
+
+// What the memory holds before a run, at each address.
+fn before(i: usize) -> u8 {
+    (i % 256) as u8
+}
+
+fn fill(mem: &mut [u8]) {
+    let mut i = 0;
+    while i < mem.len() {
+        mem[i] = before(i);
+        i += 1;
+    }
+}
+
+// Each part of the memory that is not as it was: its first address and its bytes.
+fn changes(mem: &[u8]) {
+    let mut inside = false;
+    let mut i = 0;
+    while i < mem.len() {
+        let changed = mem[i] != before(i);
+        if changed {
+            if !inside {
+                blank();
+                io::print_decimal(STDOUT_FILENO, i as u64);
+                io::write_all(STDOUT_FILENO, b":");
+            }
+            hex_byte(mem[i]);
+        }
+        inside = changed;
+        i += 1;
+    }
+}
+
+fn name(line: &[u8]) {
+    let from = field(line, 1);
+    let to = find(line, from, b' ');
+    io::write_all(STDOUT_FILENO, &line[from..to]);
+}
+
+fn answer(code: u8, place: usize, last: usize) {
+    decimal(code as u64);
+    decimal(place as u64);
+    decimal(last as u64);
+}
+
+fn decimal(n: u64) {
+    blank();
+    io::print_decimal(STDOUT_FILENO, n);
+}
+
+fn hex(s: &[u8]) {
+    if 0 < s.len() {
+        blank();
+    }
+    let mut i = 0;
+    while i < s.len() {
+        hex_byte(s[i]);
+        i += 1;
+    }
+}
+
+fn hex_byte(b: u8) {
+    io::print_hex(STDOUT_FILENO, b as u64, 2);
+}
+
+fn blank() {
+    io::write_all(STDOUT_FILENO, b" ");
+}
+
+fn end_line() {
+    io::write_all(STDOUT_FILENO, b"\n");
+}
