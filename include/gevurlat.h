@@ -12,7 +12,7 @@
  *  - every byte that is lent has been written before the call;
  *  - memory and results overlap neither each other nor strip or args;
  *  - nobody else writes what is lent before the call returns.
- * Where a length is 0 nothing is read or written behind its pointer, and the
+ * Where a length is 0 nothing is read or written through its pointer, and the
  * pointer may be NULL.
  */
 #ifndef GEVURLAT_H

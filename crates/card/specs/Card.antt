@@ -1,4 +1,4 @@
--- The codes of the inspector's card (01, "Numbers on the inspector's card"), each under its name. No other file writes a code as a numeral.
+-- The codes of the inspector's card (01, "Numbers on the inspector's card"), each under its name. No other statement writes a code as a numeral.
 use Prim.Native.Nat.{ℕ}
 
 -- `end` completed

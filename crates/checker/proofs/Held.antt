@@ -1,4 +1,4 @@
--- Kinds that are held as bytes. Assumes nothing.
+-- Kinds that are held as bytes.
 use Prim.Native.Nat.{ℕ, suc, _+_, _-_, _≤_, _<_}
 use mathlib.Core.Path.{_≡_, refl, sym, ap, ap₂, subst, _∙_}
 use mathlib.Core.Bool.{true, false}

@@ -11,8 +11,7 @@ use Rattle.leb128.specs.declared.read.Leb.{Leb}
 use Rattle.leb128.specs.declared.read.Leb.the-variants.{Val, Short, Number}
 use Rattle.opcode.specs.Kind.{Kind}
 use Rattle.opcode.specs.Table.{Row, carried, float as float-row, unassigned, rowAt}
-use Rattle.opcode.specs.Immediate.{Immediates, nothing, index, word, long, memory, memoryLane, laneIndex, sixteenBytes, sixteenLanes, immediates}
-use Rattle.opcode.specs.Number.{movedBy, lanesOf}
+use Rattle.opcode.specs.Immediate.{Immediates, nothing, index, word, long, memory, memoryLane, laneIndex, sixteenBytes, sixteenLanes, immediates, movedBy, lanesOf}
 use Rattle.instr.specs.Layout.{Head, head}
 use Rattle.instr.specs.Decode.{Item, got, no, andThen, andRead, itemOf, numberItem, byteAt, laneAt, exponentAt, lanesAt, sixteenAt, immediatesAt, bodyOf, opcodeNumber, decodeAt}
 use Rattle.instr.specs.declared.Decoded.{Decoded}

@@ -1,7 +1,8 @@
 // The header: every byte before the first instruction, each asked in the order of the file.
-ghost use Prim.Native.Nat.{_≤_};
+ghost use Prim.Native.Nat.{_+_, _≤_};
 ghost use mathlib.Core.Path.{_≡_};
 ghost use lib.ListN.{length};
+ghost use Rattle.limits.specs.Limits.{localCount, resultLimit};
 ghost use Rattle.checker.specs.Inner.Kinds.{isKind};
 ghost use Rattle.checker.specs.Inner.Parts.{Headed, KindsSay};
 use crate::answer;
@@ -49,7 +50,7 @@ pub(crate) fn header(strip: &[u8]) -> Answer
 
 // The n kind bytes.
 fn kinds(strip: &[u8], n: usize) -> Answer
-    requires { ⌜ (8 ≤ length (now strip)) × (n ≤ 36) ⌝ }
+    requires { ⌜ (8 ≤ length (now strip)) × (n ≤ localCount + resultLimit) ⌝ }
     ensures { λ r. ⌜ KindsSay (now (strip .entry)) n (r .code) (r .place) × (r .steps ≡ 0) ⌝ }
 {
     let mut k = 0;

@@ -9,8 +9,8 @@ use lib.Dec.{eqb}
 use borrow.Author.Tests.{eq-eqb, ne-eqb, lt-ltb, le-ltb}
 use Rattle.card.specs.Card.{DONE, OPCODE}
 use Rattle.opcode.specs.Table.{Row, carried, float, unassigned, rowAt}
-use Rattle.opcode.specs.Immediate.{Immediates, nothing, index, word, long, memory, memoryLane, laneIndex, sixteenBytes, sixteenLanes, immediates}
-use Rattle.opcode.specs.Number.{classNumber, FLOAT, UNASSIGNED, classOf, movedBy, lanesOf, idOf, rowOf}
+use Rattle.opcode.specs.Immediate.{Immediates, nothing, index, word, long, memory, memoryLane, laneIndex, sixteenBytes, sixteenLanes, immediates, movedBy, lanesOf}
+use Rattle.opcode.specs.Number.{classNumber, FLOAT, UNASSIGNED, classOf, idOf, rowOf}
 use Rattle.opcode.proofs.Id.{row-of-id}
 use Rattle.opcode.proofs.Classes.{class-carried, class-float, class-unassigned}
 use Rattle.opcode.proofs.Arms.{Missed}

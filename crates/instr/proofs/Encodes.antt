@@ -11,8 +11,7 @@ use borrow.Author.Tests.{lt-ltb, le-leb, ltb-true, leb-true}
 use Rattle.card.specs.Card.{DONE}
 use Rattle.leb128.specs.Bytes.{bytes}
 use Rattle.opcode.specs.Table.{Row, carried, float, unassigned, PREFIX}
-use Rattle.opcode.specs.Immediate.{Immediates, nothing, index, word, long, memory, memoryLane, laneIndex, sixteenBytes, sixteenLanes, immediates}
-use Rattle.opcode.specs.Number.{movedBy, lanesOf}
+use Rattle.opcode.specs.Immediate.{Immediates, nothing, index, word, long, memory, memoryLane, laneIndex, sixteenBytes, sixteenLanes, immediates, movedBy, lanesOf}
 use Rattle.instr.specs.Layout.{u32, Writes, Shortest, InOrder, opcodeFields, immediateFields, fieldsOf, rowIn, layout, Below, AllowedIn, Allowed, bare, Typed, Stands, found}
 use Rattle.instr.specs.Decode.{decodeAt}
 use Rattle.instr.specs.Encode.{encoding, allBelow, exponentFault, faultIn, faultOf, fault}

@@ -9,6 +9,7 @@ use lib.Dec.{ltb, leb}
 use lib.ListN.{length, getD, take, drop, length-append, length-drop, length-take, take-append-drop, drop-of-length-le}
 use lib.Seq.{drop-cons, getD-drop}
 use borrow.Author.Tests.{ltb-true, leb-true}
+use Rattle.card.specs.Card.{DONE}
 use Rattle.leb128.specs.Bits.{integer}
 use Rattle.leb128.specs.Bytes.{bytes}
 use Rattle.leb128.specs.Found.{Says}
@@ -59,7 +60,7 @@ module _ (s : List ℕ) where
   read-got P Q (no c e) f a k = a
 
   abbrev pub Good : (Decoded → Type 0) → Decoded → Type 0
-  Good P d = (d .place ≤ length s) × (d .code ≡ 0 → P d)
+  Good P d = (d .place ≤ length s) × (d .code ≡ DONE → P d)
 
   pub then-got : (P : ℕ → ℕ → Type 0) (Q : Decoded → Type 0) (g : Item) (f : ℕ → ℕ → Decoded) → GotP P g → ((v q : ℕ) → P v q → Good Q (f v q)) → Good Q (andThen g f)
   then-got P Q (got v q) f a k = k v q a

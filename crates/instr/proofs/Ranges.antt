@@ -6,8 +6,8 @@ use mathlib.Core.Path.{_≡_, sym, ap, ap₂, subst, _∙_}
 use native.Mathlib.Omega.{arith}
 use lib.ListN.{length, length-append, length-drop}
 use Rattle.opcode.specs.Table.{End, Code, plain, Row, carried, plainAt, rowAt}
-use Rattle.opcode.specs.Immediate.{Immediates, memory, memoryLane, laneIndex, sixteenLanes, immediates}
-use Rattle.opcode.specs.Number.{movedBy, lanesOf, idOf}
+use Rattle.opcode.specs.Immediate.{Immediates, memory, memoryLane, laneIndex, sixteenLanes, immediates, movedBy, lanesOf}
+use Rattle.opcode.specs.Number.{idOf}
 use Rattle.opcode.proofs.Id.{Way, byte, number, beyond, way, row-of-id}
 use Rattle.opcode.proofs.Inverse.{byteOf, code-back}
 use Rattle.instr.specs.Layout.{Field, Writes, InOrder, opcodeFields, immediateFields, fieldsOf, rowIn, layout, Below, AllowedIn, Allowed, Stands}
@@ -21,17 +21,12 @@ stands-some t = omega (arith, t .long, ap length (t .fields .2), length-append (
 pub stands-inside : {s : List ℕ} {at : ℕ} {i : Instr} {n : ℕ} → Stands s at i n → at + n ≤ length s
 stands-inside {s} {at} t = omega (arith, stands-some t, t .long, length-drop at s, ap length (t .here), length-append (t .bytes) (t .rest))
 
--- lanes and exponents are in their bounds
+-- lanes are in their bounds
 module _ (c : Code) (i : Instr) (a : Allowed (carried c) i) where
   pub lane-range : (immediates c ≡ laneIndex) ⊎ (immediates c ≡ memoryLane) → i .lane < lanesOf (carried c)
   unfolding Allowed AllowedIn
   lane-range (inl e) = subst (λ (k : Immediates). AllowedIn k (movedBy (carried c)) (lanesOf (carried c)) i) e a
   lane-range (inr e) = subst (λ (k : Immediates). AllowedIn k (movedBy (carried c)) (lanesOf (carried c)) i) e a .1
-
-  pub exponent-range : (immediates c ≡ memory) ⊎ (immediates c ≡ memoryLane) → 2 ^ (i .align) ≤ movedBy (carried c)
-  unfolding Allowed AllowedIn
-  exponent-range (inl e) = subst (λ (k : Immediates). AllowedIn k (movedBy (carried c)) (lanesOf (carried c)) i) e a
-  exponent-range (inr e) = subst (λ (k : Immediates). AllowedIn k (movedBy (carried c)) (lanesOf (carried c)) i) e a .0
 
   pub shuffle-range : immediates c ≡ sixteenLanes → Below 32 (i .bytes)
   unfolding Allowed AllowedIn

@@ -39,10 +39,6 @@ put-then {out} {out₁} {out₂} {xs} {ys} {at} {p} {r} a b =
 pub put-same : {out out′ xs ys : List ℕ} {at r : ℕ} → xs ≡ ys → Put out at ys r out′ → Put out at xs r out′
 put-same {out} {out′} {at = at} {r = r} e w = subst (λ (l : List ℕ). Put out at l r out′) (sym e) w
 
--- one field, the last
-pub put-last : {out out′ xs : List ℕ} {at r : ℕ} → Put out at xs r out′ → Put out at (xs ++ []) r out′
-put-last {xs = xs} w = put-same (append-nil xs) w
-
 pub put-number : {sign : Bool} {N v at : ℕ} {out out′ : List ℕ} {r : Wrote} → WritesNumber sign N v at out r out′ → at + length (bytesOf sign N v) ≤ length out
     → (p : ℕ) → r ≡ To p → Put out at (bytesOf sign N v) p out′
 put-number w l p e = record { to = goes-to w l p e; bytes = goes-bytes w l }

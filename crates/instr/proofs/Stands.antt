@@ -9,12 +9,12 @@ use native.Mathlib.Omega.{arith}
 use lib.Dec.{eqb}
 use lib.ListN.{length, replicate, take, drop}
 use lib.Seq.{take-at}
+use Rattle.card.specs.Card.{DONE}
 use Rattle.leb128.specs.Bytes.{bytes}
 use Rattle.leb128.specs.Number.{numberAt}
 use Rattle.leb128.specs.declared.read.Leb.the-variants.{Val}
 use Rattle.opcode.specs.Table.{Row, carried, float, unassigned, PREFIX, rowAt}
-use Rattle.opcode.specs.Immediate.{Immediates, nothing, index, word, long, memory, memoryLane, laneIndex, sixteenBytes, sixteenLanes, immediates}
-use Rattle.opcode.specs.Number.{movedBy, lanesOf}
+use Rattle.opcode.specs.Immediate.{Immediates, nothing, index, word, long, memory, memoryLane, laneIndex, sixteenBytes, sixteenLanes, immediates, movedBy, lanesOf}
 use Rattle.instr.specs.Layout.{Field, u32, s32, s64, raw, Writes, InOrder, opcodeFields, immediateFields, fieldsOf, rowIn, layout, Below, AllowedIn, Allowed, Head, head, zeros, instr, kept, keptOf, headOf, Typed, Stands, found}
 use Rattle.instr.specs.Decode.{done, andThen, byteAt, laneAt, exponentAt, lanesAt, sixteenAt, itemOf, numberItem, immediatesAt, bodyOf, opcodeNumber, decodeAt}
 use Rattle.instr.specs.declared.Instr.{Instr}
@@ -239,21 +239,15 @@ module _ (s : List ℕ) (b : bytes s) where
   decode-exact at i n = ((λ e. subst (Good s (Whole at)) e (decode-got at) .1 refl .1), stands-decodes s at i n)
 
   -- code 0 says all of it
-  pub decoded-stands : (at : ℕ) → decodeAt s at .code ≡ 0 → Stands s at (decodeAt s at .instr) (decodeAt s at .len)
+  pub decoded-stands : (at : ℕ) → decodeAt s at .code ≡ DONE → Stands s at (decodeAt s at .instr) (decodeAt s at .len)
   decoded-stands at z = decode-got at .1 z .1
-
-  pub decoded-found : (at : ℕ) → decodeAt s at .code ≡ 0 → decodeAt s at ≡ found (decodeAt s at .len) (decodeAt s at .instr)
-  decoded-found at z = stands-decodes s at (decodeAt s at .instr) (decodeAt s at .len) (decoded-stands at z)
 
   -- a place lies in the file, or is its length
   pub decoded-place : (at : ℕ) → decodeAt s at .place ≤ length s
   decoded-place at = decode-got at .0
 
--- one instruction stands at a place, or none, and then decoding has a refusal's code
+-- one instruction stands at a place at most
 pub stands-once : (s : List ℕ) (at : ℕ) (i j : Instr) (n m : ℕ) → Stands s at i n → Stands s at j m → (i ≡ j) × (n ≡ m)
 stands-once s at i j n m a b =
     let e : found n i ≡ found m j = sym (stands-decodes s at i n a) ∙ stands-decodes s at j m b in
     (ap (λ (d : Decoded). d .instr) e, ap (λ (d : Decoded). d .len) e)
-
-pub refused-none : (s : List ℕ) (at : ℕ) → (decodeAt s at .code ≡ 0 → ⊥) → (i : Instr) (n : ℕ) → Stands s at i n → ⊥
-refused-none s at h i n t = h (ap (λ (d : Decoded). d .code) (stands-decodes s at i n t))

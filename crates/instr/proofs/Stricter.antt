@@ -19,8 +19,7 @@ use Rattle.leb128.proofs.Bounds.{found}
 use Rattle.leb128.proofs.Forms.{bytes-write, bytes-shortest}
 use Rattle.leb128.proofs.Grammars.{same-bytes}
 use Rattle.opcode.specs.Table.{Row, carried, float, unassigned, PREFIX, rowAt}
-use Rattle.opcode.specs.Immediate.{Immediates, nothing, index, word, long, memory, memoryLane, laneIndex, sixteenBytes, sixteenLanes, immediates}
-use Rattle.opcode.specs.Number.{movedBy, lanesOf}
+use Rattle.opcode.specs.Immediate.{Immediates, nothing, index, word, long, memory, memoryLane, laneIndex, sixteenBytes, sixteenLanes, immediates, movedBy, lanesOf}
 use Rattle.opcode.proofs.Every.{below-or-past}
 use Rattle.instr.specs.Layout.{Head, head}
 use Rattle.instr.specs.Decode.{Item, got, no, andThen, itemOf, numberItem, byteAt, exponentAt, immediatesAt, bodyOf, opcodeNumber, decodeAt}

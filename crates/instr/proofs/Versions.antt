@@ -12,8 +12,8 @@ use Rattle.card.specs.Card.{DONE}
 use Rattle.leb128.specs.Number.{numberAt}
 use Rattle.leb128.specs.declared.read.Leb.the-variants.{Val}
 use Rattle.opcode.specs.Table.{Row, carried, float, unassigned, PREFIX, rowAt}
-use Rattle.opcode.specs.Immediate.{Immediates, nothing, index, word, long, memory, memoryLane, laneIndex, sixteenBytes, sixteenLanes, immediates}
-use Rattle.opcode.specs.Number.{classOf, movedBy, lanesOf, rowOf}
+use Rattle.opcode.specs.Immediate.{Immediates, nothing, index, word, long, memory, memoryLane, laneIndex, sixteenBytes, sixteenLanes, immediates, movedBy, lanesOf}
+use Rattle.opcode.specs.Number.{classOf, rowOf}
 use Rattle.opcode.proofs.Id.{Way, byte, number, beyond, way}
 use Rattle.opcode.proofs.Rows.{vector-beyond}
 use Rattle.instr.specs.Layout.{rowIn, Head, head}

@@ -10,8 +10,7 @@ use Rattle.leb128.specs.Number.{numberAt}
 use Rattle.leb128.specs.declared.read.Leb.{Leb}
 use Rattle.leb128.specs.declared.read.Leb.the-variants.{Val, Short, Number}
 use Rattle.opcode.specs.Table.{Row, carried, float, unassigned, PREFIX, rowAt}
-use Rattle.opcode.specs.Immediate.{Immediates, nothing, index, word, long, memory, memoryLane, laneIndex, sixteenBytes, sixteenLanes, immediates}
-use Rattle.opcode.specs.Number.{movedBy, lanesOf}
+use Rattle.opcode.specs.Immediate.{Immediates, nothing, index, word, long, memory, memoryLane, laneIndex, sixteenBytes, sixteenLanes, immediates, movedBy, lanesOf}
 use Rattle.instr.specs.Layout.{Head, head, zeros, instr, found}
 use Rattle.instr.specs.declared.Instr.{Instr}
 use Rattle.instr.specs.declared.Decoded.{Decoded}

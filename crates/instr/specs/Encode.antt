@@ -7,8 +7,7 @@ use lib.ListN.{length, drop}
 use Rattle.card.specs.Card.{DONE, OPCODE, FLOAT, LANE, ALIGN, SMALL}
 use Rattle.leb128.specs.Shortest.{bytesOf}
 use Rattle.opcode.specs.Table.{Row, carried, float, unassigned}
-use Rattle.opcode.specs.Immediate.{Immediates, nothing, index, word, long, memory, memoryLane, laneIndex, sixteenBytes, sixteenLanes, immediates}
-use Rattle.opcode.specs.Number.{movedBy, lanesOf}
+use Rattle.opcode.specs.Immediate.{Immediates, nothing, index, word, long, memory, memoryLane, laneIndex, sixteenBytes, sixteenLanes, immediates, movedBy, lanesOf}
 use Rattle.instr.specs.Layout.{Field, number, raw, rowIn, layout}
 use Rattle.instr.specs.declared.Instr.{Instr}
 use Rattle.instr.specs.declared.Encoded.{Encoded}

@@ -1,5 +1,5 @@
 -- Each promise of this crate leaves one answer: a promise is an equation, `r .bytes ≡ v` of a V128 or `r ≡ x` of any other answer,
--- whose right side does not name r. One theorem for each type of answer; no function of the crate changes a buffer of its caller. Assumes nothing.
+-- whose right side does not name r. One theorem for each type of answer; no function of the crate changes a buffer of its caller.
 use mathlib.Core.Path.{_≡_, sym, ap, _∙_}
 use mathlib.Core.List.{List}
 use Prim.Native.Nat.{ℕ}

@@ -18,3 +18,8 @@ pub const STACK: usize = 64;
 
 // The bytes that a value takes on the stack, in arguments and in results.
 pub const SLOT: usize = 16;
+
+// The operand stack and the locals, a slot each.
+pub const STACK_BYTES: usize = SLOT * STACK;
+
+pub const LOCAL_BYTES: usize = SLOT * (PARAMETERS + LOCALS);

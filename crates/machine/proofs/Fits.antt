@@ -1,5 +1,5 @@
 -- Where the standard's machine is not stuck, the code has what it asks before an instruction: enough values, a slot for the local, and the bounds that tell
--- a trap from going on. Assumes nothing.
+-- a trap from going on.
 use Prim.Native.Nat.{ℕ, _+_, _-_, _^_, _≤_, _<_, max, zero-le}
 use mathlib.Core.Path.{_≡_, refl, ap, ap₂, sym, _∙_}
 use mathlib.Core.Bool.{Bool, true, false, cond}

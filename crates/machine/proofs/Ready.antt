@@ -1,4 +1,4 @@
--- A group's number tells what the instruction asks and does: what is shown of each code of the group holds of this one. Assumes nothing.
+-- A group's number tells what the instruction asks and does: what is shown of each code of the group holds of this one.
 use Prim.Native.Nat.{ℕ, _+_, _≤_, max}
 use mathlib.Core.Path.{_≡_, refl, ap, sym, _∙_, subst}
 use mathlib.Core.Bool.{Bool, true, false, cond}

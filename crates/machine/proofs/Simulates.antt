@@ -1,4 +1,4 @@
--- One instruction over flat bytes does what the standard's machine does. Assumes nothing.
+-- One instruction over flat bytes does what the standard's machine does.
 use Prim.Native.Nat.{ℕ, _+_, _-_, _^_, _≤_, _<_}
 use mathlib.Core.Path.{_≡_, refl, ap, ap₂, sym, _∙_, subst}
 use mathlib.Core.Bool.{Bool, true, false, cond}

@@ -1,4 +1,4 @@
--- The standard's machine, one instruction (Core 2.0, 4.4.1, 4.4.3, 4.4.5, 4.4.7). Each instruction pops what it needs, and is stuck
+-- The standard's machine, one instruction (Core 2.0, 4.4.1, 4.4.3 to 4.4.5, 4.4.7, 4.4.10). Each instruction pops what it needs, and is stuck
 -- where that is not there. No signature is read here, and nothing of the rules.
 use Prim.Native.Nat.{ℕ, _+_}
 use mathlib.Core.List.{List, [], _∷_, reverse}

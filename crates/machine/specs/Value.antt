@@ -1,9 +1,7 @@
 -- Values (Core 2.0, 4.2.1) and their sixteen bytes in arguments and results (01, "Values and shapes").
 use Prim.Native.Nat.{ℕ, _<_, _^_}
 use mathlib.Core.List.{List, [], _∷_, _++_}
-use lib.ListN.{take, drop}
-use Rattle.lane.specs.Vector.{number, le, Sixteen}
-use Rattle.limits.specs.Limits.{slot}
+use Rattle.lane.specs.Vector.{le, Sixteen}
 use Rattle.opcode.specs.Kind.{Kind, i32, i64, v128}
 
 pub data Value : Type 0 where
@@ -35,13 +33,3 @@ bytesOf (V128 v) = v
 unfoldable pub allBytes : List Value → List ℕ
 allBytes [] = []
 allBytes (v ∷ vs) = bytesOf v ++ allBytes vs
-
-abbrev pub valueOf : Kind → List ℕ → Value
-valueOf i32 bs = I32 (number bs)
-valueOf i64 bs = I64 (number bs)
-valueOf v128 bs = V128 bs
-
--- one value after the other
-unfoldable pub valuesOf : List Kind → List ℕ → List Value
-valuesOf [] bs = []
-valuesOf (k ∷ ks) bs = valueOf k (take slot bs) ∷ valuesOf ks (drop slot bs)

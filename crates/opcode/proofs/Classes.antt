@@ -12,8 +12,8 @@ use mir.Val.{bytes}
 use Rattle.lane.specs.Shape.{lanes}
 use Rattle.lane.specs.Op.{Whole, Widen, Repeat, ZeroPad, Op, Load, LoadLane, Store, StoreLane, Const, Shuffle, Splat, ExtractLane, ReplaceLane, Unary, Binary, Bitselect, Test, Shift}
 use Rattle.opcode.specs.Table.{Code, plain, vector, Row, carried, float, unassigned}
-use Rattle.opcode.specs.Immediate.{Immediates, nothing, index, word, long, memory, memoryLane, laneIndex, sixteenBytes, sixteenLanes, immediates, moved, laneCount}
-use Rattle.opcode.specs.Number.{classNumber, FLOAT, UNASSIGNED, classOf, movedBy, lanesOf}
+use Rattle.opcode.specs.Immediate.{Immediates, nothing, index, word, long, memory, memoryLane, laneIndex, sixteenBytes, sixteenLanes, immediates, moved, laneCount, movedBy, lanesOf}
+use Rattle.opcode.specs.Number.{classNumber, FLOAT, UNASSIGNED, classOf}
 use Rattle.opcode.proofs.Every.{below-or-past}
 
 abbrev classAt : ℕ → Immediates
@@ -96,10 +96,6 @@ moved-power (Shift o) = inl refl
 
 pub moved-small : (o : Op) → moved o ≤ 16
 moved-small o = ⊎-elim (λ e. omega arith) (λ p. omega (arith, pow-mono (p .2))) (moved-power o)
-
-pub exponent-small : (o : Op) (a : ℕ) → 2 ^ a ≤ moved o → a ≤ 4
-exponent-small o a h =
-    ⊎-elim (λ l. omega arith) (λ g. let none : ⊥ = omega (arith, pow-mono g, moved-small o) in absurd none) (below-or-past 5 a)
 
 pub row-moved-small : (r : Row) → movedBy r ≤ 16
 row-moved-small (carried (plain p)) = lit≤ tt

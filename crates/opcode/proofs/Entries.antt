@@ -3,7 +3,8 @@ use mathlib.Core.Path.{_≡_}
 use Prim.Native.Nat.{_/_, _%_, _^_}
 use native.Mathlib.Omega.{arith}
 use Rattle.opcode.specs.Table.{Row}
-use Rattle.opcode.specs.Number.{classOf, movedBy, lanesOf, groupOf, effectOf}
+use Rattle.opcode.specs.Immediate.{movedBy, lanesOf}
+use Rattle.opcode.specs.Number.{classOf, groupOf, effectOf}
 use Rattle.opcode.specs.Inner.Entry.{entryOf}
 use Rattle.opcode.proofs.Classes.{row-class-small, row-moved-small, row-lanes-small}
 use Rattle.opcode.proofs.Groups.{row-group-small}

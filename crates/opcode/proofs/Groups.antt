@@ -1,4 +1,4 @@
--- The groups: a group's number tells what the code is, so that what is said of each code of a group is said of the number. Assumes nothing.
+-- The groups: a group's number tells what the code is, so that what is said of each code of a group is said of the number.
 use mathlib.Core.Path.{_≡_, sym, subst}
 use mathlib.Core.List.{List, [], _∷_}
 use Prim.Native.Nat.{ℕ, zero, suc, _≤_}

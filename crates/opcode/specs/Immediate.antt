@@ -4,7 +4,7 @@ use Prim.Native.Nat.{ℕ}
 use mir.Val.{bytes}
 use Rattle.lane.specs.Shape.{lanes}
 use Rattle.lane.specs.Op.{Whole, Widen, Repeat, ZeroPad, Op, Load, LoadLane, Store, StoreLane, Const, Shuffle, Splat, ExtractLane, ReplaceLane, Unary, Binary, Bitselect, Test, Shift}
-use Rattle.opcode.specs.Table.{End, Drop, LocalGet, LocalSet, LocalTee, I32Const, I64Const, I32Add, I32Sub, Code, plain, vector}
+use Rattle.opcode.specs.Table.{End, Drop, LocalGet, LocalSet, LocalTee, I32Const, I64Const, I32Add, I32Sub, Code, plain, vector, Row, carried, float, unassigned}
 
 pub data Immediates : Type 0 where
   nothing : Immediates
@@ -78,3 +78,16 @@ laneCount (Binary o) = 0
 laneCount Bitselect = 0
 laneCount (Test o) = 0
 laneCount (Shift o) = 0
+
+-- the same of a row of the table: 0 where it has no operation
+abbrev pub movedBy : Row → ℕ
+movedBy (carried (plain p)) = 0
+movedBy (carried (vector o)) = moved o
+movedBy float = 0
+movedBy unassigned = 0
+
+abbrev pub lanesOf : Row → ℕ
+lanesOf (carried (plain p)) = 0
+lanesOf (carried (vector o)) = laneCount o
+lanesOf float = 0
+lanesOf unassigned = 0

@@ -8,7 +8,7 @@ use Rattle.lane.specs.Vector.{number}
 use Rattle.opcode.specs.Kind.{kindByte}
 use Rattle.lane.specs.Op.{Op, Load, LoadLane, Store, StoreLane, Const, Shuffle, Splat, ExtractLane, ReplaceLane, Unary, Binary, Bitselect, Test, Shift}
 use Rattle.opcode.specs.Table.{Plain, End, Drop, LocalGet, LocalSet, LocalTee, I32Const, I64Const, I32Add, I32Sub, Code, plain, vector, Row, carried, float, unassigned, vectorAt, plainAt, PREFIX}
-use Rattle.opcode.specs.Immediate.{Immediates, nothing, index, word, long, memory, memoryLane, laneIndex, sixteenBytes, sixteenLanes, immediates, moved, laneCount}
+use Rattle.opcode.specs.Immediate.{Immediates, nothing, index, word, long, memory, memoryLane, laneIndex, sixteenBytes, sixteenLanes, immediates}
 use Rattle.opcode.specs.Effect.{Signature, _⇒_, effect}
 
 -- 512 stands for every number after FD from 256 on: none of them is assigned
@@ -40,18 +40,6 @@ abbrev pub classOf : Row → ℕ
 classOf (carried c) = classNumber (immediates c)
 classOf float = FLOAT
 classOf unassigned = UNASSIGNED
-
-abbrev pub movedBy : Row → ℕ
-movedBy (carried (plain p)) = 0
-movedBy (carried (vector o)) = moved o
-movedBy float = 0
-movedBy unassigned = 0
-
-abbrev pub lanesOf : Row → ℕ
-lanesOf (carried (plain p)) = 0
-lanesOf (carried (vector o)) = laneCount o
-lanesOf float = 0
-lanesOf unassigned = 0
 
 -- the kinds' bytes: the top operand in byte 0, those below it in bytes 1 and 2, what is left in byte 3; 0 where there is none
 abbrev pub packed : Option Signature → ℕ

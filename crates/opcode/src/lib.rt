@@ -4,7 +4,8 @@ pub mod kind;
 mod table;
 
 ghost use mathlib.Core.Path.{_≡_};
-ghost use Rattle.opcode.specs.Number.{groupOf, idOf, rowOf, classOf, movedBy, lanesOf, effectOf};
+ghost use Rattle.opcode.specs.Immediate.{movedBy, lanesOf};
+ghost use Rattle.opcode.specs.Number.{groupOf, idOf, rowOf, classOf, effectOf};
 
 // The classes of immediates.
 pub const NOTHING: u8 = 0;
@@ -76,8 +77,6 @@ pub const GROUP_BITSELECT: u8 = 20;
 pub const GROUP_TEST: u8 = 21;
 
 pub const GROUP_SHIFT: u8 = 22;
-
-pub const GROUP_NOT_CARRIED: u8 = 23;
 
 // The first byte of the vector instructions.
 pub const PREFIX: u8 = 0xFD;

@@ -16,7 +16,7 @@ use Rattle.instr.proofs.Ranges.{end-first, end-one}
 use Rattle.rules.specs.Header.{Header, Declares, headerBytes}
 use Rattle.rules.specs.Strip.{Reaches, front, past, Valid}
 use Rattle.rules.proofs.Onward.{Onward, here, next, from-front}
-use Rattle.rewrite.specs.Rewrite.{Instructions, no-more, one-more, Holds, encodings, shortest}
+use Rattle.rewrite.specs.Rewrite.{Instructions, no-more, one-more, Consists, encodings, shortest}
 use Rattle.rewrite.proofs.Strips.{between, instrs, valid-holds}
 
 -- an instruction stands where its shortest form does
@@ -55,14 +55,14 @@ reaches-again (next {i = i} a k l o) t p′ rest r e =
     (Places.past t p′ (encoding i) (encodings (between o) ++ rest) d)
 
 -- t is the shortest form of a strip with the header h and these instructions
-module _ {s : List ℕ} {h : Header} {is : List Instr} (a : Holds s h is) (t : List ℕ) (e : t ≡ shortest h is) (l : length t ≤ length s) where
+module _ {s : List ℕ} {h : Header} {is : List Instr} (a : Consists s h is) (t : List ℕ) (e : t ≡ shortest h is) (l : length t ≤ length s) where
   body : drop (length (headerBytes h)) t ≡ encodings is
   body = ap (drop (length (headerBytes h))) e ∙ drop-append-seam (headerBytes h) (encodings is)
 
   declares-again : Declares t h
   declares-again = record { sized = omega (arith, a .declares .sized); few = a .declares .few; body = encodings is; bytes = e }
 
-  pub holds-again : Holds t h is
+  pub holds-again : Consists t h is
   holds-again =
       record {
         declares = declares-again;

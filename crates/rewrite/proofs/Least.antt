@@ -12,7 +12,7 @@ use Rattle.instr.proofs.Fields.{in-order-append, in-order-least, in-order-only}
 use Rattle.instr.proofs.Encodes.{encode-shortest}
 use Rattle.instr.proofs.Places as Places
 use Rattle.rules.specs.Header.{Header, headerBytes}
-use Rattle.rewrite.specs.Rewrite.{Instructions, no-more, one-more, Holds, encodings, shortest}
+use Rattle.rewrite.specs.Rewrite.{Instructions, no-more, one-more, Consists, encodings, shortest}
 use Rattle.rewrite.specs.Shortened.{layouts}
 
 pub all-shortest : {s : List ℕ} {p : ℕ} {is : List Instr} → Instructions s p is → InOrder Shortest (layouts is) (encodings is)
@@ -40,7 +40,7 @@ as-few (f ∷ fs) xs ys o q l =
     let y : length (q .1) ≤ length (o .1) = omega (arith, a, b, c, d, ap length (o .2), ap length (q .2)) in
     (q .0, q .1, q .2, (q .3, λ cs w. omega (arith, x, o .3 .1 cs w)), as-few fs (o .1) (q .1) (o .4) (q .4) y)
 
-module _ {s : List ℕ} {h : Header} {is : List Instr} (a : Holds s h is) {u : List ℕ} (b : Holds u h is) where
+module _ {s : List ℕ} {h : Header} {is : List Instr} (a : Consists s h is) {u : List ℕ} (b : Consists u h is) where
   behind : drop (length (headerBytes h)) u ≡ b .declares .body
   behind = ap (drop (length (headerBytes h))) (b .declares .bytes) ∙ drop-append-seam (headerBytes h) (b .declares .body)
 

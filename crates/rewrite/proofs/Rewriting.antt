@@ -11,7 +11,7 @@ use Rattle.instr.specs.Layout.{Shortest, InOrder}
 use Rattle.rules.specs.Header.{Header, headerBytes}
 use Rattle.rules.specs.Strip.{Valid}
 use Rattle.rules.proofs.Verdicts.{one-breach, valid-no-breach, breach-coded}
-use Rattle.rewrite.specs.Rewrite.{Holds, encodings, shortest, answer, Rewrites, refused, small, done}
+use Rattle.rewrite.specs.Rewrite.{Consists, encodings, shortest, answer, Rewrites, refused, small, done}
 use Rattle.rewrite.specs.Shortened.{layouts, Shortened}
 use Rattle.rewrite.specs.declared.Rewritten.{Rewritten}
 use Rattle.rewrite.proofs.Strips.{holds-once, instrs, valid-holds}
@@ -63,7 +63,7 @@ record Went (s out : List ℕ) (r : Rewritten) (out′ : List ℕ) : Type 0 wher
   header : Header
   list : List Instr
   valid : Valid s
-  holds : Holds s header list
+  holds : Consists s header list
   fits : length (shortest header list) ≤ length out
   result : r ≡ doneAnswer header list
   bytes : out′ ≡ doneOut out header list

@@ -15,7 +15,7 @@ use Rattle.rules.specs.Breach.{Breach, Says, valid, breach}
 use Rattle.rules.proofs.Headers.{declares-once}
 use Rattle.rules.proofs.Onward.{Onward, here, next, from-front, declared}
 use Rattle.rules.proofs.Verdicts.{breach-coded}
-use Rattle.rewrite.specs.Rewrite.{Instructions, no-more, one-more, Holds}
+use Rattle.rewrite.specs.Rewrite.{Instructions, no-more, one-more, Consists}
 
 pub instructions-once : {s : List ℕ} {p : ℕ} {is js : List Instr} → Instructions s p is → Instructions s p js → is ≡ js
 instructions-once (no-more e) (no-more f) = refl
@@ -25,7 +25,7 @@ instructions-once {s} {p} (one-more {n = n} {i = i} t r) (one-more {n = m} {i = 
     let same = stands-once s p i j n m t t′ in
     ap₂ _∷_ (same .0) (instructions-once r (subst (λ (x : ℕ). Instructions s (p + x) js) (sym (same .1)) r′))
 
-pub holds-once : {s : List ℕ} {h h′ : Header} {is js : List Instr} → Holds s h is → Holds s h′ js → (h ≡ h′) × (is ≡ js)
+pub holds-once : {s : List ℕ} {h h′ : Header} {is js : List Instr} → Consists s h is → Consists s h′ js → (h ≡ h′) × (is ≡ js)
 holds-once {s} {h} {h′} {js = js} a b =
     let same = declares-once s h h′ (a .declares) (b .declares) in
     (same, instructions-once (a .instructions) (subst (λ (x : Header). Instructions s (length (headerBytes x)) js) (sym same) (b .instructions)))
@@ -43,7 +43,7 @@ module _ {s : List ℕ} (v : Valid s) where
   abbrev pub instrs : List Instr
   instrs = between (from-front (v .reached)) ++ v .final ∷ []
 
-  pub valid-holds : Holds s (v .header) instrs
+  pub valid-holds : Consists s (v .header) instrs
   valid-holds =
       record {
         declares = declared (v .reached);

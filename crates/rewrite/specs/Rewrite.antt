@@ -18,7 +18,7 @@ pub data Instructions (s : List ℕ) : ℕ → List Instr → Type 0 where
   one-more : {p n : ℕ} {i : Instr} {is : List Instr} → Stands s p i n → Instructions s (p + n) is → Instructions s p (i ∷ is)
 
 -- the strip s has this header and these instructions; where it is valid, `end` is the last of them
-pub record Holds (s : List ℕ) (h : Header) (is : List Instr) : Type 0 where
+pub record Consists (s : List ℕ) (h : Header) (is : List Instr) : Type 0 where
   pub declares : Declares s h
   pub instructions : Instructions s (length (headerBytes h)) is
 
@@ -36,6 +36,6 @@ answer c p n = record { code = c; place = p; len = n }
 -- the strip, the output as it comes in; the answer, the output as it is left
 pub data Rewrites (s out : List ℕ) : Rewritten → List ℕ → Type 0 where
   refused : {code place : ℕ} → Breach s code place → Rewrites s out (answer code place 0) out
-  small : {h : Header} {is : List Instr} → Valid s → Holds s h is → length out < length (shortest h is) → Rewrites s out (answer SMALL 0 0) out
-  done : {h : Header} {is : List Instr} → Valid s → Holds s h is → length (shortest h is) ≤ length out
+  small : {h : Header} {is : List Instr} → Valid s → Consists s h is → length out < length (shortest h is) → Rewrites s out (answer SMALL 0 0) out
+  done : {h : Header} {is : List Instr} → Valid s → Consists s h is → length (shortest h is) ≤ length out
       → Rewrites s out (answer DONE 0 (length (shortest h is))) (shortest h is ++ drop (length (shortest h is)) out)

@@ -7,7 +7,7 @@ use Rattle.instr.specs.declared.Instr.{Instr}
 use Rattle.instr.specs.Layout.{Field, Shortest, InOrder, layout}
 use Rattle.rules.specs.Header.{Header, headerBytes}
 use Rattle.rules.specs.Strip.{Valid}
-use Rattle.rewrite.specs.Rewrite.{Holds}
+use Rattle.rewrite.specs.Rewrite.{Consists}
 
 -- the fields of all of them
 abbrev pub layouts : List Instr → List Field
@@ -19,13 +19,13 @@ pub record Shortened (s t : List ℕ) : Type 0 where
   pub header : Header
   pub instrs : List Instr
   -- the same header and the same instructions, valid as before
-  pub before : Holds s header instrs
-  pub after : Holds t header instrs
+  pub before : Consists s header instrs
+  pub after : Consists t header instrs
   pub valid : Valid t
   -- every number in its shortest form
   pub numbers : InOrder Shortest (layouts instrs) (drop (length (headerBytes header)) t)
   -- not longer than s
   pub shorter : length t ≤ length s
   -- no strip that has the same is shorter, and no other is as short
-  pub least : (u : List ℕ) → Holds u header instrs → length t ≤ length u
-  pub only : (u : List ℕ) → Holds u header instrs → length u ≡ length t → u ≡ t
+  pub least : (u : List ℕ) → Consists u header instrs → length t ≤ length u
+  pub only : (u : List ℕ) → Consists u header instrs → length u ≡ length t → u ≡ t

@@ -53,7 +53,7 @@ fn refused(code: u8, place: usize) -> Rewritten
     }
 }
 
-// The counts stand behind mark and version, a kind byte for each behind them.
+// The counts stand after mark and version, a kind byte for each after them.
 fn header_len(strip: &[u8]) -> usize
     requires { ⌜ 8 ≤ length (now strip) ⌝ }
     ensures { λ r. ⌜ ((h : Header) → Declares (now (strip .entry)) h → r ≡ length (headerBytes h)) ⌝ }

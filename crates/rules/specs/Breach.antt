@@ -17,7 +17,7 @@ use Rattle.rules.specs.Strip.{Reads, Reaches, Valid}
 abbrev pub front : List ℕ
 front = mark ++ version
 
--- long enough to be asked anything else
+-- of a length at which anything else is asked
 pub record Sized (s : List ℕ) : Type 0 where
   pub most : length s ≤ fileLimit
   pub least : 8 ≤ length s

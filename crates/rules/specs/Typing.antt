@@ -1,4 +1,4 @@
--- What an instruction takes and leaves among locals of these kinds (Core 2.0, 3.1, 3.3.2 to 3.3.8), the last on top.
+-- What an instruction takes and leaves among locals of these kinds (Core 2.0, 3.3.1, 3.3.3 to 3.3.5, 3.3.7), the last on top.
 use Prim.Native.Nat.{ℕ, zero, suc}
 use mathlib.Core.Path.{_≡_}
 use mathlib.Core.List.{List, [], _∷_, _++_}
@@ -20,7 +20,7 @@ pub data Typed (ls : List Kind) (n : ℕ) : Code → List Kind → List Kind →
   set : {k : Kind} → Local ls n k → Typed ls n (plain LocalSet) (k ∷ []) []
   teed : {k : Kind} → Local ls n k → Typed ls n (plain LocalTee) (k ∷ []) (k ∷ [])
 
--- over any stack below (Core 3.1)
+-- over any stack below (Core 3.3.9)
 pub record Types (ls : List Kind) (n : ℕ) (c : Code) (before after : List Kind) : Type 0 where
   pub below : List Kind
   pub ins : List Kind

@@ -13,7 +13,7 @@ use Rattle.lane.specs.Vector.{number, le}
 use Rattle.lane.proofs.Laws.Number.{Bytes, length-le, number-append, number-lt, le-number, le-split, bytes-take, bytes-drop}
 use Rattle.limits.specs.Limits.{slot}
 use Rattle.opcode.specs.Kind.{Kind, i32, i64, v128, bytesUsed}
-use Rattle.machine.specs.Value.{Value, I32, I64, V128, kindOf, InRange, AllInRange, bytesOf, allBytes, valueOf}
+use Rattle.machine.specs.Value.{Value, I32, I64, V128, kindOf, InRange, AllInRange, bytesOf, allBytes}
 use Rattle.machine.proofs.Laws.Rep.{sixteen-bytes}
 use Rattle.run.specs.Run.{Holds, Slots}
 use Rattle.run.specs.Inner.Steps.{Zeros}
@@ -51,6 +51,12 @@ small u bs h b zs =
     let low = number-lt (take u bs) (bytes-take u bs b) in
     let all = sym (ap number (take-append-drop u bs)) ∙ number-append (take u bs) (drop u bs) ∙ ap (λ (n : ℕ). n * 2 ^ (8 * length (take u bs)) + number (take u bs)) none in
     subst (λ (n : ℕ). number bs < 2 ^ (8 * n)) front (omega (arith, all, low))
+
+-- the value of a kind whose sixteen bytes these are
+abbrev valueOf : Kind → List ℕ → Value
+valueOf i32 bs = I32 (number bs)
+valueOf i64 bs = I64 (number bs)
+valueOf v128 bs = V128 bs
 
 pub record Fits (k : Kind) (bs : List ℕ) : Type 0 where
   pub range : InRange (valueOf k bs)

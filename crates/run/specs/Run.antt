@@ -18,7 +18,7 @@ pub record Holds (ks : List Kind) (args : List ℕ) (vs : List Value) : Type 0 w
   pub range : AllInRange vs
   pub bytes : args ≡ allBytes vs
 
--- of sixteen bytes for each
+-- a buffer of sixteen bytes for each of these kinds
 abbrev pub Slots : List Kind → List ℕ → Type 0
 Slots ks bs = length bs ≡ slot * length ks
 

@@ -56,7 +56,7 @@ pub(crate) fn locals_of(args: &[u8], count: usize) -> Locals
     requires { ⌜ length (now args) ≤ localBytes ⌝ }
     ensures { λ r. ⌜ (r .bytes ≡ stored (replicate localBytes 0) 0 (now (args .entry))) × (r .count ≡ count) ⌝ }
 {
-    let mut bytes = [0u8; 512];
+    let mut bytes = [0u8; limits::LOCAL_BYTES];
     let mut k: usize = 0;
     while k < args.len() {
         bytes[k] = args[k];

@@ -9,12 +9,12 @@ use card::Answer;
 
 // The operand stack: slots of which the lowest `depth` hold values.
 pub(crate) struct Stack {
-    pub bytes: [u8; 1024],
+    pub bytes: [u8; limits::STACK_BYTES],
     pub depth: usize,
 }
 
 pub(crate) struct Locals {
-    pub bytes: [u8; 512],
+    pub bytes: [u8; limits::LOCAL_BYTES],
     pub count: usize,
 }
 

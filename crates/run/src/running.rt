@@ -23,7 +23,7 @@ pub(crate) fn drive(
 {
     let count = strip[5] as usize + strip[6] as usize;
     let mut stack = Stack {
-        bytes: [0u8; 1024],
+        bytes: [0u8; limits::STACK_BYTES],
         depth: 0,
     };
     let mut locals = locals_of(args, count);
@@ -68,9 +68,9 @@ pub(crate) fn drive(
 fn exec(
     id: u32,
     i: Instr,
-    stack: &mut [u8; 1024],
+    stack: &mut [u8; limits::STACK_BYTES],
     depth: usize,
-    locals: &mut [u8; 512],
+    locals: &mut [u8; limits::LOCAL_BYTES],
     mem: &mut [u8],
 ) -> usize
     requires { ⌜ Apt id i (now stack) depth (now locals) (now mem) ⌝ }

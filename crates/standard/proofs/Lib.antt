@@ -1,8 +1,7 @@
--- For those who call: where a run begins, steps that compose, a turn of the machine and what it leaves, never stuck, stuck where a rule is broken.
+-- For those who call: where a run begins, steps that compose, a turn of the machine, never stuck, stuck where a rule is broken.
 pub mod Begin
 pub mod Along
 pub mod Turn
-pub mod After
 pub mod Never
 pub mod Stuck
 -- What these lean on.

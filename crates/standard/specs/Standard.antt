@@ -1,4 +1,4 @@
--- The standard's machine over a whole strip (Core 2.0, 4.4): it reads an instruction, does it, and goes on behind it. It reads no rule; what it has of the
+-- The standard's machine over a whole strip (Core 2.0, 4.4): it reads an instruction, does it, and goes on after it. It reads no rule; what it has of the
 -- header is where the instructions start, the kinds of the locals at the beginning and those of the results at `end`.
 use Prim.Native.Nat.{ℕ, zero, suc, _+_}
 use mathlib.Core.List.{List, [], _++_, map}
@@ -27,7 +27,7 @@ pub data Stage : Type 0 where
   trapped : ℕ → ℕ → Stage  -- an access past the memory's end: its first address, its size
   halted : Stage  -- stuck
 
--- behind an instruction of n bytes
+-- after an instruction of n bytes
 abbrev pub behind : Config → ℕ → Outcome → Stage
 behind c n (goes σ) = going (record { place = c .place + n; state = σ })
 behind c n (done vs) = ended vs (c .state .memory)

@@ -8,8 +8,7 @@ use lib.ListN.{length, drop}
 use Rattle.card.specs.Card.{DONE, OPCODE, FLOAT, ALIGN, SMALL}
 use Rattle.leb128.specs.Shortest.{bytesOf}
 use Rattle.opcode.specs.Table.{Row, carried, float, unassigned, PREFIX, rowAt}
-use Rattle.opcode.specs.Immediate.{Immediates, nothing, index, word, long, memory, memoryLane, laneIndex, sixteenBytes, sixteenLanes, immediates}
-use Rattle.opcode.specs.Number.{movedBy, lanesOf}
+use Rattle.opcode.specs.Immediate.{Immediates, nothing, index, word, long, memory, memoryLane, laneIndex, sixteenBytes, sixteenLanes, immediates, movedBy, lanesOf}
 use Rattle.instr.specs.Layout.{Head, head, zeros, instr}
 use Rattle.instr.specs.Decode.{refusal, done, Item, got, no, andThen, andRead, numberItem, byteAt, laneAt, immediatesAt}
 use Rattle.instr.specs.Encode.{encoding, faultOf, answer}

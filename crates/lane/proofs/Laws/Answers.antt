@@ -1,4 +1,4 @@
--- What an index within the lanes is answered, and one past them; lanes that go over as they are. Assumes nothing.
+-- What an index within the lanes is answered, and one past them; lanes that go over as they are.
 use mathlib.Core.Path.{_≡_, sym, ap, _∙_}
 use mathlib.Core.Bool.{Bool, true, false, cond}
 use mathlib.Core.List.{List, []}

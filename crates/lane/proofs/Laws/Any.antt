@@ -1,4 +1,4 @@
--- Any bit of a vector: its number is zero where its two halves of 64 bits are. Assumes nothing.
+-- Any bit of a vector: its number is zero where its two halves of 64 bits are.
 use mathlib.Core.Path.{_≡_, sym, ap, _∙_, subst}
 use mathlib.Core.Bool.{Bool, not}
 use mathlib.Core.List.{List}

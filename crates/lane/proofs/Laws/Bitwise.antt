@@ -1,4 +1,4 @@
--- Bitwise operations of 128-bit numbers, byte by byte. Assumes nothing.
+-- Bitwise operations of 128-bit numbers, byte by byte.
 use mathlib.Core.Path.{_≡_, sym, ap, ap₂, _∙_, subst}
 use Prim.Native.Nat.{ℕ, zero, suc, _+_, _*_, _-_, _/_, _%_, _^_, _≤_, _<_}
 use native.Mathlib.Nat.{add-mul, mod-lt, mod-eq-of-lt}

@@ -1,4 +1,4 @@
--- A vector made of its lanes: its lanes are those, every vector is made so, and it can be written lane by lane. Assumes nothing.
+-- A vector made of its lanes: its lanes are those, every vector is made so, and it can be written lane by lane.
 use mathlib.Core.Path.{_≡_, refl, sym, ap, ap₂, _∙_, subst}
 use mathlib.Core.List.{List, [], _∷_, _++_, append-assoc}
 use mathlib.Core.Logic.{_⊎_, inl, inr}

@@ -1,4 +1,4 @@
--- Lanes: a lane of one byte is the byte, a lane of twice the width is two, and the lanes of two vectors one after the other. Assumes nothing.
+-- Lanes: a lane of one byte is the byte, a lane of twice the width is two, and the lanes of two vectors one after the other.
 use mathlib.Core.Path.{_≡_, sym, ap, ap₂, _∙_, subst}
 use mathlib.Core.List.{List, [], _∷_, _++_}
 use Prim.Native.Nat.{ℕ, zero, suc, _+_, _*_, _-_, _/_, _%_, _^_, _≤_, _<_}

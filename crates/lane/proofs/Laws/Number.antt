@@ -1,4 +1,4 @@
--- Bytes and the number that they are: appending, splitting, and the fields of k bits that lanes are. Assumes nothing.
+-- Bytes and the number that they are: appending, splitting, and the fields of k bits that lanes are.
 use mathlib.Core.Path.{_≡_, refl, sym, ap, ap₂, _∙_, subst}
 use mathlib.Core.List.{List, [], _∷_, _++_}
 use Prim.Native.Nat.{ℕ, zero, suc, _+_, _*_, _-_, _/_, _%_, _^_, _≤_, _<_}

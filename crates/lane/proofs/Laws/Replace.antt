@@ -1,4 +1,4 @@
--- One lane put into a vector: the others stay. Assumes nothing.
+-- One lane put into a vector: the others stay.
 use mathlib.Core.Path.{_≡_, refl, sym, ap, ap₂, _∙_, subst}
 use mathlib.Core.Bool.{Bool, true, false, cond}
 use mathlib.Core.List.{List, _++_}

@@ -1,4 +1,4 @@
--- Saturation: a clamped integer that is in range, and the unsigned sums and differences. Assumes nothing.
+-- Saturation: a clamped integer that is in range, and the unsigned sums and differences.
 use mathlib.Core.Path.{_≡_, refl, sym, ap, ap₂, _∙_, subst}
 use mathlib.Core.Bool.{Bool, true, false, cond}
 use Prim.Native.Nat.{ℕ, zero, suc, _-_, _^_, _≤_, _<_, zero-le}

@@ -1,4 +1,4 @@
--- A match on a number: what an arm tells, and what is left when no arm took it. Assumes nothing.
+-- A match on a number: what an arm tells, and what is left when no arm took it.
 use mathlib.Core.Path.{_≡_, sym, ap, _∙_}
 use Prim.Native.Nat.{ℕ, zero, suc, _≤_, zero-le}
 use lib.Arith.{lt-of-le-ne}

@@ -1,4 +1,4 @@
--- The two's complement reading, over the width w: what the code computes for it and for its inverse. Assumes nothing.
+-- The two's complement reading, over the width w: what the code computes for it and for its inverse.
 use mathlib.Core.Path.{_≡_, refl, sym, ap, ap₂, _∙_, subst, subst₂}
 use mathlib.Core.Logic.{_⊎_, inl, inr}
 use mathlib.Core.Bool.{Bool, true, false, cond}
@@ -25,9 +25,6 @@ flip-pos (suc n) = ap (λ (m : ℕ). negsuc (suc m)) (zero-add n)
 -- a difference of two naturals, by the order
 pub sub-ge : (a b : ℕ) → b ≤ a → subℕ a b ≡ pos (a - b)
 sub-ge a b h = ap (λ (t : Bool). cond t (negsuc (b - suc a)) (pos (a - b))) (le-ltb a b h)
-
-pub sub-lt : (a b : ℕ) → a < b → subℕ a b ≡ negsuc (b - suc a)
-sub-lt a b h = ap (λ (t : Bool). cond t (negsuc (b - suc a)) (pos (a - b))) (lt-ltb a b h)
 
 pub flip-neg : (n : ℕ) → negsuc 0 -ℤ negsuc n ≡ pos n
 flip-neg n = sub-ge (suc n) 1 (omega arith) ∙ ap pos (omega arith)

@@ -1,4 +1,4 @@
--- For callers: a vector is given by its lanes, every operation gives sixteen bytes, and every scalar has its bound. Assumes nothing.
+-- For callers: a vector is given by its lanes, every operation gives sixteen bytes, and every scalar has its bound.
 use mathlib.Core.Path.{_≡_, refl, sym, ap, ap₂, _∙_, subst}
 use mathlib.Core.Bool.{Bool, true, false, not, _&&_}
 use mathlib.Core.List.{List}

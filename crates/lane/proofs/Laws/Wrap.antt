@@ -1,4 +1,4 @@
--- An integer modulo 2^w: what the code computes for it. Assumes nothing.
+-- An integer modulo 2^w: what the code computes for it.
 use mathlib.Core.Path.{_≡_, refl, sym, ap, _∙_}
 use mathlib.Core.Bool.{Bool, true, false, cond}
 use Prim.Native.Nat.{ℕ, zero, suc, _+_, _*_, _-_, _/_, _%_, _^_, _≤_, _<_}

@@ -1,4 +1,4 @@
--- Copying bytes, one a turn. Assumes nothing.
+-- Copying bytes, one a turn.
 use Prim.Native.Nat.{ℕ, zero, suc, _+_, _-_, _≤_, _<_}
 use mathlib.Core.Path.{_≡_, ap, sym, _∙_}
 use mathlib.Core.List.{List, _++_}

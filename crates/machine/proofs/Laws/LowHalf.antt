@@ -1,4 +1,4 @@
--- The low half of a number is all that a lane of 32 bits or fewer takes of it. Assumes nothing.
+-- The low half of a number is all that a lane of 32 bits or fewer takes of it.
 use mathlib.Core.Path.{_≡_, ap}
 use mathlib.Core.Bool.{cond}
 use mathlib.Core.List.{List}

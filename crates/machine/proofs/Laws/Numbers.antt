@@ -1,4 +1,4 @@
--- Numbers in slots: their bytes, and the lanes that read them again. Assumes nothing.
+-- Numbers in slots: their bytes, and the lanes that read them again.
 use Prim.Native.Nat.{ℕ, _+_, _-_, _%_, _^_, _<_}
 use mathlib.Core.Path.{_≡_, refl, ap, ap₂, sym, _∙_}
 use mathlib.Core.List.{List, _++_, append-nil}

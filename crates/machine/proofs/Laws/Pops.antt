@@ -1,4 +1,4 @@
--- Popping from a stack that is held in slots: the value popped lies in the highest slot. Assumes nothing.
+-- Popping from a stack that is held in slots: the value popped lies in the highest slot.
 use Prim.Native.Nat.{ℕ, suc, _+_, _≤_, _<_}
 use mathlib.Core.Path.{_≡_, refl, sym}
 use mathlib.Core.Bool.{Bool, true, false, cond}

@@ -1,4 +1,4 @@
--- Values and bytes stay in range. Assumes nothing.
+-- Values and bytes stay in range.
 use Prim.Native.Nat.{ℕ, zero, suc, _+_, _-_, _≤_, _<_}
 use mathlib.Core.Path.{_≡_, ap, _∙_}
 use mathlib.Core.List.{List, [], _∷_, _++_}

@@ -1,4 +1,4 @@
--- How the code holds a state of the standard's machine: slots of sixteen bytes for the operand stack and the locals, and the memory as it is. Assumes nothing.
+-- How the code holds a state of the standard's machine: slots of sixteen bytes for the operand stack and the locals, and the memory as it is.
 use Prim.Native.Nat.{ℕ, suc, _+_, _*_, _-_, _^_, _%_, _/_, _≤_, _<_}
 use mathlib.Core.Path.{_≡_, refl, ap, sym, _∙_, subst}
 use mathlib.Core.List.{List, [], _∷_}

@@ -1,4 +1,4 @@
--- Bytes stored into bytes: the length stays, what was stored is there, and the rest is as it was. Assumes nothing.
+-- Bytes stored into bytes: the length stays, what was stored is there, and the rest is as it was.
 use Prim.Native.Nat.{ℕ, _+_, _-_, _≤_, _<_, min}
 use mathlib.Core.Path.{_≡_, ap, sym, _∙_}
 use mathlib.Core.List.{List, _++_, append-assoc}

@@ -1,4 +1,4 @@
--- What an instruction changes of a state that is held in slots: the stack, a local, the memory. Assumes nothing.
+-- What an instruction changes of a state that is held in slots: the stack, a local, the memory.
 use Prim.Native.Nat.{ℕ, suc, _+_, _*_, _-_, _≤_, _<_}
 use mathlib.Core.Path.{_≡_, refl, ap, sym, _∙_, subst}
 use mathlib.Core.Bool.{Bool, true, false}

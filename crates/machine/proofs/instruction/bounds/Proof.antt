@@ -4,7 +4,8 @@ use Prim.Native.Nat.{ℕ}
 use mathlib.Core.Path.{_≡_, _∙_, ap, ap₂, subst}
 use native.Mathlib.Omega.{arith}
 use lib.Dec.{T}
-use Rattle.opcode.specs.Number.{rowOf, movedBy}
+use Rattle.opcode.specs.Immediate.{movedBy}
+use Rattle.opcode.specs.Number.{rowOf}
 use Rattle.opcode.specs.Lists.{_to_}
 use Rattle.opcode.proofs.Arms.{anyKey, missed}
 use Rattle.opcode.proofs.Classes.{row-moved-small}

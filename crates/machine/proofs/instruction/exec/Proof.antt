@@ -6,8 +6,8 @@ use native.Mathlib.Omega.{arith}
 use lib.Dec.{T}
 use lib.ListN.{length, take}
 use Rattle.lane.specs.Op.{Load, LoadLane, StoreLane, loaded, laneIn, laneOut}
-use Rattle.opcode.specs.Number.{rowOf, movedBy}
-use Rattle.opcode.specs.Immediate.{moved}
+use Rattle.opcode.specs.Number.{rowOf}
+use Rattle.opcode.specs.Immediate.{moved, movedBy}
 use Rattle.opcode.specs.Lists.{_to_}
 use Rattle.opcode.proofs.Arms.{anyKey, missed}
 use Rattle.opcode.proofs.Classes.{row-moved-small}
