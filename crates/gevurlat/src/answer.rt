@@ -19,7 +19,11 @@ fn result_count(strip: &[u8]) -> usize {
         return 0;
     }
     let r = strip[7] as usize;
-    if limits::RESULTS < r { limits::RESULTS } else { r }
+    if limits::RESULTS < r {
+        limits::RESULTS
+    } else {
+        r
+    }
 }
 
 fn run_in(strip: &[u8], mem: &mut [u8], results: &mut [u8], out: &mut [u8]) -> usize {

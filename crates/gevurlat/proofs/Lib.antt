@@ -1,0 +1,4 @@
+pub mod Decimals
+pub mod Appending
+pub mod Showing
+pub mod Reading
