@@ -2,3 +2,4 @@ pub mod Decimals
 pub mod Appending
 pub mod Showing
 pub mod Reading
+pub mod Zeros

@@ -9,9 +9,10 @@ use crate::text::show;
 const BUDGET: u32 = 1000000;
 
 // Three numbers of at most twenty digits, and a line for each of at most four results.
-pub const LONGEST: usize = 256;
+pub const LONGEST: usize = 255;
 
-pub fn answer(strip: &[u8], out: &mut [u8; LONGEST]) -> usize
+pub fn answer(strip: &[u8], out: &mut [u8]) -> usize
+    requires { ⌜ 255 ≤ length (now out) ⌝ }
     ensures { λ r. ⌜ Counts r (now (out .exit)) ⌝ }
     ensures { λ r. ⌜ Prints (now (strip .entry)) (take r (now (out .exit))) ⌝ }
 {
@@ -29,7 +30,11 @@ fn result_count(strip: &[u8]) -> usize
         return 0;
     }
     let r = strip[7] as usize;
-    if limits::RESULTS < r { limits::RESULTS } else { r }
+    if limits::RESULTS < r {
+        limits::RESULTS
+    } else {
+        r
+    }
 }
 
 fn answer_in(strip: &[u8], mem: &mut [u8], results: &mut [u8], out: &mut [u8]) -> usize
