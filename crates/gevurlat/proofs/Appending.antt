@@ -5,7 +5,7 @@ use mathlib.Core.List.{List, [], _∷_, _++_, append-assoc, append-nil}
 use native.Mathlib.Omega.{arith}
 use native.Mathlib.Numerals.{add-one}
 use lib.ListN.{length, take, drop, getD, set, length-append, length-take, length-drop, length-set}
-use lib.Seq.{length-take-le, take-suc, take-suc-set, take-length}
+use lib.Seq.{length-take-le, take-suc, take-suc-set}
 use Rattle.io.specs.Digits.{glyph}
 use Rattle.limits.specs.Limits.{slot}
 use Rattle.gevurlat.specs.Text.{newline, hexadecimal, lines}

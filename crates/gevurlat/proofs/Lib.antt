@@ -3,3 +3,4 @@ pub mod Appending
 pub mod Showing
 pub mod Reading
 pub mod Zeros
+pub mod Unique

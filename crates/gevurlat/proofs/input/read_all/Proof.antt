@@ -1,3 +1,4 @@
+-- What was read so far lies in the buffer; each turn brings some bytes more.
 use Prim.Native.Nat.{_-_, _≤_}
 use mathlib.Core.Path.{_≡_, refl, _∙_}
 use native.Mathlib.Omega.{arith}
@@ -6,9 +7,6 @@ use borrow.Author.Needs.{needs}
 use Rattle.gevurlat.proofs.Reading.{inside-bytes}
 use Rattle.gevurlat.proofs.input.read_all.Statement.{statement}
 use Rattle.gevurlat.proofs.input.read_all.Tie as tie
-use Rattle.gevurlat.proofs.input.read_all.Reads as reads
-use Rattle.gevurlat.proofs.input.read_all.Lts as lts
-use Rattle.gevurlat.proofs.input.read_on.Reads as read-on-reads
 
 abbrev Inv-loop : tie.InvT-loop
 Inv-loop buf₀ n₀ buf n = (n ≤ length buf) × (length buf ≡ length buf₀)

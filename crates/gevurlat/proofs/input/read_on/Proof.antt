@@ -1,3 +1,4 @@
+-- A read behind the n bytes leaves them.
 use borrow.Author.Needs.{needs}
 use native.Mathlib.Omega.{arith}
 use Prim.Native.Nat.{_-_}
@@ -5,10 +6,6 @@ use lib.ListN.{length, length-take, length-drop}
 use borrow.Rule.Slice.PartMut.{take-put}
 use Rattle.gevurlat.proofs.input.read_on.Statement.{statement}
 use Rattle.gevurlat.proofs.input.read_on.Tie as tie
-use Rattle.gevurlat.proofs.input.read_on.Reads as reads
-use Rattle.gevurlat.proofs.input.read_on.Lts as lts
-use Rattle.io.proofs.count.Reads as count-reads
-use Rattle.libc.proofs.read.Reads as read-reads
 
 sub-read : tie.Need-sub-read
 sub-read c = search needs

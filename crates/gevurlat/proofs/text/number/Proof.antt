@@ -1,16 +1,11 @@
+-- The digits, and the byte behind them.
 use borrow.Author.Needs.{needs}
-use mathlib.Core.Path.{_≡_}
 use native.Mathlib.Omega.{arith}
-use lib.ListN.{length, take}
+use lib.ListN.{take}
 use Rattle.gevurlat.proofs.Appending.{both-appended}
 use Rattle.gevurlat.proofs.Decimals.{twenty-digits}
 use Rattle.gevurlat.proofs.text.number.Statement.{statement}
 use Rattle.gevurlat.proofs.text.number.Tie as tie
-use Rattle.gevurlat.proofs.text.number.Reads as reads
-use Rattle.gevurlat.proofs.text.number.Lts as lts
-use Rattle.gevurlat.proofs.text.push.Reads as push-reads
-use Rattle.gevurlat.proofs.text.put.Reads as put-reads
-use Rattle.io.proofs.decimal.Reads as decimal-reads
 
 decimal-requires : tie.Need-decimal-requires
 decimal-requires c κs = search needs

@@ -1,6 +1,5 @@
 -- One store.
 use borrow.Author.Needs.{needs}
-use native.Mathlib.Omega.{arith}
 use Rattle.gevurlat.proofs.Appending.{one-appended}
 use Rattle.gevurlat.proofs.text.push.Statement.{statement}
 use Rattle.gevurlat.proofs.text.push.Tie as tie

@@ -1,10 +1,9 @@
 -- The bytes passed stand behind the text.
 use Prim.Native.Nat.{_-_}
-use mathlib.Core.Path.{refl, subst}
+use mathlib.Core.Path.{refl}
 use native.Mathlib.Omega.{arith}
 use lib.ListN.{length, take}
 use lib.Seq.{length-take-le, take-length}
-use Rattle.gevurlat.specs.Inner.Appending.{Appended}
 use Rattle.gevurlat.proofs.Appending.{Growing, begins, goes-on, ends, take-more}
 use Rattle.gevurlat.proofs.text.put.Statement.{statement}
 use Rattle.gevurlat.proofs.text.put.Tie as tie
