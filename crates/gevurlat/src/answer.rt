@@ -8,7 +8,7 @@ use crate::text::show;
 
 const BUDGET: u32 = 1000000;
 
-// Three numbers of at most twenty digits, and a line for each of at most four results.
+// Room for three numbers of at most twenty digits and a byte behind each, and for three bytes for each of the results' 64: a line of 33 for sixteen is less.
 pub const LONGEST: usize = 255;
 
 pub fn answer(strip: &[u8], out: &mut [u8]) -> usize
