@@ -1,4 +1,4 @@
--- What each public function promises leaves one answer. `Post` is the function's own contract as the checker reads it, at the
+-- What each public function promises leaves one answer. `Post` is the function's own contract as the prover reads it, at the
 -- arguments, the answer, and the arguments as they are in the end.
 use mathlib.Core.Path.{_≡_, sym, _∙_}
 use Prim.Native.Nat.{ℕ}

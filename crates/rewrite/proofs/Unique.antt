@@ -1,4 +1,4 @@
--- What `rewrite` promises leaves one answer, and one content of the output. `Post` is the function's own contract as the checker reads it.
+-- What `rewrite` promises leaves one answer, and one content of the output. `Post` is the function's own contract as the prover reads it.
 use mathlib.Core.Path.{_≡_}
 use denote.Ref.{now}
 use Rattle.rewrite.specs.declared.Rewritten.{Rewritten}
