@@ -1,5 +1,5 @@
 -- What each public function promises leaves one answer, and one content of the buffer. `Post` is the function's own contract as the
--- checker reads it: at the lifetimes, the arguments as they come in, the answer, and the arguments as they are in the end.
+-- prover reads it: at the lifetimes, the arguments as they come in, the answer, and the arguments as they are in the end.
 use Prim.Native.Nat.{ℕ}
 use mathlib.Core.Path.{_≡_, sym, _∙_}
 use denote.Ref.{now}
