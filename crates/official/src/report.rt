@@ -6,7 +6,7 @@ use crate::text::next_line;
 use card::Answer;
 use libc::STDOUT_FILENO;
 
-// The word at `at`.
+// The rest of the line at `at`.
 pub(crate) fn name(s: &[u8], at: usize) {
     if at < s.len() {
         let end = next_line(s, at) - 1;
