@@ -1,0 +1,33 @@
+/* What both interpreters answer (document 01, "Numbers on the inspector's card"), and the doors of the plain one. */
+#ifndef STRIP_H
+#define STRIP_H
+
+#include <stddef.h>
+#include <stdint.h>
+
+enum code {
+    DONE, LONG, SHORT, MARK, VERSION, COUNT, KIND, OPCODE, FLOAT, NUMBER, LANE, ALIGN, LOCAL, OPERAND, DEEP, RESULT, TRAILING,
+    ROOM = 20, ARGS, OUT, FORM,
+    TRAP = 30, BUDGET
+};
+
+enum { I32 = 0x7F, I64 = 0x7E, V128 = 0x7B };
+
+enum { FILE_MOST = 65536, MEMORY_MOST = 65536, STACK_MOST = 64, PARAMETERS_MOST = 16, LOCALS_MOST = 16, RESULTS_MOST = 4, SLOT = 16 };
+
+/* Code in bits 0-7, place in 8-31, steps in 32-63. */
+static inline uint64_t answer(unsigned code, size_t place, uint32_t steps)
+{
+    return code | (uint64_t)place << 8 | (uint64_t)steps << 32;
+}
+
+uint64_t plain_check(const uint8_t *strip, size_t strip_len);
+uint64_t plain_run(const uint8_t *strip, size_t strip_len, const uint8_t *args, size_t args_len, uint8_t *memory, size_t memory_len,
+                   uint8_t *results, size_t results_len, uint32_t budget);
+
+/* The proved ones. */
+uint64_t gevurlat_check(const uint8_t *strip, size_t strip_len);
+uint64_t gevurlat_run(const uint8_t *strip, size_t strip_len, const uint8_t *args, size_t args_len, uint8_t *memory, size_t memory_len,
+                      uint8_t *results, size_t results_len, uint32_t budget);
+
+#endif
