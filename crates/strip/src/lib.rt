@@ -1,5 +1,4 @@
 // Strips: the check, the run, the rewriter.
 pub use checker::check;
-pub use rewrite::Rewritten;
 pub use rewrite::rewrite;
 pub use run::run;
