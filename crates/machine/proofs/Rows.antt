@@ -1,7 +1,8 @@
 -- A `match` on an instruction's id with an arm for each operation of a class: an arm is right if the table has its operation at its
 -- number, and the default if no other number has an operation of the class, which antt computes.
-use mathlib.Core.Path.{_≡_, refl, sym, ap, subst, _∙_}
+use mathlib.Core.Path.{_≡_, refl, sym, ap, ap₂, subst, _∙_}
 use mathlib.Core.Bool.{cond}
+use mathlib.Core.List.{List}
 use mathlib.Core.Logic.{⊎-elim}
 use Prim.Native.Nat.{ℕ, _≤_, _<_}
 use native.Mathlib.Omega.{arith}
@@ -9,7 +10,7 @@ use lib.Dec.{T, eqb, ltb}
 use borrow.Author.Tests.{eq-eqb, le-ltb}
 use mir.Syntax.{Width, Body}
 use Rattle.lane.specs.Scalar.{Sign}
-use Rattle.lane.specs.Op.{Unop, Binop, Testop, Shiftop, Loadop, Op, Load, LoadLane, StoreLane, Splat, ExtractLane, ReplaceLane, Unary, Binary, Test, Shift}
+use Rattle.lane.specs.Op.{Unop, Binop, Testop, Shiftop, Loadop, Op, Load, LoadLane, StoreLane, Splat, ExtractLane, ReplaceLane, Unary, Binary, Test, Shift, binary}
 use Rattle.opcode.specs.Table.{Code, carried, vector, does}
 use Rattle.opcode.specs.Number.{rowOf, groupOf, groupOfOp}
 use Rattle.opcode.proofs.Every.{below-or-past}
@@ -112,6 +113,10 @@ module _ {X : Type 0} (K : Class X) (P : X → Type 0) where
 
   pub past-arms : (b : Body) (id : ℕ) → T (others (ofGroup (K .number) 0) 0 (arms b) 512) → Missed (Unit {0}) (arms b) id → Right id
   past-arms b id t m = past-from b 0 id t m (omega arith)
+
+-- the arm of an operation on two vectors, each from its place
+pub in-binary-arm : {o : Binop} {k id : ℕ} {a b v x y : List ℕ} → id ≡ k → rowOf k ≡ does (Binary o) → a ≡ x → b ≡ y → v ≡ binary o a b → Right binaries (λ o′. v ≡ binary o′ x y) id
+in-binary-arm {o} {v = v} {x = x} {y = y} at row left right p = in-arm binaries (λ o′. v ≡ binary o′ x y) at row (p ∙ ap₂ (binary o) left right)
 
 -- the same of a class of two arguments
 module _ (P : Sign → Width → Type 0) where

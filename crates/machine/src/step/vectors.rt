@@ -28,9 +28,7 @@ pub(crate) fn binary(id: u32, stack: &mut [u8], depth: usize)
     requires { ⌜ (2 ≤ depth) × (depth ≤ stackLimit) × (length (now stack) ≡ stackBytes) ⌝ }
     ensures { λ r. ⌜ ((o : Binop) → rowOf id ≡ does (Binary o) → now (stack .exit) ≡ putSlot (now (stack .entry)) (depth - 2) (binary o (topOf (now (stack .entry)) depth 2) (topOf (now (stack .entry)) depth 1))) ⌝ }
 {
-    let b = slot::top(stack, depth, 1);
-    let a = slot::top(stack, depth, 2);
-    slot::put(stack, depth - 2, vector::binary::binary(id, a, b));
+    slot::put(stack, depth - 2, vector::binary::binary(id, stack, depth));
 }
 
 // The mask is on top.
