@@ -2,7 +2,6 @@
 -- number, and the default if no other number has an operation of the class, which antt computes.
 use mathlib.Core.Path.{_≡_, refl, sym, ap, ap₂, subst, _∙_}
 use mathlib.Core.Bool.{cond}
-use mathlib.Core.List.{List}
 use mathlib.Core.Logic.{⊎-elim}
 use Prim.Native.Nat.{ℕ, _≤_, _<_}
 use native.Mathlib.Omega.{arith}
@@ -10,7 +9,7 @@ use lib.Dec.{T, eqb, ltb}
 use borrow.Author.Tests.{eq-eqb, le-ltb}
 use mir.Syntax.{Width, Body}
 use Rattle.lane.specs.Scalar.{Sign}
-use Rattle.lane.specs.Op.{Unop, Binop, Testop, Shiftop, Loadop, Op, Load, LoadLane, StoreLane, Splat, ExtractLane, ReplaceLane, Unary, Binary, Test, Shift, binary}
+use Rattle.lane.specs.Op.{Unop, Binop, Testop, Shiftop, Loadop, Op, Load, LoadLane, StoreLane, Splat, ExtractLane, ReplaceLane, Unary, Binary, Test, Shift}
 use Rattle.opcode.specs.Table.{Code, carried, vector, does}
 use Rattle.opcode.specs.Number.{rowOf, groupOf, groupOfOp}
 use Rattle.opcode.proofs.Every.{below-or-past}
@@ -114,9 +113,14 @@ module _ {X : Type 0} (K : Class X) (P : X → Type 0) where
   pub past-arms : (b : Body) (id : ℕ) → T (others (ofGroup (K .number) 0) 0 (arms b) 512) → Missed (Unit {0}) (arms b) id → Right id
   past-arms b id t m = past-from b 0 id t m (omega arith)
 
--- the arm of an operation on two vectors, each from its place
-pub in-binary-arm : {o : Binop} {k id : ℕ} {a b v x y : List ℕ} → id ≡ k → rowOf k ≡ does (Binary o) → a ≡ x → b ≡ y → v ≡ binary o a b → Right binaries (λ o′. v ≡ binary o′ x y) id
-in-binary-arm {o} {v = v} {x = x} {y = y} at row left right p = in-arm binaries (λ o′. v ≡ binary o′ x y) at row (p ∙ ap₂ (binary o) left right)
+-- an arm that reads what the operation is of: one value, or two
+module _ {X A C : Type 0} (K : Class X) (f : X → A → C) where
+  pub on-one : {x : X} {k id : ℕ} {a b : A} {v : C} → id ≡ k → rowOf k ≡ does (K .op x) → a ≡ b → v ≡ f x a → Right K (λ y. v ≡ f y b) id
+  on-one {x} {b = b} {v = v} at row read p = in-arm K (λ y. v ≡ f y b) at row (p ∙ ap (f x) read)
+
+module _ {X A B C : Type 0} (K : Class X) (f : X → A → B → C) where
+  pub on-two : {x : X} {k id : ℕ} {a c : A} {b d : B} {v : C} → id ≡ k → rowOf k ≡ does (K .op x) → a ≡ c → b ≡ d → v ≡ f x a b → Right K (λ y. v ≡ f y c d) id
+  on-two {x} {c = c} {d = d} {v = v} at row left right p = in-arm K (λ y. v ≡ f y c d) at row (p ∙ ap₂ (f x) left right)
 
 -- the same of a class of two arguments
 module _ (P : Sign → Width → Type 0) where

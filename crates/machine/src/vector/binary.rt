@@ -1,4 +1,4 @@
-// The operations on two vectors. Each arm reads them for itself: read before the `match`, they would reach the arms byte by byte.
+// The operations on two vectors.
 ghost use mathlib.Core.Path.{_≡_};
 ghost use Prim.Native.Nat.{_≤_, _<_};
 ghost use Rattle.lane.specs.Op.{Binop, Binary, binary};
