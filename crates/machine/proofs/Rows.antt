@@ -1,6 +1,6 @@
 -- A `match` on an instruction's id with an arm for each operation of a class: an arm is right if the table has its operation at its
 -- number, and the default if no other number has an operation of the class, which antt computes.
-use mathlib.Core.Path.{_≡_, refl, sym, ap, subst, _∙_}
+use mathlib.Core.Path.{_≡_, refl, sym, ap, ap₂, subst, _∙_}
 use mathlib.Core.Bool.{cond}
 use mathlib.Core.Logic.{⊎-elim}
 use Prim.Native.Nat.{ℕ, _≤_, _<_}
@@ -112,6 +112,15 @@ module _ {X : Type 0} (K : Class X) (P : X → Type 0) where
 
   pub past-arms : (b : Body) (id : ℕ) → T (others (ofGroup (K .number) 0) 0 (arms b) 512) → Missed (Unit {0}) (arms b) id → Right id
   past-arms b id t m = past-from b 0 id t m (omega arith)
+
+-- an arm that reads what the operation is of: one value, or two
+module _ {X A C : Type 0} (K : Class X) (f : X → A → C) where
+  pub on-one : {x : X} {k id : ℕ} {a b : A} {v : C} → id ≡ k → rowOf k ≡ does (K .op x) → a ≡ b → v ≡ f x a → Right K (λ y. v ≡ f y b) id
+  on-one {x} {b = b} {v = v} at row read p = in-arm K (λ y. v ≡ f y b) at row (p ∙ ap (f x) read)
+
+module _ {X A B C : Type 0} (K : Class X) (f : X → A → B → C) where
+  pub on-two : {x : X} {k id : ℕ} {a c : A} {b d : B} {v : C} → id ≡ k → rowOf k ≡ does (K .op x) → a ≡ c → b ≡ d → v ≡ f x a b → Right K (λ y. v ≡ f y c d) id
+  on-two {x} {c = c} {d = d} {v = v} at row left right p = in-arm K (λ y. v ≡ f y c d) at row (p ∙ ap₂ (f x) left right)
 
 -- the same of a class of two arguments
 module _ (P : Sign → Width → Type 0) where

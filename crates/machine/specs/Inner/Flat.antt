@@ -1,13 +1,14 @@
 -- Inner: the state as the code holds it, and one instruction over that. The operand stack and the locals are slots of sixteen bytes.
-use Prim.Native.Nat.{ℕ, _+_, _*_, _-_}
+use Prim.Native.Nat.{ℕ, _+_, _*_, _-_, _≤_}
+use mathlib.Core.Path.{_≡_}
 use mathlib.Core.List.{List}
-use lib.ListN.{take}
+use lib.ListN.{length, take}
 use mir.Syntax.{Width, w8, w16, w32, w64, w128}
 use Rattle.lane.specs.Shape.{i32x4, i64x2}
 use Rattle.lane.specs.Vector.{lane, le}
 use Rattle.lane.specs.Scalar.{iadd, isub}
 use Rattle.lane.specs.Op.{Op, Load, LoadLane, Store, StoreLane, Const, Shuffle, Splat, ExtractLane, ReplaceLane, Unary, Binary, Bitselect, Test, Shift, unary, binary, bitselect, test, shift, splat, extracted, replaced, shuffled, loaded, laneIn, laneOut}
-use Rattle.limits.specs.Limits.{slot}
+use Rattle.limits.specs.Limits.{slot, stackLimit, stackBytes}
 use Rattle.opcode.specs.Table.{End, Drop, LocalGet, LocalSet, LocalTee, I32Const, I64Const, I32Add, I32Sub, Plain, Code, plain, vector}
 use Rattle.opcode.specs.Immediate.{moved}
 use Rattle.instr.specs.declared.Instr.{Instr}
@@ -22,6 +23,10 @@ putSlot bs n v = stored bs (slot * n) v
 -- of d values, the j-th from the top
 abbrev pub topOf : List ℕ → ℕ → ℕ → List ℕ
 topOf st d j = slotAt st (d - j)
+
+-- a stack of d values, with n there to take
+abbrev pub Holds : ℕ → List ℕ → ℕ → Type 0
+Holds n st d = (n ≤ d) × (d ≤ stackLimit) × (length st ≡ stackBytes)
 
 -- the scalar in a slot
 abbrev pub low32 : List ℕ → ℕ

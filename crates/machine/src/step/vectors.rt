@@ -20,17 +20,14 @@ pub(crate) fn unary(id: u32, stack: &mut [u8], depth: usize)
     requires { ⌜ (1 ≤ depth) × (depth ≤ stackLimit) × (length (now stack) ≡ stackBytes) ⌝ }
     ensures { λ r. ⌜ ((o : Unop) → rowOf id ≡ does (Unary o) → now (stack .exit) ≡ putSlot (now (stack .entry)) (depth - 1) (unary o (topOf (now (stack .entry)) depth 1))) ⌝ }
 {
-    let a = slot::top(stack, depth, 1);
-    slot::put(stack, depth - 1, vector::unary::unary(id, a));
+    slot::put(stack, depth - 1, vector::unary::unary(id, stack, depth));
 }
 
 pub(crate) fn binary(id: u32, stack: &mut [u8], depth: usize)
     requires { ⌜ (2 ≤ depth) × (depth ≤ stackLimit) × (length (now stack) ≡ stackBytes) ⌝ }
     ensures { λ r. ⌜ ((o : Binop) → rowOf id ≡ does (Binary o) → now (stack .exit) ≡ putSlot (now (stack .entry)) (depth - 2) (binary o (topOf (now (stack .entry)) depth 2) (topOf (now (stack .entry)) depth 1))) ⌝ }
 {
-    let b = slot::top(stack, depth, 1);
-    let a = slot::top(stack, depth, 2);
-    slot::put(stack, depth - 2, vector::binary::binary(id, a, b));
+    slot::put(stack, depth - 2, vector::binary::binary(id, stack, depth));
 }
 
 // The mask is on top.
@@ -57,11 +54,10 @@ pub(crate) fn test(id: u32, stack: &mut [u8], depth: usize)
     requires { ⌜ (1 ≤ depth) × (depth ≤ stackLimit) × (length (now stack) ≡ stackBytes) ⌝ }
     ensures { λ r. ⌜ ((o : Testop) → rowOf id ≡ does (Test o) → now (stack .exit) ≡ putSlot (now (stack .entry)) (depth - 1) (le 16 (test o (topOf (now (stack .entry)) depth 1)))) ⌝ }
 {
-    let a = slot::top(stack, depth, 1);
     slot::put(
         stack,
         depth - 1,
-        slot::of_number(vector::unary::test(id, a) as u64),
+        slot::of_number(vector::unary::test(id, stack, depth) as u64),
     );
 }
 
@@ -69,9 +65,7 @@ pub(crate) fn shift(id: u32, stack: &mut [u8], depth: usize)
     requires { ⌜ (2 ≤ depth) × (depth ≤ stackLimit) × (length (now stack) ≡ stackBytes) ⌝ }
     ensures { λ r. ⌜ ((o : Shiftop) → rowOf id ≡ does (Shift o) → now (stack .exit) ≡ putSlot (now (stack .entry)) (depth - 2) (shift o (topOf (now (stack .entry)) depth 2) (low32 (topOf (now (stack .entry)) depth 1)))) ⌝ }
 {
-    let n = slot::word(slot::top(stack, depth, 1));
-    let a = slot::top(stack, depth, 2);
-    slot::put(stack, depth - 2, vector::unary::shift(id, a, n));
+    slot::put(stack, depth - 2, vector::unary::shift(id, stack, depth));
 }
 
 pub(crate) fn splat(id: u32, stack: &mut [u8], depth: usize)

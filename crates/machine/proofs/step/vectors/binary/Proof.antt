@@ -1,17 +1,15 @@
 -- The second operand is on top.
 use borrow.Author.Needs.{needs}
-use mathlib.Core.Path.{_∙_, ap, ap₂}
+use mathlib.Core.Path.{_∙_, ap}
 use Prim.Native.Nat.{_-_}
-use Rattle.lane.specs.Op.{binary}
 use Rattle.machine.specs.Inner.Flat.{putSlot}
 use Rattle.machine.proofs.step.vectors.binary.Statement.{statement}
 use Rattle.machine.proofs.step.vectors.binary.Tie as tie
 
 returns : tie.Need-returns
 returns c o row =
-    let a = c .before .before .before .before .before .before .before .before .before .before .args in let s = a .stack .now in let d = a .depth in
-    c .before .before .put .ensures ∙
-    ap (putSlot s (d - 2)) (c .before .before .before .binary .ensures o row ∙ ap₂ (binary o) (c .before .before .before .before .before .top2 .ensures) (c .before .before .before .before .before .before .before .top .ensures))
+    let a = c .before .before .before .before .before .before .before .args in let s = a .stack .now in let d = a .depth in
+    c .before .before .put .ensures ∙ ap (putSlot s (d - 2)) (c .before .before .before .binary .ensures o row)
 
 pub binary-spec : {M : Type 1} → statement M
-binary-spec = tie.close (tie.spec (λ c κs. search needs) (λ c κs. search needs) (λ c. search needs) (λ c κs. search needs) (λ c κs. search needs) (λ c. search needs) returns)
+binary-spec = tie.close (tie.spec (λ c. search needs) (λ c κs. search needs) (λ c κs. search needs) (λ c. search needs) returns)

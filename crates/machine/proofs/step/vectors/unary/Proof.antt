@@ -2,15 +2,14 @@
 use borrow.Author.Needs.{needs}
 use mathlib.Core.Path.{_∙_, ap}
 use Prim.Native.Nat.{_-_}
-use Rattle.lane.specs.Op.{unary}
 use Rattle.machine.specs.Inner.Flat.{putSlot}
 use Rattle.machine.proofs.step.vectors.unary.Statement.{statement}
 use Rattle.machine.proofs.step.vectors.unary.Tie as tie
 
 returns : tie.Need-returns
 returns c o row =
-    let a = c .before .before .before .before .before .before .before .before .args in let s = a .stack .now in let d = a .depth in
-    c .before .before .put .ensures ∙ ap (putSlot s (d - 1)) (c .before .before .before .unary .ensures o row ∙ ap (unary o) (c .before .before .before .before .before .top .ensures))
+    let a = c .before .before .before .before .before .before .before .args in let s = a .stack .now in let d = a .depth in
+    c .before .before .put .ensures ∙ ap (putSlot s (d - 1)) (c .before .before .before .unary .ensures o row)
 
 pub unary-spec : {M : Type 1} → statement M
-unary-spec = tie.close (tie.spec (λ c κs. search needs) (λ c. search needs) (λ c κs. search needs) (λ c κs. search needs) (λ c. search needs) returns)
+unary-spec = tie.close (tie.spec (λ c. search needs) (λ c κs. search needs) (λ c κs. search needs) (λ c. search needs) returns)

@@ -1,4 +1,5 @@
 -- Each group in its range.
+use borrow.Author.Needs.{needs}
 use native.Mathlib.Omega.{arith}
 use Rattle.machine.proofs.vector.binary.binary.Statement.{statement}
 use Rattle.machine.proofs.vector.binary.binary.Tie as tie
@@ -7,7 +8,7 @@ pub binary-spec : {M : Type 1} → statement M
 binary-spec =
     tie.close
     (tie.spec
-    (λ c κs. tt) (λ c κs. tt) (λ c κs. tt) (λ c κs. tt) (λ c κs. tt) (λ c κs. tt)
+    (λ c κs. search needs) (λ c κs. search needs) (λ c κs. search needs) (λ c κs. search needs) (λ c κs. search needs) (λ c κs. search needs)
     (λ c. c .compare .ensures (omega arith))
     (λ c. c .bits .ensures (omega arith) (omega arith))
     (λ c. c .arith8 .ensures (omega arith) (omega arith))
