@@ -13,11 +13,13 @@ use Rattle.leb128.specs.Bytes.{bytes}
 use Rattle.opcode.specs.Table.{Row, carried, float, unassigned, PREFIX, rowAt}
 use Rattle.opcode.specs.Immediate.{Immediates, nothing, index, word, long, memory, memoryLane, laneIndex, sixteenBytes, sixteenLanes, immediates, movedBy, lanesOf}
 use Rattle.opcode.specs.Number.{classNumber, FLOAT, classOf, idOf, rowOf}
+use Rattle.opcode.proofs.Id.{row-of-id}
+use Rattle.opcode.proofs.Inverse.{row-once}
 use Rattle.opcode.proofs.Classes.{class-carried, class-float}
 use Rattle.instr.specs.Layout.{Head, head}
 use Rattle.instr.specs.Decode.{refusal, Item, got, no, andThen, andRead, byteAt, laneAt, lanesAt, sixteenAt, immediatesAt}
 use Rattle.instr.specs.Scan.{scanOf}
-use Rattle.instr.specs.Inner.Version.{numberBy, exponentBy, immediatesBy, idBy, rowBy, bodyBy, opcodeBy, decodeBy}
+use Rattle.instr.specs.Inner.Version.{numberBy, exponentBy, immediatesBy, rowBy, bodyBy, opcodeBy, decodeBy}
 use Rattle.instr.specs.Inner.Over.{over, overMemory, overClass, overRow}
 use Rattle.instr.specs.declared.Decoded.{Decoded}
 use Rattle.instr.specs.declared.Scanned.{Scanned}
@@ -185,28 +187,30 @@ module _ (at : ℕ) (h : Head) where
     scan-row float = refl
     scan-row unassigned = refl
 
--- where the version does not assign the number nothing of the id is told
-scan-either : (ver : Version) (s : List ℕ) (at p first n : ℕ) (t : Bool)
-    → answered at (cond t 512 (idOf first n)) (overRow ver (cond t unassigned (rowAt first n)) s at p)
-    ≡ scanOf (bodyBy ver (cond t unassigned (rowAt first n)) s at p (head first n))
-unfolding bodyBy overRow
-scan-either ver s at p first n true = refl
-scan-either ver s at p first n false = sym (scan-row at (head first n) ver s p (rowAt first n))
+-- a row that is carried has one id; for another row the id is not told
+same-id : (ver : Version) (s : List ℕ) (at p id id′ : ℕ) (r : Row) → rowOf id ≡ r → rowOf id′ ≡ r
+    → answered at id (overRow ver r s at p) ≡ answered at id′ (overRow ver r s at p)
+unfolding overRow
+same-id ver s at p id id′ (carried c) e f = ap (λ (x : ℕ). answered at x (overRow ver (carried c) s at p)) (row-once e f)
+same-id ver s at p id id′ float e f = refl
+same-id ver s at p id id′ unassigned e f = refl
 
-scan-body : (ver : Version) (s : List ℕ) (at p first n : ℕ)
-    → answered at (idBy ver first n) (overRow ver (rowBy ver first n) s at p) ≡ scanOf (bodyBy ver (rowBy ver first n) s at p (head first n))
-unfolding idBy rowBy
-scan-body ver s at p first n = scan-either ver s at p first n (eqb first PREFIX && leb (ver .vectors) n)
+module _ (ver : Version) (s : List ℕ) (at p first n id : ℕ) (l : first < 256) where
+  scan-either : (t : Bool) → rowOf id ≡ cond t unassigned (rowAt first n)
+      → answered at id (overRow ver (cond t unassigned (rowAt first n)) s at p) ≡ scanOf (bodyBy ver (cond t unassigned (rowAt first n)) s at p (head first n))
+  unfolding bodyBy overRow
+  scan-either true e = refl
+  scan-either false e = same-id ver s at p id (idOf first n) (rowAt first n) e (row-of-id first n l) ∙ sym (scan-row at (head first n) ver s p (rowAt first n))
+
+  scan-body : rowOf id ≡ rowBy ver first n → answered at id (overRow ver (rowOf id) s at p) ≡ scanOf (bodyBy ver (rowBy ver first n) s at p (head first n))
+  unfolding rowBy
+  scan-body e =
+      ap (λ (r : Row). answered at id (overRow ver r s at p)) e ∙ scan-either (eqb first PREFIX && leb (ver .vectors) n) e
 
 -- a byte, a number and the rest were read
-pub scanned : (ver : Version) (s : List ℕ) (at : ℕ) → at < length s → (n p : ℕ) → opcodeBy ver (getD s at 0) s (at + 1) ≡ got n p
-    → (id : ℕ) → (rowOf id ≡ rowBy ver (getD s at 0) n) × (id ≡ idBy ver (getD s at 0) n) → (i : Item) → overRow ver (rowOf id) s at p ≡ i
-    → answered at id i ≡ scanOf (decodeBy ver s at)
+pub scanned : (ver : Version) (s : List ℕ) (at : ℕ) → at < length s → bytes s → (n p : ℕ) → opcodeBy ver (getD s at 0) s (at + 1) ≡ got n p
+    → (id : ℕ) → rowOf id ≡ rowBy ver (getD s at 0) n → (i : Item) → overRow ver (rowOf id) s at p ≡ i → answered at id i ≡ scanOf (decodeBy ver s at)
 unfolding decodeBy
-scanned ver s at l n p o id e i t =
+scanned ver s at l b n p o id e i t =
     let d : decodeBy ver s at ≡ bodyBy ver (rowBy ver (getD s at 0) n) s at p (head (getD s at 0) n) = rw (byte-there s at l, o) in
-    sym (ap (answered at id) t)
-    ∙ ap (λ (r : Row). answered at id (overRow ver r s at p)) (e .0)
-    ∙ ap (λ (x : ℕ). answered at x (overRow ver (rowBy ver (getD s at 0) n) s at p)) (e .1)
-    ∙ scan-body ver s at p (getD s at 0) n
-    ∙ ap scanOf (sym d)
+    sym (ap (answered at id) t) ∙ scan-body ver s at p (getD s at 0) n id (b at) e ∙ ap scanOf (sym d)

@@ -13,13 +13,13 @@ use Rattle.leb128.specs.Number.{numberAt}
 use Rattle.leb128.specs.declared.read.Leb.the-variants.{Val}
 use Rattle.opcode.specs.Table.{Row, carried, float, unassigned, PREFIX, rowAt}
 use Rattle.opcode.specs.Immediate.{Immediates, nothing, index, word, long, memory, memoryLane, laneIndex, sixteenBytes, sixteenLanes, immediates, movedBy, lanesOf}
-use Rattle.opcode.specs.Number.{classOf, idOf, rowOf}
+use Rattle.opcode.specs.Number.{classOf, rowOf}
 use Rattle.opcode.proofs.Id.{Way, byte, number, beyond, way}
 use Rattle.opcode.proofs.Rows.{vector-beyond}
 use Rattle.instr.specs.Layout.{rowIn, Head, head}
 use Rattle.instr.specs.Decode.{Item, got, no, andThen, itemOf, numberItem, byteAt, exponentAt, immediatesAt, bodyOf, opcodeNumber, decodeAt}
 use Rattle.instr.specs.Encode.{faultOf, fault, encoded, encodedIn}
-use Rattle.instr.specs.Inner.Version.{one, judged, numberBy, exponentBy, immediatesBy, idBy, rowBy, bodyBy, opcodeBy, decodeBy, faultBy, encodedBy, encodedInBy}
+use Rattle.instr.specs.Inner.Version.{one, judged, numberBy, exponentBy, immediatesBy, rowBy, bodyBy, opcodeBy, decodeBy, faultBy, encodedBy, encodedInBy}
 use Rattle.instr.specs.declared.Instr.{Instr}
 use Rattle.instr.specs.declared.Decoded.{Decoded}
 use Rattle.instr.specs.declared.version.Version.{Version}
@@ -30,25 +30,13 @@ module _ (ver : Version) (first n : ℕ) where
   unfolding rowBy
   row-refused e t = rw (eq-eqb first PREFIX e, t)
 
-  pub id-refused : first ≡ PREFIX → leb (ver .vectors) n ≡ true → 512 ≡ idBy ver first n
-  unfolding idBy
-  id-refused e t = rw (eq-eqb first PREFIX e, t)
-
   pub row-assigned : first ≡ PREFIX → leb (ver .vectors) n ≡ false → rowBy ver first n ≡ rowAt first n
   unfolding rowBy
   row-assigned e t = rw (eq-eqb first PREFIX e, t)
 
-  pub id-assigned : first ≡ PREFIX → leb (ver .vectors) n ≡ false → idOf first n ≡ idBy ver first n
-  unfolding idBy
-  id-assigned e t = rw (eq-eqb first PREFIX e, t)
-
   pub row-plain : (first ≡ PREFIX → ⊥) → rowBy ver first n ≡ rowAt first n
   unfolding rowBy
   row-plain d = rw (ne-eqb first PREFIX d)
-
-  pub id-plain : (first ≡ PREFIX → ⊥) → idOf first n ≡ idBy ver first n
-  unfolding idBy
-  id-plain d = rw (ne-eqb first PREFIX d)
 
 -- an instruction with nothing wrong is one that the version assigns
 assigned : (ver : Version) (i : Instr) → faultBy ver i ≡ DONE → rowBy ver (i .first) (i .number) ≡ rowIn i

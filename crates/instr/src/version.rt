@@ -1,7 +1,7 @@
 // What versions of the format differ in for one instruction. Decoding and encoding take this record inside; the public functions pass version 1's.
 ghost use mathlib.Core.Path.{_≡_};
 ghost use Rattle.opcode.specs.Number.{rowOf};
-ghost use Rattle.instr.specs.Inner.Version.{idBy, rowBy};
+ghost use Rattle.instr.specs.Inner.Version.{rowBy};
 
 // `padded` is the code of a number that is longer than its shortest form, DONE where that is welcome; FD's numbers from `vectors` on are not assigned.
 pub(crate) struct Version {
@@ -16,7 +16,7 @@ pub(crate) const ONE: Version = Version {
 
 // The id by which the table knows an instruction, BEYOND where the version does not assign the number.
 pub(crate) fn id_by(version: Version, first: u8, number: u32) -> u32
-    ensures { λ r. ⌜ (rowOf r ≡ rowBy version first number) × (r ≡ idBy version first number) ⌝ }
+    ensures { λ r. ⌜ rowOf r ≡ rowBy version first number ⌝ }
 {
     if first == opcode::PREFIX && version.vectors <= number {
         return opcode::BEYOND;

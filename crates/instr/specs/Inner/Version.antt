@@ -7,7 +7,6 @@ use lib.Dec.{leb, eqb}
 use lib.ListN.{length, drop}
 use Rattle.card.specs.Card.{DONE, OPCODE, FLOAT, ALIGN, SMALL}
 use Rattle.leb128.specs.Shortest.{bytesOf}
-use Rattle.opcode.specs.Number.{idOf}
 use Rattle.opcode.specs.Table.{Row, carried, float, unassigned, PREFIX, rowAt}
 use Rattle.opcode.specs.Immediate.{Immediates, nothing, index, word, long, memory, memoryLane, laneIndex, sixteenBytes, sixteenLanes, immediates, movedBy, lanesOf}
 use Rattle.instr.specs.Layout.{Head, head, zeros, instr}
@@ -58,10 +57,6 @@ immediatesBy ver memoryLane m n s at p h =
 immediatesBy ver laneIndex m n s at p h = immediatesAt laneIndex m n s at p h
 immediatesBy ver sixteenBytes m n s at p h = immediatesAt sixteenBytes m n s at p h
 immediatesBy ver sixteenLanes m n s at p h = immediatesAt sixteenLanes m n s at p h
-
--- the id, 512 where the version does not assign the number after FD
-unfoldable pub idBy : Version → ℕ → ℕ → ℕ
-idBy ver first n = cond (eqb first PREFIX && leb (ver .vectors) n) 512 (idOf first n)
 
 -- the table's row, where the version assigns the number after FD
 unfoldable pub rowBy : Version → ℕ → ℕ → Row

@@ -63,55 +63,55 @@ returns : tie.Need-returns
 unfolding immediatesBy immediatesAt
 returns c =
     let at-id-by = c .before .before .before in
-    c .whole .ensures ∙ sym (body-class _ nothing (class-at _ _ _ (at-id-by .id-by .ensures .0)
+    c .whole .ensures ∙ sym (body-class _ nothing (class-at _ _ _ (at-id-by .id-by .ensures)
     (c .before .before .immediates .ensures) (c .before .match .keys1)) _ _ _ _ _)
 
 returns-2 : tie.Need-returns-2
 unfolding immediatesBy
 returns-2 c =
     let at-id-by = c .before .before .before in
-    c .with-index .ensures ∙ sym (body-class _ index (class-at _ _ _ (at-id-by .id-by .ensures .0)
+    c .with-index .ensures ∙ sym (body-class _ index (class-at _ _ _ (at-id-by .id-by .ensures)
     (c .before .before .immediates .ensures) (c .before .match .keys2)) _ _ _ _ _)
 
 returns-3 : tie.Need-returns-3
 unfolding immediatesBy
 returns-3 c =
     let at-id-by = c .before .before .before in
-    c .with-word .ensures ∙ sym (body-class _ word (class-at _ _ _ (at-id-by .id-by .ensures .0)
+    c .with-word .ensures ∙ sym (body-class _ word (class-at _ _ _ (at-id-by .id-by .ensures)
     (c .before .before .immediates .ensures) (c .before .match .keys3)) _ _ _ _ _)
 
 returns-4 : tie.Need-returns-4
 unfolding immediatesBy
 returns-4 c =
     let at-id-by = c .before .before .before in
-    c .with-long .ensures ∙ sym (body-class _ long (class-at _ _ _ (at-id-by .id-by .ensures .0)
+    c .with-long .ensures ∙ sym (body-class _ long (class-at _ _ _ (at-id-by .id-by .ensures)
     (c .before .before .immediates .ensures) (c .before .match .keys4)) _ _ _ _ _)
 
 returns-5 : tie.Need-returns-5
 returns-5 c =
     let at-id-by = c .before .before .before .before in
     let at-immediates = c .before .before .before in
-    c .with-lane .ensures ∙ body-lane _ _ _ (at-id-by .id-by .ensures .0)
+    c .with-lane .ensures ∙ body-lane _ _ _ (at-id-by .id-by .ensures)
     (at-immediates .immediates .ensures) _ _ _ _ _ _ (c .before .lanes .ensures) (c .before .before .match .keys5)
 
 returns-6 : tie.Need-returns-6
 unfolding immediatesBy immediatesAt
 returns-6 c =
     let at-id-by = c .before .before .before in
-    c .with-bytes .ensures ∙ sym (body-class _ sixteenBytes (class-at _ _ _ (at-id-by .id-by .ensures .0)
+    c .with-bytes .ensures ∙ sym (body-class _ sixteenBytes (class-at _ _ _ (at-id-by .id-by .ensures)
     (c .before .before .immediates .ensures) (c .before .match .keys6)) _ _ _ _ _)
 
 returns-7 : tie.Need-returns-7
 unfolding immediatesBy immediatesAt
 returns-7 c =
     let at-id-by = c .before .before .before in
-    c .with-lanes .ensures ∙ sym (body-class _ sixteenLanes (class-at _ _ _ (at-id-by .id-by .ensures .0)
+    c .with-lanes .ensures ∙ sym (body-class _ sixteenLanes (class-at _ _ _ (at-id-by .id-by .ensures)
     (c .before .before .immediates .ensures) (c .before .match .keys7)) _ _ _ _ _)
 
 returns-8 : tie.Need-returns-8
 returns-8 c =
     let at-id-by = c .before .before .before in
-    c .refused .ensures ∙ sym (body-float _ (class-at _ _ _ (at-id-by .id-by .ensures .0)
+    c .refused .ensures ∙ sym (body-float _ (class-at _ _ _ (at-id-by .id-by .ensures)
     (c .before .before .immediates .ensures) (c .before .match .keys8)) _ _ _ _ _)
 
 returns-9 : tie.Need-returns-9
@@ -120,7 +120,7 @@ returns-9 c =
     let at-immediates = c .before .before .before .before .before in
     let at-match = c .before .before .before .before in
     let at-if1 = c .before .before .before in
-    c .with-memory .ensures ∙ body-memory _ _ _ (at-id-by .id-by .ensures .0)
+    c .with-memory .ensures ∙ body-memory _ _ _ (at-id-by .id-by .ensures)
     (at-immediates .immediates .ensures) _ _ _ _ _ _ _ _ (c .before .before .moved .ensures) (c .before .lanes2 .ensures) refl (at-match .match .rest)
     (at-if1 .if1 .taken)
 
@@ -128,7 +128,7 @@ returns-10 : tie.Need-returns-10
 returns-10 c =
     let at-id-by = c .before .before .before .before in
     let at-immediates = c .before .before .before in
-    c .refused2 .ensures ∙ sym (body-none _ _ _ (at-id-by .id-by .ensures .0)
+    c .refused2 .ensures ∙ sym (body-none _ _ _ (at-id-by .id-by .ensures)
     (at-immediates .immediates .ensures) _ _ _ _ _ (c .before .before .match .rest) (c .before .if1 .left))
 
 pub body-spec : {M : Type 1} → statement M

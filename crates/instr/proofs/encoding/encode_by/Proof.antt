@@ -18,7 +18,7 @@ returns : tie.Need-returns
 returns c =
     let start = c .before .before .before .before in
     is-fault (start .args .i) (start .args .version) _ _
-    (fault-by (start .args .version) (start .args .i) _ _ (c .before .before .id-by .ensures .0) (c .before .fault-of .ensures)) (c .if1 .taken)
+    (fault-by (start .args .version) (start .args .i) _ _ (c .before .before .id-by .ensures) (c .before .fault-of .ensures)) (c .if1 .taken)
 
 immediates-requires : tie.Need-immediates-requires
 immediates-requires c κs = search needs
@@ -31,7 +31,7 @@ immediates-len-requires c κs =
     let start = c .before .before .before .before .before .before in
     let at-id-by = c .before .before .before .before in
     let at-fault-of = c .before .before .before in
-    class-by (start .args .version) (start .args .i) _ _ (at-id-by .id-by .ensures .0) (at-fault-of .fault-of .ensures) (c .before .before .if1 .left) _
+    class-by (start .args .version) (start .args .i) _ _ (at-id-by .id-by .ensures) (at-fault-of .fault-of .ensures) (c .before .before .if1 .left) _
     (c .before .immediates .ensures)
 
 add-n : tie.Need-add-n
@@ -44,7 +44,7 @@ returns-2 c =
     let at-fault-of = c .before .before .before .before .before in
     let at-if1 = c .before .before .before .before in
     is-small (start .args .i) (start .args .version) _
-    (sym (fault-by (start .args .version) (start .args .i) _ _ (at-id-by .id-by .ensures .0) (at-fault-of .fault-of .ensures)) ∙ at-if1 .if1 .left)
+    (sym (fault-by (start .args .version) (start .args .i) _ _ (at-id-by .id-by .ensures) (at-fault-of .fault-of .ensures)) ∙ at-if1 .if1 .left)
     (omega (arith, c .if2 .taken, encoding-length (start .args .i), c .before .before .opcode-len .ensures .0, c .before .immediates-len .ensures .0))
 
 put-opcode-requires : tie.Need-put-opcode-requires
@@ -81,7 +81,7 @@ returns-3 c =
     let at-if2 = c .before .before .before .before .before .before .before .before in
     let at-put-opcode = c .before .before .before .before .before .before in
     is-done (start .args .i) (start .args .version) (now (start .args .out))
-    (sym (fault-by (start .args .version) (start .args .i) _ _ (at-id-by .id-by .ensures .0) (at-fault-of .fault-of .ensures)) ∙ at-if1 .if1 .left)
+    (sym (fault-by (start .args .version) (start .args .i) _ _ (at-id-by .id-by .ensures) (at-fault-of .fault-of .ensures)) ∙ at-if1 .if1 .left)
     (omega (arith, at-if2 .if2 .left, encoding-length (start .args .i), at-opcode-len .opcode-len .ensures .0, at-immediates-len .immediates-len .ensures .0))
     (at-put-opcode .put-opcode .ensures) (c .before .before .put-immediates .ensures)
 

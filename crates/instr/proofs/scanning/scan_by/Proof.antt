@@ -87,13 +87,13 @@ refused-requires-3 c κs = search needs
 
 returns-2 : tie.Need-returns-2
 returns-2 c =
-    scanned _ _ _ (c .before .before .before .before .before .before .before .before .before .before .if1 .left) _ _ (sym (c .before .before .before .before .before .before .before .before .opcode-number .ensures) ∙ ap item (c .before .before .before .before .before .before .n .given .1)) _ (c .before .before .before .before .id-by .ensures) _
+    scanned _ _ _ (c .before .before .before .before .before .before .before .before .before .before .if1 .left) (λ j. c .before .before .before .before .before .before .before .before .before .before .before .shared-slice-known .given j .fits) _ _ (sym (c .before .before .before .before .before .before .before .before .opcode-number .ensures) ∙ ap item (c .before .before .before .before .before .before .n .given .1)) _ (c .before .before .before .before .id-by .ensures) _
     (sym (c .before .before .before .immediates .ensures) ∙ ap item (c .before .index .given .1))
 
 returns-3 : tie.Need-returns-3
 returns-3 c =
     c .refused2 .ensures
-    ∙ scanned _ _ _ (c .before .before .before .before .before .before .before .before .before .before .before .if1 .left) _ _ (sym (c .before .before .before .before .before .before .before .before .before .opcode-number .ensures) ∙ ap item (c .before .before .before .before .before .before .before .n .given .1)) _ (c .before .before .before .before .before .id-by .ensures) _
+    ∙ scanned _ _ _ (c .before .before .before .before .before .before .before .before .before .before .before .if1 .left) (λ j. c .before .before .before .before .before .before .before .before .before .before .before .before .shared-slice-known .given j .fits) _ _ (sym (c .before .before .before .before .before .before .before .before .before .opcode-number .ensures) ∙ ap item (c .before .before .before .before .before .before .before .n .given .1)) _ (c .before .before .before .before .before .id-by .ensures) _
     (sym (c .before .before .before .before .immediates .ensures) ∙ ap item (c .before .before .code .given .1))
 
 returns-4 : tie.Need-returns-4
