@@ -91,4 +91,27 @@ returns-10 c = sym (over-none _ _ _ _ _ _ (c .before .before .immediates .ensure
 pub immediates-spec : {M : Type 1} → statement M
 immediates-spec =
     tie.close
-    (tie.spec immediates-requires u32-at-requires s32-at-requires past-requires s64-at-requires past-requires-2 lanes-requires lane-requires bytes-requires lanes-requires-2 moved-requires lanes-requires-3 memory-requires returns returns-2 returns-3 returns-4 returns-5 returns-6 returns-7 returns-8 returns-9 returns-10)
+    (tie.spec
+    immediates-requires
+    u32-at-requires
+    s32-at-requires
+    past-requires
+    s64-at-requires
+    past-requires-2
+    lanes-requires
+    lane-requires
+    bytes-requires
+    lanes-requires-2
+    moved-requires
+    lanes-requires-3
+    memory-requires
+    returns
+    returns-2
+    returns-3
+    returns-4
+    returns-5
+    returns-6
+    returns-7
+    returns-8
+    returns-9
+    returns-10)

@@ -29,7 +29,8 @@ returns : tie.Need-returns
 unfolding overMemory
 returns c =
     let f = c .before .exponent-fits in
-    rw (exponent-bad _ _ _ _ _ _ (sym (c .before .before .before .before .before .u32-at .ensures) ∙ ap item (c .before .before .before .a .given .1)) (sym (f .ensures) ∙ not-true (f .result) (c .if1 .taken)))
+    let exponent = sym (c .before .before .before .before .before .u32-at .ensures) ∙ ap item (c .before .before .before .a .given .1) in
+    rw (exponent-bad _ _ _ _ _ _ exponent (sym (f .ensures) ∙ not-true (f .result) (c .if1 .taken)))
 
 u32-at-requires-2 : tie.Need-u32-at-requires-2
 u32-at-requires-2 c κs = search needs
@@ -50,22 +51,25 @@ returns-2 : tie.Need-returns-2
 unfolding overMemory
 returns-2 c =
     let f = c .before .before .before .before .before .before .before .exponent-fits in
-    let good = exponent-good _ _ _ _ _ _ (sym (c .before .before .before .before .before .before .before .before .before .before .before .u32-at .ensures) ∙ ap item (c .before .before .before .before .before .before .before .before .before .a .given .1)) (sym (f .ensures) ∙ not-false (f .result) (c .before .before .before .before .before .before .if1 .left)) in
-    rw (good, sym (c .before .before .before .before .before .u32-at2 .ensures) ∙ ap item (c .before .before .before .o .given .1), c .before .if2 .taken) (c .lane .ensures)
+    let exponent = sym (c .before .before .before .before .before .before .before .before .before .before .before .u32-at .ensures) ∙ ap item (c .before .before .before .before .before .before .before .before .before .a .given .1) in
+    let offset = sym (c .before .before .before .before .before .u32-at2 .ensures) ∙ ap item (c .before .before .before .o .given .1) in
+    rw (exponent-good _ _ _ _ _ _ exponent (sym (f .ensures) ∙ not-false (f .result) (c .before .before .before .before .before .before .if1 .left)), offset, c .before .if2 .taken) (c .lane .ensures)
 
 returns-3 : tie.Need-returns-3
 unfolding overMemory
 returns-3 c =
     let f = c .before .before .before .before .before .before .exponent-fits in
-    let good = exponent-good _ _ _ _ _ _ (sym (c .before .before .before .before .before .before .before .before .before .before .u32-at .ensures) ∙ ap item (c .before .before .before .before .before .before .before .before .a .given .1)) (sym (f .ensures) ∙ not-false (f .result) (c .before .before .before .before .before .if1 .left)) in
-    rw (good, sym (c .before .before .before .before .u32-at2 .ensures) ∙ ap item (c .before .before .o .given .1), c .if2 .left)
+    let exponent = sym (c .before .before .before .before .before .before .before .before .before .before .u32-at .ensures) ∙ ap item (c .before .before .before .before .before .before .before .before .a .given .1) in
+    let offset = sym (c .before .before .before .before .u32-at2 .ensures) ∙ ap item (c .before .before .o .given .1) in
+    rw (exponent-good _ _ _ _ _ _ exponent (sym (f .ensures) ∙ not-false (f .result) (c .before .before .before .before .before .if1 .left)), offset, c .if2 .left)
 
 returns-4 : tie.Need-returns-4
 unfolding overMemory
 returns-4 c =
     let f = c .before .before .before .before .before .exponent-fits in
-    let good = exponent-good _ _ _ _ _ _ (sym (c .before .before .before .before .before .before .before .before .before .u32-at .ensures) ∙ ap item (c .before .before .before .before .before .before .before .a .given .1)) (sym (f .ensures) ∙ not-false (f .result) (c .before .before .before .before .if1 .left)) in
-    rw (good, sym (c .before .before .before .u32-at2 .ensures) ∙ ap item (c .before .code .given .1))
+    let exponent = sym (c .before .before .before .before .before .before .before .before .before .u32-at .ensures) ∙ ap item (c .before .before .before .before .before .before .before .a .given .1) in
+    let offset = sym (c .before .before .before .u32-at2 .ensures) ∙ ap item (c .before .code .given .1) in
+    rw (exponent-good _ _ _ _ _ _ exponent (sym (f .ensures) ∙ not-false (f .result) (c .before .before .before .before .if1 .left)), offset)
 
 returns-5 : tie.Need-returns-5
 unfolding overMemory
@@ -75,4 +79,18 @@ returns-5 c =
 pub memory-spec : {M : Type 1} → statement M
 memory-spec =
     tie.close
-    (tie.spec u32-at-requires enum-known-a cast-exponent-fits exponent-fits-requires returns u32-at-requires-2 enum-known-o lane-requires enum-known-code enum-known-code-2 returns-2 returns-3 returns-4 returns-5)
+    (tie.spec
+    u32-at-requires
+    enum-known-a
+    cast-exponent-fits
+    exponent-fits-requires
+    returns
+    u32-at-requires-2
+    enum-known-o
+    lane-requires
+    enum-known-code
+    enum-known-code-2
+    returns-2
+    returns-3
+    returns-4
+    returns-5)

@@ -54,24 +54,20 @@ enum-known-index : tie.Need-enum-known-index
 enum-known-index c = search needs
 
 sub-t24 : tie.Need-sub-t24
-sub-t24 c = omega (
-  arith,
-  over-there _ _ _ (λ j. c .before .before .before .before .before .before .before .before .before .before .before .shared-slice-known .given j .fits) _ (omega (
-    arith,
-    opcode-there _ _ (λ j. c .before .before .before .before .before .before .before .before .before .before .before .shared-slice-known .given j .fits) _ _ _ _ (omega (arith, c .before .before .before .before .before .before .before .before .before .before .if1 .left))
-        (sym (c .before .before .before .before .before .before .before .before .opcode-number .ensures) ∙ ap item (c .before .before .before .before .before .before .n .given .1)),
-  )) _ _ _ (sym (c .before .before .before .immediates .ensures) ∙ ap item (c .before .index .given .1)),
-)
+sub-t24 c =
+    let known = c .before .before .before .before .before .before .before .before .before .before .before .shared-slice-known in
+    let number = sym (c .before .before .before .before .before .before .before .before .opcode-number .ensures) ∙ ap item (c .before .before .before .before .before .before .n .given .1) in
+    let rest = sym (c .before .before .before .immediates .ensures) ∙ ap item (c .before .index .given .1) in
+    let there = opcode-there _ _ (λ j. known .given j .fits) _ _ _ _ (omega (arith, c .before .before .before .before .before .before .before .before .before .before .if1 .left)) number in
+    omega (arith, over-there _ _ _ (λ j. known .given j .fits) _ (omega (arith, there)) _ _ _ rest)
 
 cast-t25 : tie.Need-cast-t25
-cast-t25 c = omega (
-  arith,
-  over-there _ _ _ (λ j. c .before .before .before .before .before .before .before .before .before .before .before .shared-slice-known .given j .fits) _ (omega (
-    arith,
-    opcode-there _ _ (λ j. c .before .before .before .before .before .before .before .before .before .before .before .shared-slice-known .given j .fits) _ _ _ _ (omega (arith, c .before .before .before .before .before .before .before .before .before .before .if1 .left))
-        (sym (c .before .before .before .before .before .before .before .before .opcode-number .ensures) ∙ ap item (c .before .before .before .before .before .before .n .given .1)),
-  )) _ _ _ (sym (c .before .before .before .immediates .ensures) ∙ ap item (c .before .index .given .1)),
-)
+cast-t25 c =
+    let known = c .before .before .before .before .before .before .before .before .before .before .before .shared-slice-known in
+    let number = sym (c .before .before .before .before .before .before .before .before .opcode-number .ensures) ∙ ap item (c .before .before .before .before .before .before .n .given .1) in
+    let rest = sym (c .before .before .before .immediates .ensures) ∙ ap item (c .before .index .given .1) in
+    let there = opcode-there _ _ (λ j. known .given j .fits) _ _ _ _ (omega (arith, c .before .before .before .before .before .before .before .before .before .before .if1 .left)) number in
+    omega (arith, over-there _ _ _ (λ j. known .given j .fits) _ (omega (arith, there)) _ _ _ rest)
 
 enum-known-code : tie.Need-enum-known-code
 enum-known-code c = search needs
@@ -87,14 +83,17 @@ refused-requires-3 c κs = search needs
 
 returns-2 : tie.Need-returns-2
 returns-2 c =
-    scanned _ _ _ (c .before .before .before .before .before .before .before .before .before .before .if1 .left) (λ j. c .before .before .before .before .before .before .before .before .before .before .before .shared-slice-known .given j .fits) _ _ (sym (c .before .before .before .before .before .before .before .before .opcode-number .ensures) ∙ ap item (c .before .before .before .before .before .before .n .given .1)) _ (c .before .before .before .before .id-by .ensures) _
-    (sym (c .before .before .before .immediates .ensures) ∙ ap item (c .before .index .given .1))
+    let known = c .before .before .before .before .before .before .before .before .before .before .before .shared-slice-known in
+    let number = sym (c .before .before .before .before .before .before .before .before .opcode-number .ensures) ∙ ap item (c .before .before .before .before .before .before .n .given .1) in
+    let rest = sym (c .before .before .before .immediates .ensures) ∙ ap item (c .before .index .given .1) in
+    scanned _ _ _ (c .before .before .before .before .before .before .before .before .before .before .if1 .left) (λ j. known .given j .fits) _ _ number _ (c .before .before .before .before .id-by .ensures) _ rest
 
 returns-3 : tie.Need-returns-3
 returns-3 c =
-    c .refused2 .ensures
-    ∙ scanned _ _ _ (c .before .before .before .before .before .before .before .before .before .before .before .if1 .left) (λ j. c .before .before .before .before .before .before .before .before .before .before .before .before .shared-slice-known .given j .fits) _ _ (sym (c .before .before .before .before .before .before .before .before .before .opcode-number .ensures) ∙ ap item (c .before .before .before .before .before .before .before .n .given .1)) _ (c .before .before .before .before .before .id-by .ensures) _
-    (sym (c .before .before .before .before .immediates .ensures) ∙ ap item (c .before .before .code .given .1))
+    let known = c .before .before .before .before .before .before .before .before .before .before .before .before .shared-slice-known in
+    let number = sym (c .before .before .before .before .before .before .before .before .before .opcode-number .ensures) ∙ ap item (c .before .before .before .before .before .before .before .n .given .1) in
+    let rest = sym (c .before .before .before .before .immediates .ensures) ∙ ap item (c .before .before .code .given .1) in
+    c .refused2 .ensures ∙ scanned _ _ _ (c .before .before .before .before .before .before .before .before .before .before .before .if1 .left) (λ j. known .given j .fits) _ _ number _ (c .before .before .before .before .before .id-by .ensures) _ rest
 
 returns-4 : tie.Need-returns-4
 unfolding decodeBy
@@ -105,4 +104,23 @@ returns-4 c =
 pub scan-by-spec : {M : Type 1} → statement M
 scan-by-spec =
     tie.close
-    (tie.spec refused-requires returns shared-slice-read-first add-opcode-number opcode-number-requires enum-known-n cast-id-by id-by-requires immediates-requires enum-known-index sub-t24 cast-t25 enum-known-code refused-requires-2 enum-known-code-2 refused-requires-3 returns-2 returns-3 returns-4)
+    (tie.spec
+    refused-requires
+    returns
+    shared-slice-read-first
+    add-opcode-number
+    opcode-number-requires
+    enum-known-n
+    cast-id-by
+    id-by-requires
+    immediates-requires
+    enum-known-index
+    sub-t24
+    cast-t25
+    enum-known-code
+    refused-requires-2
+    enum-known-code-2
+    refused-requires-3
+    returns-2
+    returns-3
+    returns-4)
