@@ -11,15 +11,17 @@ use Rattle.card.specs.declared.Answer.{Answer}
 use Rattle.limits.specs.Limits.{fileLimit, stackLimit}
 use Rattle.leb128.specs.Bytes.{bytes}
 use Rattle.opcode.specs.Kind.{Kind, kindByte}
-use Rattle.opcode.specs.Table.{End, Code, plain, Row, carried, float, unassigned}
-use Rattle.opcode.specs.Number.{idOf, rowOf}
+use Rattle.opcode.specs.Table.{End, Code, plain, Row, carried, float, unassigned, plainAt}
+use Rattle.opcode.specs.Number.{rowOf}
 use Rattle.opcode.proofs.Id.{row-of-id}
+use Rattle.opcode.proofs.Inverse.{row-once}
 use Rattle.instr.specs.declared.Instr.{Instr}
-use Rattle.instr.specs.declared.Decoded.{Decoded}
+use Rattle.instr.specs.declared.Scanned.{Scanned}
 use Rattle.instr.specs.Layout.{Allowed, rowIn, Stands}
 use Rattle.instr.specs.Decode.{decodeAt}
+use Rattle.instr.specs.Scan.{scanOf}
 use Rattle.instr.proofs.Stands.{decoded-stands}
-use Rattle.instr.proofs.Ranges.{stands-some, stands-inside, end-first, first-end, end-one}
+use Rattle.instr.proofs.Ranges.{stands-some, stands-inside, end-first, end-one}
 use Rattle.rules.specs.Header.{Header, Declares, locals, kinds}
 use Rattle.rules.specs.Strip.{Reads, Reaches, front, past, Valid}
 use Rattle.rules.specs.Breach.{At, Breach, local, operand, deep, result, trailing, Says, breach}
@@ -113,51 +115,63 @@ row-carried (carried c) i a = (c, refl)
 row-carried float i a = absurd a
 row-carried unassigned i a = absurd a
 
-module _ {s : List ℕ} {n r : ℕ} {kinds : List ℕ} {depth at : ℕ} (w : Going s n r kinds depth at) (d : Decoded) (is : d ≡ decodeAt s at) where
+-- the instruction at a place
+abbrev read : List ℕ → ℕ → Instr
+read s at = decodeAt s at .instr
+
+end-row : rowOf 0x0B ≡ carried (plain End)
+unfolding rowOf plainAt
+end-row = refl
+
+module _ {s : List ℕ} {n r : ℕ} {kinds : List ℕ} {depth at : ℕ} (w : Going s n r kinds depth at) (d : Scanned) (is : d ≡ scanOf (decodeAt s at)) where
   pub refuses : (d .code ≡ DONE → ⊥) → Breach s (d .code) (d .place)
   refuses z =
-      subst (λ (x : Decoded). Breach s (x .code) (x .place)) (sym is) (refused-breach s (w .reached) (λ e. z (ap (λ (x : Decoded). x .code) is ∙ e)))
+      subst (λ (x : Scanned). Breach s (x .code) (x .place)) (sym is) (refused-breach s (w .reached) (λ e. z (ap (λ (x : Scanned). x .code) is ∙ e)))
 
   module _ (b : bytes s) (z : d .code ≡ DONE) where
-    stands : Stands s at (d .instr) (d .len)
-    stands = subst (λ (x : Decoded). Stands s at (x .instr) (x .len)) (sym is) (decoded-stands s b at (sym (ap (λ (x : Decoded). x .code) is) ∙ z))
+    stands : Stands s at (read s at) (d .len)
+    stands =
+        subst (Stands s at (read s at)) (sym (ap (λ (x : Scanned). x .len) is)) (decoded-stands s b at (sym (ap (λ (x : Scanned). x .code) is) ∙ z))
 
     -- the code that was read
-    pub coded : (c : Code) × Reads s at (d .instr) c (d .len)
-    coded = let c = row-carried (rowIn (d .instr)) (d .instr) (stands .allowed) in (c .0, record { stands = stands; does = c .1 })
+    pub coded : (c : Code) × Reads s at (read s at) c (d .len)
+    coded = let c = row-carried (rowIn (read s at)) (read s at) (stands .allowed) in (c .0, record { stands = stands; does = c .1 })
 
     pub moves : (0 < d .len) × (at + d .len ≤ length s) × (length s ≤ fileLimit)
     moves = (stands-some stands, stands-inside stands, w .counts .declares .sized)
 
-    pub at-end : d .instr .first ≡ 0x0B → AtEnd s n r at kinds depth
+    row : rowOf (d .id) ≡ rowIn (read s at)
+    row = ap (λ (x : Scanned). rowOf (x .id)) is ∙ row-of-id (read s at .first) (read s at .number) (stands .typed .first)
+
+    pub at-end : d .id ≡ 0x0B → AtEnd s n r at kinds depth
     at-end e =
         record {
           header = w .header;
           counts = w .counts;
           stack = w .stack;
           holds = w .holds;
-          final = d .instr;
-          here = record { reached = w .reached; size = d .len; reads = record { stands = stands; does = first-end (d .instr) e } };
+          final = read s at;
+          here = record { reached = w .reached; size = d .len; reads = record { stands = stands; does = sym row ∙ ap rowOf e ∙ end-row } };
         }
 
-    module _ (e : d .instr .first ≡ 0x0B → ⊥) (id : ℕ) (its-id : id ≡ idOf (d .instr .first) (d .instr .number)) where
-      pub its-row : rowOf id ≡ carried (coded .0)
-      its-row = ap rowOf its-id ∙ row-of-id (d .instr .first) (d .instr .number) (stands .typed .first) ∙ coded .1 .does
+    module _ (e : d .id ≡ 0x0B → ⊥) where
+      its-row : rowOf (d .id) ≡ carried (coded .0)
+      its-row = row ∙ coded .1 .does
 
-      pub not-end : coded .0 ≡ plain End → ⊥
-      not-end q = e (end-first (d .instr) (stands .typed .first) (coded .1 .does ∙ ap carried q))
+      not-end : coded .0 ≡ plain End → ⊥
+      not-end q = e (row-once (its-row ∙ ap carried q) end-row)
 
-      here : At s (w .header) at (w .stack) (d .instr) (coded .0)
+      here : At s (w .header) at (w .stack) (read s at) (coded .0)
       here = record { reached = w .reached; size = d .len; reads = coded .1 }
 
       module _ {after : List ℕ} where
-        breaks-of : {code depth′ : ℕ} → Judges (locals (w .header)) (d .instr .index) (coded .0) (w .stack) after code depth′ → (code ≡ DONE → ⊥) → Breach s code at
+        breaks-of : {code depth′ : ℕ} → Judges (locals (w .header)) (read s at .index) (coded .0) (w .stack) after code depth′ → (code ≡ DONE → ⊥) → Breach s code at
         breaks-of (no-local names f) z = local here names f
         breaks-of (untyped declared f) z = operand here not-end declared f
         breaks-of (too-deep t big) z = deep here t big
         breaks-of (typed t small g) z = absurd (z refl)
 
-        goes-of : {code depth′ : ℕ} → Judges (locals (w .header)) (d .instr .index) (coded .0) (w .stack) after code depth′ → code ≡ DONE → length after ≡ stackLimit
+        goes-of : {code depth′ : ℕ} → Judges (locals (w .header)) (read s at .index) (coded .0) (w .stack) after code depth′ → code ≡ DONE → length after ≡ stackLimit
             → Going s n r after depth′ (at + d .len)
         goes-of (no-local names f) z l = absurd (let no : ⊥ = omega arith in no)
         goes-of (untyped declared f) z l = absurd (let no : ⊥ = omega arith in no)
@@ -174,9 +188,11 @@ module _ {s : List ℕ} {n r : ℕ} {kinds : List ℕ} {depth at : ℕ} (w : Goi
             }
 
         module _ {code depth′ : ℕ}
-            (j : (c : Code) (ls κs : List Kind) → rowOf id ≡ carried c → (c ≡ plain End → ⊥) → Holds (drop 8 s) n ls → Holds kinds depth κs → Judges ls (d .instr .index) c κs after code depth′) where
-          judgement : Judges (locals (w .header)) (d .instr .index) (coded .0) (w .stack) after code depth′
-          judgement = j (coded .0) (locals (w .header)) (w .stack) its-row not-end (holds-locals (w .counts)) (w .holds)
+            (j : (c : Code) (ls κs : List Kind) → rowOf (d .id) ≡ carried c → (c ≡ plain End → ⊥) → Holds (drop 8 s) n ls → Holds kinds depth κs → Judges ls (d .index) c κs after code depth′) where
+          judgement : Judges (locals (w .header)) (read s at .index) (coded .0) (w .stack) after code depth′
+          judgement =
+              subst (λ (x : ℕ). Judges (locals (w .header)) x (coded .0) (w .stack) after code depth′) (ap (λ (x : Scanned). x .index) is)
+              (j (coded .0) (locals (w .header)) (w .stack) its-row not-end (holds-locals (w .counts)) (w .holds))
 
           pub breaks : (code ≡ DONE → ⊥) → Breach s code at
           breaks = breaks-of judgement

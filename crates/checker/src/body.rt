@@ -10,8 +10,8 @@ use crate::answer;
 use crate::typing;
 use card::Answer;
 
-// The byte of `end`.
-const END: u8 = 0x0B;
+// The id of `end`: its byte.
+const END: u32 = 0x0B;
 
 pub(crate) fn body(strip: &[u8], start: usize, locals: usize, results: usize) -> Answer
     requires { ⌜ Begins (now strip) start locals results ⌝ }
@@ -21,16 +21,14 @@ pub(crate) fn body(strip: &[u8], start: usize, locals: usize, results: usize) ->
     let mut depth = 0;
     let mut at = start;
     loop {
-        let d = instr::decode(strip, at);
+        let d = instr::scan(strip, at);
         if d.code != card::DONE {
             return answer(d.code, d.place);
         }
-        let i = d.instr;
-        if i.first == END {
+        if d.id == END {
             return ending(strip, at, locals, results, &kinds, depth);
         }
-        let id = opcode::id_of(i.first, i.number);
-        let j = typing::judge(strip, locals, id, i.index, &mut kinds, depth);
+        let j = typing::judge(strip, locals, d.id, d.index, &mut kinds, depth);
         if j.code != card::DONE {
             return answer(j.code, at);
         }

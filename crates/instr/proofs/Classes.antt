@@ -71,15 +71,18 @@ memory-or-none laneIndex m = absurd (m .0 .0 .0 .1 refl)
 memory-or-none sixteenBytes m = absurd (m .0 .0 .1 refl)
 memory-or-none sixteenLanes m = absurd (m .0 .1 refl)
 
+pub other-class : (r : Row) → AllBut decoded (classOf r) → 6 ≤ classOf r → r ≡ unassigned
+other-class (carried c) m l =
+    absurd (⊎-elim (λ e. omega (arith, ap classNumber e)) (λ e. omega (arith, ap classNumber e)) (memory-or-none (immediates c) m))
+other-class float m l = absurd (m .1 refl)
+other-class unassigned m l = refl
+
 body-other : (r : Row) → AllBut decoded (classOf r) → 6 ≤ classOf r → (ver : Version) (s : List ℕ) (at p : ℕ) (h : Head)
     → bodyBy ver r s at p h ≡ refusal OPCODE at
 unfolding bodyBy
-body-other (carried c) m l ver s at p h =
-    absurd (⊎-elim (λ e. omega (arith, ap classNumber e)) (λ e. omega (arith, ap classNumber e)) (memory-or-none (immediates c) m))
-body-other float m l ver s at p h = absurd (m .1 refl)
-body-other unassigned m l ver s at p h = refl
+body-other r m l ver s at p h = rw (other-class r m l)
 
-memory-class : (r : Row) → AllBut decoded (classOf r) → classOf r < 6 → (classOf r ≡ classNumber memory) ⊎ (classOf r ≡ classNumber memoryLane)
+pub memory-class : (r : Row) → AllBut decoded (classOf r) → classOf r < 6 → (classOf r ≡ classNumber memory) ⊎ (classOf r ≡ classNumber memoryLane)
 memory-class (carried c) m l = ⊎-elim (λ e. inl (ap classNumber e)) (λ e. inr (ap classNumber e)) (memory-or-none (immediates c) m)
 memory-class float m l = absurd (m .1 refl)
 memory-class unassigned m l = absurd (omega arith)

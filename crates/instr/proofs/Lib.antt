@@ -11,7 +11,8 @@ pub mod Classes
 pub mod Items
 pub mod Numbers
 pub mod Memory
-pub mod Scan
+pub mod Over
+pub mod Sixteens
 pub mod Sets
 pub mod Forms
 pub mod Fields

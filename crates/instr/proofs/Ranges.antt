@@ -42,7 +42,7 @@ end-first i l e = by (way (i .first) (i .number)) (code-back (idOf (i .first) (i
     by (number f l g r) h = absurd (omega arith)
     by (beyond f l g r) h = absurd (omega arith)
 
-pub first-end : (i : Instr) → i .first ≡ 0x0B → rowIn i ≡ carried (plain End)
+first-end : (i : Instr) → i .first ≡ 0x0B → rowIn i ≡ carried (plain End)
 unfolding plainAt
 first-end i e = ap (λ (b : ℕ). rowAt b (i .number)) e
 

@@ -1,4 +1,5 @@
 pub mod Layout
 pub mod Decode
+pub mod Scan
 pub mod Encode
 pub mod Inner

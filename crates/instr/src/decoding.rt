@@ -95,7 +95,7 @@ pub(crate) fn whole(
 }
 
 // The number after FD; after another byte there is none, and it is 0.
-fn opcode_number(version: Version, s: &[u8], p: usize, first: u8) -> Read
+pub(crate) fn opcode_number(version: Version, s: &[u8], p: usize, first: u8) -> Read
     ensures { λ r. ⌜ item r ≡ opcodeBy version first (now (s .entry)) p ⌝ }
 {
     if first == opcode::PREFIX {

@@ -13,7 +13,7 @@ ghost use lib.ListN.{length, take, drop};
 ghost use Rattle.opcode.specs.Immediate as Class;
 ghost use Rattle.instr.specs.Layout.{head};
 ghost use Rattle.instr.specs.Decode.{immediatesAt};
-ghost use Rattle.instr.specs.Inner.Steps.{memoryClass, laneEnds, Scanned};
+ghost use Rattle.instr.specs.Inner.Steps.{memoryClass, laneEnds, GoodUpTo};
 ghost use Rattle.instr.specs.Inner.Version.{immediatesBy};
 
 pub(crate) fn with_index(
@@ -165,9 +165,9 @@ pub(crate) fn with_lanes(s: &[u8], at: usize, p: usize, first: u8, number: u32) 
 }
 
 // How many of sixteen shuffle indices are below 32, up to the first that is not.
-fn good_lanes(s: &[u8], p: usize) -> usize
+pub(crate) fn good_lanes(s: &[u8], p: usize) -> usize
     requires { ⌜ p ≤ length (now s) ⌝ }
-    ensures { λ r. ⌜ Scanned (now (s .entry)) p r ⌝ }
+    ensures { λ r. ⌜ GoodUpTo (now (s .entry)) p r ⌝ }
 {
     let mut k: usize = 0;
     loop {

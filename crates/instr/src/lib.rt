@@ -3,11 +3,13 @@ mod decoding;
 mod encoding;
 mod immediates;
 mod number;
+mod scanning;
 mod version;
 
 pub use decoding::decode;
 pub use encoding::encode;
 pub use encoding::encoded_len;
+pub use scanning::scan;
 ghost use mathlib.Core.Path.{_≡_};
 ghost use Prim.Native.Nat.{_≤_, _^_};
 ghost use lib.Dec.{leb};
@@ -30,6 +32,15 @@ pub struct Decoded {
     pub place: usize,
     pub len: usize,
     pub instr: Instr,
+}
+
+// What the check asks of an instruction: the id by which the table knows it, and the local that it names.
+pub struct Scanned {
+    pub code: u8,
+    pub place: usize,
+    pub len: usize,
+    pub id: u32,
+    pub index: u32,
 }
 
 pub struct Encoded {

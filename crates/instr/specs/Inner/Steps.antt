@@ -21,7 +21,7 @@ unfoldable pub laneEnds : ℕ → List ℕ → ℕ → ℕ → Head → ℕ → 
 laneEnds n s at p h align offset = andThen (laneAt n s p) (λ l q. done at q (instr h 0 0 0 align offset l zeros))
 
 -- k of sixteen shuffle indices are good, and the next one, if k is not sixteen, is not
-pub record Scanned (s : List ℕ) (at k : ℕ) : Type 0 where
+pub record GoodUpTo (s : List ℕ) (at k : ℕ) : Type 0 where
   pub most : k ≤ 16
   pub inside : at + k ≤ length s
   pub same : lanesAt 16 s at ≡ lanesAt (16 - k) s (at + k)

@@ -18,15 +18,15 @@ abbrev μ-loop : tie.MeasureT-loop
 loop-holds : tie.Need-loop-holds Inv-loop μ-loop
 loop-holds c = starts _ refl (c .before .pre)
 
-decode-requires : tie.Need-decode-requires Inv-loop μ-loop
-decode-requires c κs = search needs
+scan-requires : tie.Need-scan-requires Inv-loop μ-loop
+scan-requires c κs = search needs
 
 answer-requires : tie.Need-answer-requires Inv-loop μ-loop
 answer-requires c κs = search needs
 
 returns : tie.Need-returns Inv-loop μ-loop
 returns c =
-    let d = c .before .before .before .decode in
+    let d = c .before .before .before .scan in
     checked (c .answer .ensures) (breach (refuses (c .before .before .before .before .loop .inv) (d .result) (d .ensures) (c .before .if1 .taken)))
 
 slice-aggregate-ending : tie.Need-slice-aggregate-ending Inv-loop μ-loop
@@ -34,44 +34,51 @@ slice-aggregate-ending c = search needs
 
 ending-requires : tie.Need-ending-requires Inv-loop μ-loop
 ending-requires c κs =
-    let d = c .before .before .before .before .before .before .decode in let l = c .before .before .before .before .before .before .before .loop in
-    at-end (l .inv) (d .result) (d .ensures) (λ j. c .before .before .before .before .before .before .before .before .shared-slice-known .given j .fits) (c .before .before .before .before .if1 .left) (c .before .if2 .taken)
+    let d = c .before .before .before .before .before .scan in
+    let l = c .before .before .before .before .before .before .loop in
+    let bytes = c .before .before .before .before .before .before .before .shared-slice-known in
+    at-end (l .inv) (d .result) (d .ensures) (λ j. bytes .given j .fits) (c .before .before .before .if1 .left) (c .before .if2 .taken)
 
 returns-2 : tie.Need-returns-2 Inv-loop μ-loop
 returns-2 c = c .ending .ensures
-
-id-of-requires : tie.Need-id-of-requires Inv-loop μ-loop
-id-of-requires c κs = search needs
 
 slice-aggregate-judge : tie.Need-slice-aggregate-judge Inv-loop μ-loop
 slice-aggregate-judge c = search needs
 
 judge-requires : tie.Need-judge-requires Inv-loop μ-loop
-judge-requires c κs = let w = c .before .before .before .before .before .before .before .before .loop .inv in (omega (arith, counts-inside (w .counts)), w .most, w .long)
+judge-requires c κs = let w = c .before .before .before .before .before .before .loop .inv in (omega (arith, counts-inside (w .counts)), w .most, w .long)
 
 answer-requires-2 : tie.Need-answer-requires-2 Inv-loop μ-loop
 answer-requires-2 c κs = search needs
 
 returns-3 : tie.Need-returns-3 Inv-loop μ-loop
 returns-3 c =
-    let d = c .before .before .before .before .before .before .before .before .before .before .before .before .decode in let l = c .before .before .before .before .before .before .before .before .before .before .before .before .before .loop in
+    let d = c .before .before .before .before .before .before .before .before .before .before .scan in
+    let l = c .before .before .before .before .before .before .before .before .before .before .before .loop in
+    let bytes = c .before .before .before .before .before .before .before .before .before .before .before .before .shared-slice-known in
     checked (c .answer2 .ensures)
-    (breach (breaks (l .inv) (d .result) (d .ensures) (λ j. c .before .before .before .before .before .before .before .before .before .before .before .before .before .before .shared-slice-known .given j .fits) (c .before .before .before .before .before .before .before .before .before .before .if1 .left) (c .before .before .before .before .before .before .before .if2 .left) _ (c .before .before .before .before .before .before .id-of .ensures) (c .before .before .before .before .judge .ensures) (c .before .if3 .taken)))
+    (breach (breaks (l .inv) (d .result) (d .ensures) (λ j. bytes .given j .fits) (c .before .before .before .before .before .before .before .before .if1 .left) (c .before .before .before .before .before .before .if2 .left) (c .before .before .before .before .judge .ensures) (c .before .if3 .taken)))
 
 add-at : tie.Need-add-at Inv-loop μ-loop
 add-at c =
-    let d = c .before .before .before .before .before .before .before .before .before .before .before .before .decode in let l = c .before .before .before .before .before .before .before .before .before .before .before .before .before .loop in
-    omega (arith, moves (l .inv) (d .result) (d .ensures) (λ j. c .before .before .before .before .before .before .before .before .before .before .before .before .before .before .shared-slice-known .given j .fits) (c .before .before .before .before .before .before .before .before .before .before .if1 .left))
+    let d = c .before .before .before .before .before .before .before .before .before .before .scan in
+    let l = c .before .before .before .before .before .before .before .before .before .before .before .loop in
+    let bytes = c .before .before .before .before .before .before .before .before .before .before .before .before .shared-slice-known in
+    omega (arith, moves (l .inv) (d .result) (d .ensures) (λ j. bytes .given j .fits) (c .before .before .before .before .before .before .before .before .if1 .left))
 
 loop-less : tie.Need-loop-less Inv-loop μ-loop
 loop-less c =
-    let d = c .before .before .before .before .before .before .before .before .before .before .before .before .decode in let l = c .before .before .before .before .before .before .before .before .before .before .before .before .before .loop in
-    omega (arith, moves (l .inv) (d .result) (d .ensures) (λ j. c .before .before .before .before .before .before .before .before .before .before .before .before .before .before .shared-slice-known .given j .fits) (c .before .before .before .before .before .before .before .before .before .before .if1 .left))
+    let d = c .before .before .before .before .before .before .before .before .before .before .scan in
+    let l = c .before .before .before .before .before .before .before .before .before .before .before .loop in
+    let bytes = c .before .before .before .before .before .before .before .before .before .before .before .before .shared-slice-known in
+    omega (arith, moves (l .inv) (d .result) (d .ensures) (λ j. bytes .given j .fits) (c .before .before .before .before .before .before .before .before .if1 .left))
 
 loop-again : tie.Need-loop-again Inv-loop μ-loop
 loop-again c =
-    let d = c .before .before .before .before .before .before .before .before .before .before .before .before .decode in let l = c .before .before .before .before .before .before .before .before .before .before .before .before .before .loop in
-    goes (l .inv) (d .result) (d .ensures) (λ j. c .before .before .before .before .before .before .before .before .before .before .before .before .before .before .shared-slice-known .given j .fits) (c .before .before .before .before .before .before .before .before .before .before .if1 .left) (c .before .before .before .before .before .before .before .if2 .left) _ (c .before .before .before .before .before .before .id-of .ensures) (c .before .before .before .before .judge .ensures) (c .before .if3 .left) (search needs)
+    let d = c .before .before .before .before .before .before .before .before .before .before .scan in
+    let l = c .before .before .before .before .before .before .before .before .before .before .before .loop in
+    let bytes = c .before .before .before .before .before .before .before .before .before .before .before .before .shared-slice-known in
+    goes (l .inv) (d .result) (d .ensures) (λ j. bytes .given j .fits) (c .before .before .before .before .before .before .before .before .if1 .left) (c .before .before .before .before .before .before .if2 .left) (c .before .before .before .before .judge .ensures) (c .before .if3 .left) (search needs)
 
 pub body-spec : {M : Type 1} → statement M
 body-spec =
@@ -80,13 +87,12 @@ body-spec =
     Inv-loop
     μ-loop
     loop-holds
-    decode-requires
+    scan-requires
     answer-requires
     returns
     slice-aggregate-ending
     ending-requires
     returns-2
-    id-of-requires
     slice-aggregate-judge
     judge-requires
     answer-requires-2

@@ -1,8 +1,8 @@
--- The loop keeps `Passing`; each way out of it is `Scanned`.
+-- The loop keeps `Passing`; each way out of it is `GoodUpTo`.
 use borrow.Author.Needs.{needs}
 use Prim.Native.Nat.{_-_}
 use native.Mathlib.Omega.{arith}
-use Rattle.instr.proofs.Scan.{Passing, passing, passes, all-passed, cut-off, met-bad}
+use Rattle.instr.proofs.Sixteens.{Passing, passing, passes, all-passed, cut-off, met-bad}
 use Rattle.instr.proofs.immediates.good_lanes.Statement.{statement}
 use Rattle.instr.proofs.immediates.good_lanes.Tie as tie
 

@@ -3,7 +3,7 @@ use borrow.Author.Needs.{needs}
 use Prim.Native.Nat.{_-_, _≤_}
 use mathlib.Core.Path.{_≡_, refl}
 use native.Mathlib.Omega.{arith}
-use Rattle.instr.proofs.Scan.{copied, copy-more, copy-ends}
+use Rattle.instr.proofs.Sixteens.{copied, copy-more, copy-ends}
 use Rattle.instr.proofs.immediates.sixteen.Statement.{statement}
 use Rattle.instr.proofs.immediates.sixteen.Tie as tie
 

@@ -1,7 +1,7 @@
 -- What the scan leaves is one answer of `lanesAt`.
 use borrow.Author.Needs.{needs}
 use Rattle.instr.specs.Decode.{immediatesAt}
-use Rattle.instr.proofs.Scan.{scanned-all, scanned-bad, scanned-cut}
+use Rattle.instr.proofs.Sixteens.{scanned-all, scanned-bad, scanned-cut}
 use Rattle.instr.proofs.immediates.with_lanes.Statement.{statement}
 use Rattle.instr.proofs.immediates.with_lanes.Tie as tie
 

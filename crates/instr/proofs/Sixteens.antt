@@ -11,7 +11,7 @@ use lib.Seq.{paste, paste-suc, getD-drop}
 use Rattle.card.specs.Card.{SHORT, LANE}
 use Rattle.instr.specs.Layout.{zeros}
 use Rattle.instr.specs.Decode.{got, no, lanesAt}
-use Rattle.instr.specs.Inner.Steps.{Scanned}
+use Rattle.instr.specs.Inner.Steps.{GoodUpTo}
 use Rattle.instr.proofs.Items.{lane-good, lane-bad, lane-cut}
 
 -- k of the sixteen are passed
@@ -37,17 +37,17 @@ module _ {s : List ℕ} {p k : ℕ} (w : Passing s p k) where
         same = step s p k (w .same) h ∙ rw (lane-good s (p + k) 32 l b) (ap (lanesAt (16 - (k + 1)) s) z);
       }
 
-  pub all-passed : 16 ≤ k → Scanned s p k
+  pub all-passed : 16 ≤ k → GoodUpTo s p k
   all-passed h = record { most = w .most; inside = w .inside; same = w .same; stops = λ l. absurd (omega arith) }
 
-  pub cut-off : length s - p ≤ k → Scanned s p k
+  pub cut-off : length s - p ≤ k → GoodUpTo s p k
   cut-off h = record { most = w .most; inside = w .inside; same = w .same; stops = λ l. inl (omega (arith, w .inside)) }
 
-  pub met-bad : 32 ≤ getD s (p + k) 0 → Scanned s p k
+  pub met-bad : 32 ≤ getD s (p + k) 0 → GoodUpTo s p k
   met-bad h = record { most = w .most; inside = w .inside; same = w .same; stops = λ l. inr h }
 
 -- the answer that it means
-module _ {s : List ℕ} {p k : ℕ} (w : Scanned s p k) where
+module _ {s : List ℕ} {p k : ℕ} (w : GoodUpTo s p k) where
   pub scanned-all : 16 ≤ k → lanesAt 16 s p ≡ got 0 (p + 16)
   unfolding lanesAt
   scanned-all h =

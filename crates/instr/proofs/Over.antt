@@ -1,0 +1,216 @@
+-- Scanning goes over what decoding reads, and answers the same.
+use Prim.Native.Nat.{ℕ, zero, suc, _+_, _-_, _<_, _≤_, _^_}
+use mathlib.Core.Bool.{Bool, true, false, cond, _&&_}
+use mathlib.Core.List.{List}
+use mathlib.Core.Logic.{⊎-elim}
+use mathlib.Core.Path.{_≡_, refl, sym, ap, subst, _∙_}
+use native.Mathlib.Omega.{arith}
+use lib.Dec.{ltb, leb, eqb}
+use lib.ListN.{length, getD}
+use borrow.Author.Tests.{eq-eqb, ne-eqb}
+use Rattle.card.specs.Card.{DONE, SHORT, OPCODE, LANE}
+use Rattle.leb128.specs.Bytes.{bytes}
+use Rattle.opcode.specs.Table.{Row, carried, float, unassigned, PREFIX, rowAt}
+use Rattle.opcode.specs.Immediate.{Immediates, nothing, index, word, long, memory, memoryLane, laneIndex, sixteenBytes, sixteenLanes, immediates, movedBy, lanesOf}
+use Rattle.opcode.specs.Number.{classNumber, FLOAT, classOf, idOf, rowOf}
+use Rattle.opcode.proofs.Id.{row-of-id}
+use Rattle.opcode.proofs.Inverse.{row-once}
+use Rattle.opcode.proofs.Classes.{class-carried, class-float}
+use Rattle.instr.specs.Layout.{Head, head}
+use Rattle.instr.specs.Decode.{refusal, Item, got, no, andThen, andRead, byteAt, laneAt, lanesAt, sixteenAt, immediatesAt}
+use Rattle.instr.specs.Scan.{scanOf}
+use Rattle.instr.specs.Inner.Version.{numberBy, exponentBy, immediatesBy, rowBy, bodyBy, opcodeBy, decodeBy}
+use Rattle.instr.specs.Inner.Over.{over, overMemory, overClass, overRow}
+use Rattle.instr.specs.declared.Decoded.{Decoded}
+use Rattle.instr.specs.declared.Scanned.{Scanned}
+use Rattle.instr.specs.declared.version.Version.{Version}
+use Rattle.instr.proofs.Classes.{AllBut, decoded, other-class, memory-class}
+use Rattle.instr.proofs.Items.{byte-there}
+use Rattle.instr.proofs.Numbers.{number-there, number-32}
+use Rattle.card.specs.Card as card
+
+-- ---- by the class of the row
+
+module _ (ver : Version) (r : Row) (s : List ℕ) (at p : ℕ) where
+  pub over-class : (k : Immediates) → classOf r ≡ classNumber k → overRow ver r s at p ≡ overClass ver k (movedBy r) (lanesOf r) s p
+  unfolding overRow
+  over-class k e =
+      let t = class-carried r k e in
+      rw (t .1) (ap (λ (j : Immediates). overClass ver j (movedBy (carried (t .0))) (lanesOf (carried (t .0))) s p) (t .2))
+
+  pub over-float : classOf r ≡ FLOAT → overRow ver r s at p ≡ no card.FLOAT at
+  unfolding overRow
+  over-float e = rw (class-float r e)
+
+  module _ (class : ℕ) (f : class ≡ classOf r) (o : AllBut decoded class) where
+    pub over-none : 6 ≤ class → overRow ver r s at p ≡ no OPCODE at
+    unfolding overRow
+    over-none l = rw (other-class r (subst (AllBut decoded) f o) (omega (arith, f)))
+
+    pub over-memory : class < 6 → overRow ver r s at p ≡ overMemory ver (eqb class 5) (movedBy r) (lanesOf r) s p
+    unfolding overClass
+    over-memory l =
+        ⊎-elim
+        (λ c. rw (ne-eqb class 5 (λ z. omega (arith, f, c))) (over-class memory c))
+        (λ c. rw (eq-eqb class 5 (f ∙ c)) (over-class memoryLane c))
+        (memory-class r (subst (AllBut decoded) f o) (omega (arith, f)))
+
+-- ---- what is kept is a number of 32 bits, and the next place lies behind
+
+abbrev After : ℕ → Item → Type 0
+After at (got v q) = at ≤ q
+After at (no c l) = Unit {0}
+
+abbrev Fits : ℕ → Item → Type 0
+Fits at (got v q) = (v < 2 ^ 32) × (at ≤ q)
+Fits at (no c l) = Unit {0}
+
+module _ (at : ℕ) where
+  over-fits : (i : Item) → After at i → Fits at (over i)
+  over-fits (got v q) h = (omega arith, h)
+  over-fits (no c l) h = tt
+
+  cond-after : (t : Bool) (v q c l : ℕ) → at ≤ q → After at (cond t (got v q) (no c l))
+  cond-after true v q c l h = h
+  cond-after false v q c l h = tt
+
+  read-after : (i : Item) (f : ℕ → ℕ → Item) → After at i → ((v q : ℕ) → at ≤ q → After at (f v q)) → After at (andRead i f)
+  read-after (got v q) f h g = g v q h
+  read-after (no c l) f h g = tt
+
+  read-fits : (i : Item) (f : ℕ → ℕ → Item) → After at i → ((v q : ℕ) → at ≤ q → Fits at (f v q)) → Fits at (andRead i f)
+  read-fits (got v q) f h g = g v q h
+  read-fits (no c l) f h g = tt
+
+  module _ (ver : Version) (s : List ℕ) where
+    number-after : (sign : Bool) (N p : ℕ) → at ≤ p → After at (numberBy ver sign N s p)
+    number-after sign N p h = by (numberBy ver sign N s p) refl
+      where
+        by : (i : Item) → numberBy ver sign N s p ≡ i → After at i
+        by (got v q) e = omega (arith, number-there ver sign N s p v q e .2)
+        by (no c l) e = tt
+
+    exponent-after : (m p : ℕ) → at ≤ p → After at (exponentBy ver m s p)
+    unfolding exponentBy
+    exponent-after m p h = read-after (numberBy ver false 32 s p) _ (number-after false 32 p h) (λ a q l. cond-after (leb (2 ^ a) m) a q card.ALIGN p l)
+
+    lane-after : (n p : ℕ) → at ≤ p → After at (laneAt n s p)
+    unfolding laneAt byteAt
+    lane-after n p h =
+        read-after (cond (ltb p (length s)) (got (getD s p 0) (p + 1)) (no SHORT (length s))) _ (cond-after (ltb p (length s)) (getD s p 0) (p + 1) SHORT (length s) (omega arith))
+        (λ b q l. cond-after (ltb b n) b q LANE p l)
+
+    lanes-after : (k p : ℕ) → at ≤ p → After at (lanesAt k s p)
+    unfolding lanesAt
+    lanes-after zero p h = h
+    lanes-after (suc k) p h = read-after (laneAt 32 s p) _ (lane-after 32 p h) (λ b q l. lanes-after k q l)
+
+    memory-fits : (laned : Bool) (m n p : ℕ) → at ≤ p → Fits at (overMemory ver laned m n s p)
+    unfolding overMemory
+    memory-fits laned m n p h =
+        read-fits (exponentBy ver m s p) _ (exponent-after m p h) (λ a q l.
+        read-fits (numberBy ver false 32 s q) _ (number-after false 32 q l) (λ o r k. by laned r k))
+      where
+        by : (t : Bool) (r : ℕ) → at ≤ r → Fits at (cond t (over (laneAt n s r)) (got 0 r))
+        by true r k = over-fits (laneAt n s r) (lane-after n r k)
+        by false r k = (omega arith, k)
+
+    module _ (b : bytes s) (p : ℕ) (h : at ≤ p) where
+      index-fits : Fits at (numberBy ver false 32 s p)
+      index-fits = by (numberBy ver false 32 s p) refl
+        where
+          by : (i : Item) → numberBy ver false 32 s p ≡ i → Fits at i
+          by (got v q) e = let t = number-32 ver false s p b v q e in omega (arith, t)
+          by (no c l) e = tt
+
+      class-fits : (k : Immediates) (m n : ℕ) → Fits at (overClass ver k m n s p)
+      unfolding overClass sixteenAt
+      class-fits nothing m n = (omega arith, h)
+      class-fits index m n = index-fits
+      class-fits word m n = over-fits (numberBy ver true 32 s p) (number-after true 32 p h)
+      class-fits long m n = over-fits (numberBy ver true 64 s p) (number-after true 64 p h)
+      class-fits memory m n = memory-fits false m n p h
+      class-fits memoryLane m n = memory-fits true m n p h
+      class-fits laneIndex m n = over-fits (laneAt n s p) (lane-after n p h)
+      class-fits sixteenBytes m n =
+          over-fits (cond (leb (p + 16) (length s)) (got 0 (p + 16)) (no SHORT (length s))) (cond-after (leb (p + 16) (length s)) 0 (p + 16) SHORT (length s) (omega arith))
+      class-fits sixteenLanes m n = over-fits (lanesAt 16 s p) (lanes-after 16 p h)
+
+      row-fits : (r : Row) → Fits at (overRow ver r s at p)
+      unfolding overRow
+      row-fits (carried c) = class-fits (immediates c) (movedBy (carried c)) (lanesOf (carried c))
+      row-fits float = tt
+      row-fits unassigned = tt
+
+      pub over-there : (r : Row) (v q : ℕ) → overRow ver r s at p ≡ got v q → (v < 2 ^ 32) × (at ≤ q)
+      over-there r v q e = subst (Fits at) e (row-fits r)
+
+-- ---- the answer
+
+abbrev pub answered : ℕ → ℕ → Item → Scanned
+answered at id (got v next) = record { code = DONE; place = 0; len = next - at; id = id; index = v }
+answered at id (no c l) = scanOf (refusal c l)
+
+module _ (at : ℕ) (h : Head) where
+  then-over : (i : Item) (f : ℕ → ℕ → Decoded) → ((v q : ℕ) → scanOf (f v q) ≡ answered at (idOf (h .first) (h .number)) (got 0 q))
+      → scanOf (andThen i f) ≡ answered at (idOf (h .first) (h .number)) (over i)
+  then-over (got v q) f e = e v q
+  then-over (no c l) f e = refl
+
+  then-read : (i : Item) (f : ℕ → ℕ → Decoded) (g : ℕ → ℕ → Item) → ((v q : ℕ) → scanOf (f v q) ≡ answered at (idOf (h .first) (h .number)) (g v q))
+      → scanOf (andThen i f) ≡ answered at (idOf (h .first) (h .number)) (andRead i g)
+  then-read (got v q) f g e = e v q
+  then-read (no c l) f g e = refl
+
+  then-kept : (i : Item) (f : ℕ → ℕ → Decoded) → ((v q : ℕ) → scanOf (f v q) ≡ answered at (idOf (h .first) (h .number)) (got v q))
+      → scanOf (andThen i f) ≡ answered at (idOf (h .first) (h .number)) i
+  then-kept (got v q) f e = e v q
+  then-kept (no c l) f e = refl
+
+  module _ (ver : Version) (s : List ℕ) (p : ℕ) where
+    scan-class : (k : Immediates) (m n : ℕ) → scanOf (immediatesBy ver k m n s at p h) ≡ answered at (idOf (h .first) (h .number)) (overClass ver k m n s p)
+    unfolding immediatesBy immediatesAt overClass overMemory
+    scan-class nothing m n = refl
+    scan-class index m n = then-kept (numberBy ver false 32 s p) _ (λ v q. refl)
+    scan-class word m n = then-over (numberBy ver true 32 s p) _ (λ v q. refl)
+    scan-class long m n = then-over (numberBy ver true 64 s p) _ (λ v q. refl)
+    scan-class memory m n = then-read (exponentBy ver m s p) _ _ (λ a q. then-read (numberBy ver false 32 s q) _ _ (λ o r. refl))
+    scan-class memoryLane m n =
+        then-read (exponentBy ver m s p) _ _ (λ a q. then-read (numberBy ver false 32 s q) _ _ (λ o r. then-over (laneAt n s r) _ (λ l t. refl)))
+    scan-class laneIndex m n = then-over (laneAt n s p) _ (λ v q. refl)
+    scan-class sixteenBytes m n = then-over (sixteenAt s p) _ (λ v q. refl)
+    scan-class sixteenLanes m n = then-over (lanesAt 16 s p) _ (λ v q. refl)
+
+    scan-row : (r : Row) → scanOf (bodyBy ver r s at p h) ≡ answered at (idOf (h .first) (h .number)) (overRow ver r s at p)
+    unfolding bodyBy overRow
+    scan-row (carried c) = scan-class (immediates c) (movedBy (carried c)) (lanesOf (carried c))
+    scan-row float = refl
+    scan-row unassigned = refl
+
+-- a row that is carried has one id; for another row the id is not told
+same-id : (ver : Version) (s : List ℕ) (at p id id′ : ℕ) (r : Row) → rowOf id ≡ r → rowOf id′ ≡ r
+    → answered at id (overRow ver r s at p) ≡ answered at id′ (overRow ver r s at p)
+unfolding overRow
+same-id ver s at p id id′ (carried c) e f = ap (λ (x : ℕ). answered at x (overRow ver (carried c) s at p)) (row-once e f)
+same-id ver s at p id id′ float e f = refl
+same-id ver s at p id id′ unassigned e f = refl
+
+module _ (ver : Version) (s : List ℕ) (at p first n id : ℕ) (l : first < 256) where
+  scan-either : (t : Bool) → rowOf id ≡ cond t unassigned (rowAt first n)
+      → answered at id (overRow ver (cond t unassigned (rowAt first n)) s at p) ≡ scanOf (bodyBy ver (cond t unassigned (rowAt first n)) s at p (head first n))
+  unfolding bodyBy overRow
+  scan-either true e = refl
+  scan-either false e = same-id ver s at p id (idOf first n) (rowAt first n) e (row-of-id first n l) ∙ sym (scan-row at (head first n) ver s p (rowAt first n))
+
+  scan-body : rowOf id ≡ rowBy ver first n → answered at id (overRow ver (rowOf id) s at p) ≡ scanOf (bodyBy ver (rowBy ver first n) s at p (head first n))
+  unfolding rowBy
+  scan-body e =
+      ap (λ (r : Row). answered at id (overRow ver r s at p)) e ∙ scan-either (eqb first PREFIX && leb (ver .vectors) n) e
+
+-- a byte, a number and the rest were read
+pub scanned : (ver : Version) (s : List ℕ) (at : ℕ) → at < length s → bytes s → (n p : ℕ) → opcodeBy ver (getD s at 0) s (at + 1) ≡ got n p
+    → (id : ℕ) → rowOf id ≡ rowBy ver (getD s at 0) n → (i : Item) → overRow ver (rowOf id) s at p ≡ i → answered at id i ≡ scanOf (decodeBy ver s at)
+unfolding decodeBy
+scanned ver s at l b n p o id e i t =
+    let d : decodeBy ver s at ≡ bodyBy ver (rowBy ver (getD s at 0) n) s at p (head (getD s at 0) n) = rw (byte-there s at l, o) in
+    sym (ap (answered at id) t) ∙ scan-body ver s at p (getD s at 0) n id (b at) e ∙ ap scanOf (sym d)

@@ -1,0 +1,157 @@
+// Scanning: as decoding, for those who ask only which instruction it is, the local that it names and where the next one stands.
+use crate::Scanned;
+use crate::decoding::opcode_number;
+use crate::immediates::good_lanes;
+use crate::number::Read;
+use crate::number::s32_at;
+use crate::number::s64_at;
+use crate::number::u32_at;
+use crate::version::Version;
+ghost use mathlib.Core.Path.{_≡_};
+ghost use Prim.Native.Nat.{_≤_};
+ghost use lib.ListN.{length};
+ghost use Rattle.opcode.specs.Number.{rowOf};
+ghost use Rattle.instr.specs.Decode.{refusal, laneAt, lanesAt, sixteenAt, decodeAt};
+ghost use Rattle.instr.specs.Scan.{scanOf};
+ghost use Rattle.instr.specs.Inner.Version.{item, decodeBy};
+ghost use Rattle.instr.specs.Inner.Over.{over, overMemory, overRow};
+
+pub fn scan(s: &[u8], at: usize) -> Scanned
+    ensures { λ r. ⌜ r ≡ scanOf (decodeAt (now (s .entry)) at) ⌝ }
+{
+    scan_by(crate::version::ONE, s, at)
+}
+
+// By a version's rules.
+fn scan_by(version: Version, s: &[u8], at: usize) -> Scanned
+    ensures { λ r. ⌜ r ≡ scanOf (decodeBy version (now (s .entry)) at) ⌝ }
+{
+    if s.len() <= at {
+        return refused(card::SHORT, s.len());
+    }
+    let first = s[at];
+    match opcode_number(version, s, at + 1, first) {
+        Read::Got(n, p) => {
+            let id = crate::version::id_by(version, first, n as u32);
+            match immediates(version, s, at, p, id) {
+                Read::Got(index, next) => Scanned {
+                    code: card::DONE,
+                    place: 0,
+                    len: next - at,
+                    id,
+                    index: index as u32,
+                },
+                Read::No(code, place) => refused(code, place),
+            }
+        }
+        Read::No(code, place) => refused(code, place),
+    }
+}
+
+fn refused(code: u8, place: usize) -> Scanned
+    ensures { λ r. ⌜ r ≡ scanOf (refusal code place) ⌝ }
+{
+    Scanned {
+        code,
+        place,
+        len: 0,
+        id: 0,
+        index: 0,
+    }
+}
+
+// What follows the opcode of the instruction at `at`, from `p` on. One caller, so that it becomes part of it.
+fn immediates(version: Version, s: &[u8], at: usize, p: usize, id: u32) -> Read
+    requires { ⌜ p ≤ length (now s) ⌝ }
+    ensures { λ r. ⌜ item r ≡ overRow version (rowOf id) (now (s .entry)) at p ⌝ }
+{
+    let class = opcode::immediates(id);
+    match class {
+        opcode::NOTHING => Read::Got(0, p),
+        opcode::INDEX => u32_at(version, s, p),
+        opcode::WORD => past(s32_at(version, s, p)),
+        opcode::LONG => past(s64_at(version, s, p)),
+        opcode::MEMORY | opcode::MEMORY_LANE => {
+            let laned = class == opcode::MEMORY_LANE;
+            memory(version, s, p, opcode::moved(id), opcode::lanes(id), laned)
+        }
+        opcode::LANE => lane(s, p, opcode::lanes(id)),
+        opcode::BYTES => bytes(s, p),
+        opcode::LANES => lanes(s, p),
+        opcode::FLOAT => Read::No(card::FLOAT, at),
+        _ => Read::No(card::OPCODE, at),
+    }
+}
+
+// A number of which only the place after it is asked.
+fn past(number: Read) -> Read
+    ensures { λ r. ⌜ item r ≡ over (item number) ⌝ }
+{
+    match number {
+        Read::Got(v, next) => Read::Got(0, next),
+        Read::No(code, place) => Read::No(code, place),
+    }
+}
+
+fn memory(version: Version, s: &[u8], p: usize, moved: u32, lanes: u32, laned: bool) -> Read
+    requires { ⌜ moved ≤ 16 ⌝ }
+    ensures { λ r. ⌜ item r ≡ overMemory version laned moved lanes (now (s .entry)) p ⌝ }
+{
+    match u32_at(version, s, p) {
+        Read::Got(a, q) => {
+            if !crate::exponent_fits(a as u32, moved) {
+                return Read::No(card::ALIGN, p);
+            }
+            match u32_at(version, s, q) {
+                Read::Got(o, next) => {
+                    if laned {
+                        lane(s, next, lanes)
+                    } else {
+                        Read::Got(0, next)
+                    }
+                }
+                Read::No(code, place) => Read::No(code, place),
+            }
+        }
+        Read::No(code, place) => Read::No(code, place),
+    }
+}
+
+fn lane(s: &[u8], p: usize, lanes: u32) -> Read
+    ensures { λ r. ⌜ item r ≡ over (laneAt lanes (now (s .entry)) p) ⌝ }
+{
+    if s.len() <= p {
+        return Read::No(card::SHORT, s.len());
+    }
+    if crate::wide(s[p]) < lanes {
+        Read::Got(0, p + 1)
+    } else {
+        Read::No(card::LANE, p)
+    }
+}
+
+fn bytes(s: &[u8], p: usize) -> Read
+    requires { ⌜ p ≤ length (now s) ⌝ }
+    ensures { λ r. ⌜ item r ≡ over (sixteenAt (now (s .entry)) p) ⌝ }
+{
+    if s.len() - p < 16 {
+        Read::No(card::SHORT, s.len())
+    } else {
+        Read::Got(0, p + 16)
+    }
+}
+
+fn lanes(s: &[u8], p: usize) -> Read
+    requires { ⌜ p ≤ length (now s) ⌝ }
+    ensures { λ r. ⌜ item r ≡ over (lanesAt 16 (now (s .entry)) p) ⌝ }
+{
+    let k = good_lanes(s, p);
+    if 16 <= k {
+        return Read::Got(0, p + 16);
+    }
+    if p + k < s.len() {
+        Read::No(card::LANE, p + k)
+    } else {
+        Read::No(card::SHORT, s.len())
+    }
+}
