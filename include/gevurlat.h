@@ -3,9 +3,8 @@
  * Link with libdoors.a; docs/FIRMWARE.md says how it is built.
  *
  * Both functions return, whatever bytes come in. They call memcpy and memset
- * and nothing else, allocate nothing and keep nothing between two calls. As
- * built for x86-64 the check takes 392 bytes of stack and the run 2,856,
- * beside what memcpy and memset take.
+ * and nothing else, allocate nothing and keep nothing between two calls.
+ * docs/FIRMWARE.md has how much stack they take.
  *
  * What the caller owes, since nothing proves a C caller:
  *  - each pointer leads to as many bytes as the length beside it says;
