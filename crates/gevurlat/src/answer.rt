@@ -9,9 +9,9 @@ use crate::text::show;
 const BUDGET: u32 = 1000000;
 
 // Room for three numbers of at most twenty digits and a byte behind each, and for three bytes for each of the results' 64: a line of 33 for sixteen is less.
-pub const LONGEST: usize = 255;
+pub(crate) const LONGEST: usize = 255;
 
-pub fn answer(strip: &[u8], out: &mut [u8]) -> usize
+pub(crate) fn answer(strip: &[u8], out: &mut [u8]) -> usize
     requires { ⌜ 255 ≤ length (now out) ⌝ }
     ensures { λ r. ⌜ Counts r (now (out .exit)) ⌝ }
     ensures { λ r. ⌜ Prints (now (strip .entry)) (take r (now (out .exit))) ⌝ }

@@ -6,15 +6,15 @@ ghost use Rattle.gevurlat.specs.Inner.Reading.{Inside};
 use libc::STDIN_FILENO;
 
 // A byte past the limit tells that a file is too long.
-pub const ENOUGH: usize = limits::FILE + 1;
+pub(crate) const ENOUGH: usize = limits::FILE + 1;
 
-pub enum Input {
+pub(crate) enum Input {
     Bytes(usize),
     Failed,
 }
 
 // A read may bring fewer bytes than there is room for: only one that brings none is the end.
-pub fn read_all(buf: &mut [u8]) -> Input
+pub(crate) fn read_all(buf: &mut [u8]) -> Input
     ensures { λ r. ⌜ Inside r (length (now (buf .exit))) ⌝ }
 {
     let mut n: usize = 0;

@@ -10,7 +10,7 @@ ghost use Rattle.gevurlat.specs.Text.{newline, hexadecimal, lines as Tex
 ghost use Rattle.gevurlat.specs.Inner.Appending.{Appended, NumberAppended};
 use card::Answer;
 
-pub fn show(a: Answer, results: &[u8], out: &mut [u8]) -> usize
+pub(crate) fn show(a: Answer, results: &[u8], out: &mut [u8]) -> usize
     requires { ⌜ 63 + 3 * length (now results) ≤ length (now out) ⌝ }
     ensures { λ r. ⌜ Counts r (now (out .exit)) ⌝ }
     ensures { λ r. ⌜ Shown a (now (results .entry)) (take r (now (out .exit))) ⌝ }
