@@ -10,9 +10,6 @@ use crate::answer;
 use crate::typing;
 use card::Answer;
 
-// The id of `end`: its byte.
-const END: u32 = 0x0B;
-
 pub(crate) fn body(strip: &[u8], start: usize, locals: usize, results: usize) -> Answer
     requires { ⌜ Begins (now strip) start locals results ⌝ }
     ensures { λ r. ⌜ Checked (now (strip .entry)) r ⌝ }
@@ -25,10 +22,10 @@ pub(crate) fn body(strip: &[u8], start: usize, locals: usize, results: usize) ->
         if d.code != card::DONE {
             return answer(d.code, d.place);
         }
-        if d.id == END {
+        if opcode::group(d.entry) == opcode::GROUP_END {
             return ending(strip, at, locals, results, &kinds, depth);
         }
-        let j = typing::judge(strip, locals, d.id, d.index, &mut kinds, depth);
+        let j = typing::judge(strip, locals, d.entry, d.index, &mut kinds, depth);
         if j.code != card::DONE {
             return answer(j.code, at);
         }

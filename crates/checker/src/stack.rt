@@ -39,7 +39,7 @@ fn under(operands: u32, kinds: &[u8], depth: usize) -> usize
     base
 }
 
-// The operands are taken and the result is left, as opcode::effect has them in a number.
+// The operands are taken and the result is left, as an entry of the table has them in a number.
 pub(crate) fn apply(effect: u32, kinds: &mut [u8], depth: usize) -> Judged
     requires { ⌜ (depth ≤ stackLimit) × (length (now kinds) ≡ stackLimit) ⌝ }
     ensures { λ r. ⌜ ((κs ins outs : List Kind) → Holds (now (kinds .entry)) depth κs → Small ins outs → packed (some (ins ⇒ outs)) ≡ effect → Applies κs ins outs (now (kinds .exit)) (r .code) (r .depth)) ⌝ }

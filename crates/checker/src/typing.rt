@@ -6,24 +6,24 @@ ghost use lib.ListN.{length, drop};
 ghost use Rattle.limits.specs.Limits.{stackLimit};
 ghost use Rattle.opcode.specs.Kind.{Kind};
 ghost use Rattle.opcode.specs.Table.{End, Code, plain, carried};
-ghost use Rattle.opcode.specs.Number.{rowOf};
+ghost use Rattle.opcode.specs.Entry.{entryOf};
 ghost use Rattle.checker.specs.Inner.Kinds.{Holds};
 ghost use Rattle.checker.specs.Inner.Judging.{Effected, Judges};
 use crate::stack;
 use crate::stack::Judged;
 use opcode::kind;
 
-// What the instruction takes and leaves, in a number as opcode::effect has it: by its signature, or by the kind of the value or of the
+// What the instruction takes and leaves, in a number as an entry of the table has it: by its signature, or by the kind of the value or of the
 // local. 0 where the local is not declared.
-fn effect_of(strip: &[u8], locals: usize, id: u32, index: u32, kinds: &[u8], depth: usize) -> u32
+fn effect_of(strip: &[u8], locals: usize, entry: u64, index: u32, kinds: &[u8], depth: usize) -> u32
     requires { ⌜ (8 + locals ≤ length (now strip)) × (depth ≤ length (now kinds)) ⌝ }
-    ensures { λ r. ⌜ ((c : Code) (ls κs : List Kind) → rowOf id ≡ carried c → (c ≡ plain End → ⊥) → Holds (drop 8 (now (strip .entry))) locals ls → Holds (now (kinds .entry)) depth κs → Effected ls index c κs r) ⌝ }
+    ensures { λ r. ⌜ ((c : Code) (ls κs : List Kind) → entry ≡ entryOf (carried c) → (c ≡ plain End → ⊥) → Holds (drop 8 (now (strip .entry))) locals ls → Holds (now (kinds .entry)) depth κs → Effected ls index c κs r) ⌝ }
 {
-    let effect = opcode::effect(id);
+    let effect = opcode::effect(entry);
     if effect != 0 {
         return effect;
     }
-    let group = opcode::group(id);
+    let group = opcode::group(entry);
     if group == opcode::GROUP_DROP {
         // of an empty stack any kind: it is not there
         if depth == 0 {
@@ -46,15 +46,15 @@ fn effect_of(strip: &[u8], locals: usize, id: u32, index: u32, kinds: &[u8], dep
 pub(crate) fn judge(
     strip: &[u8],
     locals: usize,
-    id: u32,
+    entry: u64,
     index: u32,
     kinds: &mut [u8],
     depth: usize,
 ) -> Judged
     requires { ⌜ (8 + locals ≤ length (now strip)) × (depth ≤ stackLimit) × (length (now kinds) ≡ stackLimit) ⌝ }
-    ensures { λ r. ⌜ ((c : Code) (ls κs : List Kind) → rowOf id ≡ carried c → (c ≡ plain End → ⊥) → Holds (drop 8 (now (strip .entry))) locals ls → Holds (now (kinds .entry)) depth κs → Judges ls index c κs (now (kinds .exit)) (r .code) (r .depth)) ⌝ }
+    ensures { λ r. ⌜ ((c : Code) (ls κs : List Kind) → entry ≡ entryOf (carried c) → (c ≡ plain End → ⊥) → Holds (drop 8 (now (strip .entry))) locals ls → Holds (now (kinds .entry)) depth κs → Judges ls index c κs (now (kinds .exit)) (r .code) (r .depth)) ⌝ }
 {
-    let effect = effect_of(strip, locals, id, index, kinds, depth);
+    let effect = effect_of(strip, locals, entry, index, kinds, depth);
     if effect == 0 {
         return Judged {
             code: card::LOCAL,

@@ -1,5 +1,6 @@
--- What the check asks of an instruction: whether it can be decoded, which it is, the local that it names, and its length.
-use Rattle.opcode.specs.Number.{idOf}
+-- What the check asks of an instruction: whether it can be decoded, what the table says of it, the local that it names, and its length.
+use Rattle.opcode.specs.Number.{idOf, rowOf}
+use Rattle.opcode.specs.Entry.{entryOf}
 use Rattle.instr.specs.declared.Decoded.{Decoded}
 use Rattle.instr.specs.declared.Scanned.{Scanned}
 
@@ -9,6 +10,6 @@ scanOf d =
       code = d .code;
       place = d .place;
       len = d .len;
-      id = idOf (d .instr .first) (d .instr .number);
+      entry = entryOf (rowOf (idOf (d .instr .first) (d .instr .number)));
       index = d .instr .index;
     }

@@ -1,5 +1,6 @@
 // Decoding: from left to right, each item judged as soon as it is read.
 use crate::Decoded;
+use crate::Fetched;
 use crate::Instr;
 use crate::immediates::with_bytes;
 use crate::immediates::with_index;
@@ -14,27 +15,59 @@ use crate::version::Version;
 ghost use mathlib.Core.Path.{_≡_};
 ghost use Prim.Native.Nat.{_≤_};
 ghost use lib.ListN.{length};
+ghost use Rattle.opcode.specs.Table.{Row};
+ghost use Rattle.opcode.specs.Number.{idOf};
+ghost use Rattle.opcode.specs.Entry.{entryOf, movedIn};
 ghost use Rattle.instr.specs.Layout.{head, instr};
 ghost use Rattle.instr.specs.Decode.{refusal, done, decodeAt};
-ghost use Rattle.instr.specs.Inner.Version.{item, rowBy, opcodeBy, bodyBy, decodeBy};
+ghost use Rattle.instr.specs.Fetch.{fetchOf};
+ghost use Rattle.instr.specs.Inner.Version.{item, opcodeBy, bodyBy, decodeBy};
 
 pub fn decode(s: &[u8], at: usize) -> Decoded
     ensures { λ r. ⌜ r ≡ decodeAt (now (s .entry)) at ⌝ }
 {
-    decode_by(crate::version::ONE, s, at)
+    let f = fetch(s, at);
+    f.decoded
+}
+
+pub fn fetch(s: &[u8], at: usize) -> Fetched
+    ensures { λ r. ⌜ r ≡ fetchOf (decodeAt (now (s .entry)) at) ⌝ }
+{
+    fetch_by(crate::version::ONE, s, at)
 }
 
 // By a version's rules.
-fn decode_by(version: Version, s: &[u8], at: usize) -> Decoded
-    ensures { λ r. ⌜ r ≡ decodeBy version (now (s .entry)) at ⌝ }
+fn fetch_by(version: Version, s: &[u8], at: usize) -> Fetched
+    ensures { λ r. ⌜ r ≡ fetchOf (decodeBy version (now (s .entry)) at) ⌝ }
 {
     if s.len() <= at {
-        return refused(card::SHORT, s.len());
+        return not_found(refused(card::SHORT, s.len()));
     }
     let first = s[at];
     match opcode_number(version, s, at + 1, first) {
-        Read::Got(n, p) => body(version, s, at, p, first, n as u32),
-        Read::No(code, place) => refused(code, place),
+        Read::Got(n, p) => {
+            let number = n as u32;
+            let id = crate::version::id_by(version, first, number);
+            let entry = opcode::entry(id);
+            let decoded = body(version, s, at, p, first, number, entry);
+            if decoded.code != card::DONE {
+                return not_found(decoded);
+            }
+            Fetched { id, entry, decoded }
+        }
+        Read::No(code, place) => not_found(refused(code, place)),
+    }
+}
+
+// A refusal names no instruction: its opcode's numbers are zero, and so is the id.
+fn not_found(decoded: Decoded) -> Fetched
+    requires { ⌜ idOf (decoded .instr .first) (decoded .instr .number) ≡ 0 ⌝ }
+    ensures { λ r. ⌜ r ≡ fetchOf decoded ⌝ }
+{
+    Fetched {
+        id: 0,
+        entry: opcode::entry(0),
+        decoded,
     }
 }
 
@@ -106,12 +139,19 @@ pub(crate) fn opcode_number(version: Version, s: &[u8], p: usize, first: u8) -> 
 }
 
 // What follows the opcode. One caller, so that it becomes part of it; MEMORY and MEMORY_LANE share an arm for the same reason.
-fn body(version: Version, s: &[u8], at: usize, p: usize, first: u8, number: u32) -> Decoded
-    requires { ⌜ (at ≤ p) × (p ≤ length (now s)) ⌝ }
-    ensures { λ r. ⌜ r ≡ bodyBy version (rowBy version first number) (now (s .entry)) at p (head first number) ⌝ }
+fn body(
+    version: Version,
+    s: &[u8],
+    at: usize,
+    p: usize,
+    first: u8,
+    number: u32,
+    entry: u64,
+) -> Decoded
+    requires { ⌜ (at ≤ p) × (p ≤ length (now s)) × (movedIn entry ≤ 16) ⌝ }
+    ensures { λ r. ⌜ ((row : Row) → entry ≡ entryOf row → r ≡ bodyBy version row (now (s .entry)) at p (head first number)) ⌝ }
 {
-    let id = crate::version::id_by(version, first, number);
-    let class = opcode::immediates(id);
+    let class = opcode::immediates(entry);
     match class {
         opcode::NOTHING => whole(at, p, first, number, 0, 0, 0, 0, 0, 0, [0; 16]),
         opcode::INDEX => with_index(version, s, at, p, first, number),
@@ -126,12 +166,12 @@ fn body(version: Version, s: &[u8], at: usize, p: usize, first: u8, number: u32)
                 p,
                 first,
                 number,
-                opcode::moved(id),
-                opcode::lanes(id),
+                opcode::moved(entry),
+                opcode::lanes(entry),
                 laned,
             )
         }
-        opcode::LANE => with_lane(s, at, p, first, number, opcode::lanes(id), 0, 0),
+        opcode::LANE => with_lane(s, at, p, first, number, opcode::lanes(entry), 0, 0),
         opcode::BYTES => with_bytes(s, at, p, first, number),
         opcode::LANES => with_lanes(s, at, p, first, number),
         opcode::FLOAT => refused(card::FLOAT, at),

@@ -38,7 +38,8 @@ fn encode_by(version: Version, i: Instr, out: &mut [u8]) -> Encoded
             len: 0,
         };
     }
-    let class = opcode::immediates(id);
+    let entry = opcode::entry(id);
+    let class = opcode::immediates(entry);
     let n = opcode_len(first, number) + immediates_len(class, i);
     if out.len() < n {
         return Encoded {
@@ -62,25 +63,26 @@ pub fn encoded_len(i: Instr) -> usize
 {
     let first = i.first;
     let number = i.number;
-    let id = opcode::id_of(first, number);
-    opcode_len(first, number) + immediates_len(opcode::immediates(id), i)
+    let entry = opcode::entry(opcode::id_of(first, number));
+    opcode_len(first, number) + immediates_len(opcode::immediates(entry), i)
 }
 
 // A lane index is asked about before the exponent.
 fn fault_of(id: u32, i: Instr) -> u8
     ensures { λ r. ⌜ r ≡ faultOf (rowOf id) i ⌝ }
 {
-    match opcode::immediates(id) {
-        opcode::MEMORY => exponent_fault(i.align, opcode::moved(id)),
+    let entry = opcode::entry(id);
+    match opcode::immediates(entry) {
+        opcode::MEMORY => exponent_fault(i.align, opcode::moved(entry)),
         opcode::MEMORY_LANE => {
-            if crate::wide(i.lane) < opcode::lanes(id) {
-                exponent_fault(i.align, opcode::moved(id))
+            if crate::wide(i.lane) < opcode::lanes(entry) {
+                exponent_fault(i.align, opcode::moved(entry))
             } else {
                 card::LANE
             }
         }
         opcode::LANE => {
-            if crate::wide(i.lane) < opcode::lanes(id) {
+            if crate::wide(i.lane) < opcode::lanes(entry) {
                 card::DONE
             } else {
                 card::LANE

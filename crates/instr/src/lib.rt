@@ -7,6 +7,7 @@ mod scanning;
 mod version;
 
 pub use decoding::decode;
+pub use decoding::fetch;
 pub use encoding::encode;
 pub use encoding::encoded_len;
 pub use scanning::scan;
@@ -34,12 +35,19 @@ pub struct Decoded {
     pub instr: Instr,
 }
 
-// What the check asks of an instruction: the id by which the table knows it, and the local that it names.
+// What the run asks: the instruction, the id by which the table knows it, and what the table says of it.
+pub struct Fetched {
+    pub id: u32,
+    pub entry: u64,
+    pub decoded: Decoded,
+}
+
+// What the check asks: what the table says of the instruction, and the local that it names.
 pub struct Scanned {
     pub code: u8,
     pub place: usize,
     pub len: usize,
-    pub id: u32,
+    pub entry: u64,
     pub index: u32,
 }
 

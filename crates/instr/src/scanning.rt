@@ -1,4 +1,4 @@
-// Scanning: as decoding, for those who ask only which instruction it is, the local that it names and where the next one stands.
+// Scanning: as decoding, for those who ask only what the table says of the instruction, the local that it names and where the next one stands.
 use crate::Scanned;
 use crate::decoding::opcode_number;
 use crate::immediates::good_lanes;
@@ -10,7 +10,8 @@ use crate::version::Version;
 ghost use mathlib.Core.Path.{_≡_};
 ghost use Prim.Native.Nat.{_≤_};
 ghost use lib.ListN.{length};
-ghost use Rattle.opcode.specs.Number.{rowOf};
+ghost use Rattle.opcode.specs.Table.{Row};
+ghost use Rattle.opcode.specs.Entry.{entryOf, movedIn};
 ghost use Rattle.instr.specs.Decode.{refusal, laneAt, lanesAt, sixteenAt, decodeAt};
 ghost use Rattle.instr.specs.Scan.{scanOf};
 ghost use Rattle.instr.specs.Inner.Version.{item, decodeBy};
@@ -33,12 +34,13 @@ fn scan_by(version: Version, s: &[u8], at: usize) -> Scanned
     match opcode_number(version, s, at + 1, first) {
         Read::Got(n, p) => {
             let id = crate::version::id_by(version, first, n as u32);
-            match immediates(version, s, at, p, id) {
+            let entry = opcode::entry(id);
+            match immediates(version, s, at, p, entry) {
                 Read::Got(index, next) => Scanned {
                     code: card::DONE,
                     place: 0,
                     len: next - at,
-                    id,
+                    entry,
                     index: index as u32,
                 },
                 Read::No(code, place) => refused(code, place),
@@ -55,17 +57,17 @@ fn refused(code: u8, place: usize) -> Scanned
         code,
         place,
         len: 0,
-        id: 0,
+        entry: opcode::entry(0),
         index: 0,
     }
 }
 
 // What follows the opcode of the instruction at `at`, from `p` on. One caller, so that it becomes part of it.
-fn immediates(version: Version, s: &[u8], at: usize, p: usize, id: u32) -> Read
-    requires { ⌜ p ≤ length (now s) ⌝ }
-    ensures { λ r. ⌜ item r ≡ overRow version (rowOf id) (now (s .entry)) at p ⌝ }
+fn immediates(version: Version, s: &[u8], at: usize, p: usize, entry: u64) -> Read
+    requires { ⌜ (p ≤ length (now s)) × (movedIn entry ≤ 16) ⌝ }
+    ensures { λ r. ⌜ ((row : Row) → entry ≡ entryOf row → item r ≡ overRow version row (now (s .entry)) at p) ⌝ }
 {
-    let class = opcode::immediates(id);
+    let class = opcode::immediates(entry);
     match class {
         opcode::NOTHING => Read::Got(0, p),
         opcode::INDEX => u32_at(version, s, p),
@@ -73,9 +75,16 @@ fn immediates(version: Version, s: &[u8], at: usize, p: usize, id: u32) -> Read
         opcode::LONG => past(s64_at(version, s, p)),
         opcode::MEMORY | opcode::MEMORY_LANE => {
             let laned = class == opcode::MEMORY_LANE;
-            memory(version, s, p, opcode::moved(id), opcode::lanes(id), laned)
+            memory(
+                version,
+                s,
+                p,
+                opcode::moved(entry),
+                opcode::lanes(entry),
+                laned,
+            )
         }
-        opcode::LANE => lane(s, p, opcode::lanes(id)),
+        opcode::LANE => lane(s, p, opcode::lanes(entry)),
         opcode::BYTES => bytes(s, p),
         opcode::LANES => lanes(s, p),
         opcode::FLOAT => Read::No(card::FLOAT, at),

@@ -2,6 +2,7 @@
 ghost use mathlib.Core.Path.{_≡_};
 ghost use Rattle.opcode.specs.Table.{Code, carried};
 ghost use Rattle.opcode.specs.Number.{rowOf};
+ghost use Rattle.opcode.specs.Entry.{entryOf};
 ghost use Rattle.machine.specs.Inner.Fit.{Fits, Ready, DidBy, boundsOf};
 use crate::access;
 use crate::access::Bounds;
@@ -11,29 +12,29 @@ use instr::Instr;
 use lane::V128;
 
 // The address is the value on top, or the one under it.
-pub fn bounds(id: u32, i: Instr, stack: &[u8], depth: usize, len: usize) -> Bounds
-    requires { ⌜ Fits id i (now stack) depth ⌝ }
+pub fn bounds(id: u32, entry: u64, i: Instr, stack: &[u8], depth: usize, len: usize) -> Bounds
+    requires { ⌜ (entry ≡ entryOf (rowOf id)) × Fits id i (now stack) depth ⌝ }
     ensures { λ r. ⌜ ((c : Code) → rowOf id ≡ carried c → r ≡ boundsOf c i (now (stack .entry)) depth len) ⌝ }
 {
-    match opcode::group(id) {
+    match opcode::group(entry) {
         opcode::GROUP_LOAD => access::bounds_at(
             step::memory::address(i.offset, stack, depth, 1),
-            opcode::moved(id) as usize,
+            opcode::moved(entry) as usize,
             len,
         ),
         opcode::GROUP_LOAD_LANE => access::bounds_at(
             step::memory::address(i.offset, stack, depth, 2),
-            opcode::moved(id) as usize,
+            opcode::moved(entry) as usize,
             len,
         ),
         opcode::GROUP_STORE => access::bounds_at(
             step::memory::address(i.offset, stack, depth, 2),
-            opcode::moved(id) as usize,
+            opcode::moved(entry) as usize,
             len,
         ),
         opcode::GROUP_STORE_LANE => access::bounds_at(
             step::memory::address(i.offset, stack, depth, 2),
-            opcode::moved(id) as usize,
+            opcode::moved(entry) as usize,
             len,
         ),
         _ => Bounds::Clear,
@@ -43,16 +44,17 @@ pub fn bounds(id: u32, i: Instr, stack: &[u8], depth: usize, len: usize) -> Boun
 // Answers how many values the stack holds then. What was asked before is not asked again.
 pub fn exec(
     id: u32,
+    entry: u64,
     i: Instr,
     stack: &mut [u8],
     depth: usize,
     locals: &mut [u8],
     mem: &mut [u8],
 ) -> usize
-    requires { ⌜ Ready id i (now stack) depth (now locals) (now mem) ⌝ }
+    requires { ⌜ (entry ≡ entryOf (rowOf id)) × Ready id i (now stack) depth (now locals) (now mem) ⌝ }
     ensures { λ r. ⌜ DidBy id i (now (stack .entry)) depth (now (locals .entry)) (now (mem .entry)) r (now (stack .exit)) (now (locals .exit)) (now (mem .exit)) ⌝ }
 {
-    match opcode::group(id) {
+    match opcode::group(entry) {
         opcode::GROUP_DROP => depth - 1,
         opcode::GROUP_LOCAL_GET => {
             step::numbers::get_local(i.index, locals, stack, depth);
@@ -83,14 +85,21 @@ pub fn exec(
             depth - 1
         }
         opcode::GROUP_LOAD => {
-            step::memory::load(id, i.offset, opcode::moved(id) as usize, mem, stack, depth);
+            step::memory::load(
+                id,
+                i.offset,
+                opcode::moved(entry) as usize,
+                mem,
+                stack,
+                depth,
+            );
             depth
         }
         opcode::GROUP_LOAD_LANE => {
             step::memory::load_lane(
                 id,
                 i.offset,
-                opcode::moved(id) as usize,
+                opcode::moved(entry) as usize,
                 i.lane,
                 mem,
                 stack,
@@ -106,7 +115,7 @@ pub fn exec(
             step::memory::store_lane(
                 id,
                 i.offset,
-                opcode::moved(id) as usize,
+                opcode::moved(entry) as usize,
                 i.lane,
                 mem,
                 stack,

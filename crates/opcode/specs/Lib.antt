@@ -3,5 +3,5 @@ pub mod Table
 pub mod Immediate
 pub mod Effect
 pub mod Number
+pub mod Entry
 pub mod Lists
-pub mod Inner

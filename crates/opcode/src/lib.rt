@@ -3,9 +3,10 @@
 pub mod kind;
 mod table;
 
+pub use table::entry;
 ghost use mathlib.Core.Path.{_≡_};
-ghost use Rattle.opcode.specs.Immediate.{movedBy, lanesOf};
-ghost use Rattle.opcode.specs.Number.{groupOf, idOf, rowOf, classOf, effectOf};
+ghost use Rattle.opcode.specs.Number.{idOf};
+ghost use Rattle.opcode.specs.Entry.{classIn, movedIn, lanesIn, groupIn, effectIn};
 
 // The classes of immediates.
 pub const NOTHING: u8 = 0;
@@ -94,36 +95,36 @@ pub fn id_of(first: u8, number: u32) -> u32
 }
 
 // The class of what follows the opcode.
-pub fn immediates(id: u32) -> u8
-    ensures { λ r. ⌜ r ≡ classOf (rowOf id) ⌝ }
+pub fn immediates(entry: u64) -> u8
+    ensures { λ r. ⌜ r ≡ classIn entry ⌝ }
 {
-    (table::entry(id) % 256) as u8
-}
-
-// The group that an instruction belongs to.
-pub fn group(id: u32) -> u8
-    ensures { λ r. ⌜ r ≡ groupOf (rowOf id) ⌝ }
-{
-    (table::entry(id) / 16777216 % 256) as u8
+    (entry % 256) as u8
 }
 
 // The bytes that an access moves; 0 where memory is not touched.
-pub fn moved(id: u32) -> u32
-    ensures { λ r. ⌜ r ≡ movedBy (rowOf id) ⌝ }
+pub fn moved(entry: u64) -> u32
+    ensures { λ r. ⌜ r ≡ movedIn entry ⌝ }
 {
-    (table::entry(id) / 256 % 256) as u32
+    (entry / 256 % 256) as u32
 }
 
 // How many lanes a lane index chooses among; 0 where there is no lane index.
-pub fn lanes(id: u32) -> u32
-    ensures { λ r. ⌜ r ≡ lanesOf (rowOf id) ⌝ }
+pub fn lanes(entry: u64) -> u32
+    ensures { λ r. ⌜ r ≡ lanesIn entry ⌝ }
 {
-    (table::entry(id) / 65536 % 256) as u32
+    (entry / 65536 % 256) as u32
+}
+
+// The group that an instruction belongs to.
+pub fn group(entry: u64) -> u8
+    ensures { λ r. ⌜ r ≡ groupIn entry ⌝ }
+{
+    (entry / 16777216 % 256) as u8
 }
 
 // The kinds' bytes: the top operand in byte 0, those below it in bytes 1 and 2, what is left in byte 3; 0 where there is none.
-pub fn effect(id: u32) -> u32
-    ensures { λ r. ⌜ r ≡ effectOf (rowOf id) ⌝ }
+pub fn effect(entry: u64) -> u32
+    ensures { λ r. ⌜ r ≡ effectIn entry ⌝ }
 {
-    (table::entry(id) / 0x1_0000_0000) as u32
+    (entry / 0x1_0000_0000) as u32
 }

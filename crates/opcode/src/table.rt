@@ -14,7 +14,7 @@ use crate::UNASSIGNED;
 use crate::WORD;
 ghost use mathlib.Core.Path.{_≡_};
 ghost use Rattle.opcode.specs.Number.{rowOf};
-ghost use Rattle.opcode.specs.Inner.Entry.{entryOf};
+ghost use Rattle.opcode.specs.Entry.{entryOf};
 
 const END: u64 = NOTHING as u64;
 
@@ -102,7 +102,7 @@ const NONE: u64 = 0x17_00_00_00 + UNASSIGNED as u64;
 
 // No arm has two neighbours: the even numbers stand in one and the odd ones in another. Neighbours would be compiled to a search by
 // comparisons, and numbers that stand alone are compiled to a table in memory.
-pub(crate) fn entry(id: u32) -> u64
+pub fn entry(id: u32) -> u64
     ensures { λ r. ⌜ r ≡ entryOf (rowOf id) ⌝ }
 {
     match id {

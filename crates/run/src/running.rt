@@ -4,6 +4,8 @@ ghost use Prim.Native.Nat.{_≤_};
 ghost use lib.ListN.{length, take};
 ghost use Rattle.run.specs.Inner.Steps.{Ready, Drove};
 ghost use Rattle.run.specs.Meter.{leaves};
+ghost use Rattle.opcode.specs.Number.{rowOf};
+ghost use Rattle.opcode.specs.Entry.{entryOf};
 ghost use Rattle.machine.specs.Inner.Fit.{Ready as Apt, DidBy};
 use crate::Stack;
 use crate::arguments::locals_of;
@@ -37,10 +39,10 @@ pub(crate) fn drive(
                 steps,
             };
         }
-        let d = instr::decode(strip, at);
+        let f = instr::fetch(strip, at);
+        let d = f.decoded;
         let i = d.instr;
-        let id = opcode::id_of(i.first, i.number);
-        if opcode::group(id) == opcode::GROUP_END {
+        if opcode::group(f.entry) == opcode::GROUP_END {
             put_results(&stack.bytes, results);
             return Answer {
                 code: card::DONE,
@@ -49,9 +51,17 @@ pub(crate) fn drive(
             };
         }
         let depth = stack.depth;
-        match machine::bounds(id, i, &stack.bytes, depth, mem.len()) {
+        match machine::bounds(f.id, f.entry, i, &stack.bytes, depth, mem.len()) {
             Bounds::Clear => {
-                stack.depth = exec(id, i, &mut stack.bytes, depth, &mut locals.bytes, mem);
+                stack.depth = exec(
+                    f.id,
+                    f.entry,
+                    i,
+                    &mut stack.bytes,
+                    depth,
+                    &mut locals.bytes,
+                    mem,
+                );
                 at += d.len;
                 steps += 1;
             }
@@ -67,16 +77,17 @@ pub(crate) fn drive(
 // The machine's own, lent the two arrays.
 fn exec(
     id: u32,
+    entry: u64,
     i: Instr,
     stack: &mut [u8; limits::STACK_BYTES],
     depth: usize,
     locals: &mut [u8; limits::LOCAL_BYTES],
     mem: &mut [u8],
 ) -> usize
-    requires { ⌜ Apt id i (now stack) depth (now locals) (now mem) ⌝ }
+    requires { ⌜ (entry ≡ entryOf (rowOf id)) × Apt id i (now stack) depth (now locals) (now mem) ⌝ }
     ensures { λ r. ⌜ DidBy id i (now (stack .entry)) depth (now (locals .entry)) (now (mem .entry)) r (now (stack .exit)) (now (locals .exit)) (now (mem .exit)) ⌝ }
 {
-    machine::exec(id, i, stack, depth, locals, mem)
+    machine::exec(id, entry, i, stack, depth, locals, mem)
 }
 
 // The stack's values, the lowest first.

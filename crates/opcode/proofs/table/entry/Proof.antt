@@ -4,7 +4,7 @@ use Prim.Native.Nat.{ℕ}
 use mir.Syntax.{Body}
 use Rattle.opcode.specs.Table.{vectors, vectorAt, plainAt}
 use Rattle.opcode.specs.Number.{rowOf}
-use Rattle.opcode.specs.Inner.Entry.{entryOf}
+use Rattle.opcode.specs.Entry.{entryOf}
 use Rattle.opcode.proofs.Rows.{row-beyond}
 use Rattle.opcode.proofs.Arms.{in-arm, past-arms}
 use Rattle.opcode.proofs.table.entry.Code.{function}

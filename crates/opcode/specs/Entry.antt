@@ -1,0 +1,23 @@
+-- A row of the table as one number of eight bytes, its entry, and what each of its bytes says.
+use Prim.Native.Nat.{ℕ, _+_, _*_, _/_, _%_, _^_}
+use Rattle.opcode.specs.Table.{Row}
+use Rattle.opcode.specs.Immediate.{movedBy, lanesOf}
+use Rattle.opcode.specs.Number.{classOf, groupOf, effectOf}
+
+abbrev pub entryOf : Row → ℕ
+entryOf r = classOf r + 2 ^ 8 * movedBy r + 2 ^ 16 * lanesOf r + 2 ^ 24 * groupOf r + 2 ^ 32 * effectOf r
+
+abbrev pub classIn : ℕ → ℕ
+classIn e = e % 2 ^ 8
+
+abbrev pub movedIn : ℕ → ℕ
+movedIn e = e / 2 ^ 8 % 2 ^ 8
+
+abbrev pub lanesIn : ℕ → ℕ
+lanesIn e = e / 2 ^ 16 % 2 ^ 8
+
+abbrev pub groupIn : ℕ → ℕ
+groupIn e = e / 2 ^ 24 % 2 ^ 8
+
+abbrev pub effectIn : ℕ → ℕ
+effectIn e = e / 2 ^ 32
