@@ -91,24 +91,24 @@ memory-class unassigned m l = absurd (omega arith)
 pub row-in : (first n id : ℕ) → first < 256 → id ≡ idOf first n → rowOf id ≡ rowAt first n
 row-in first n id l e = ap rowOf e ∙ row-of-id first n l
 
--- r is the row of the id, class its class
-module _ (r : Row) (id class : ℕ) (e : rowOf id ≡ r) (f : class ≡ classOf (rowOf id)) where
+-- class is that of the row
+module _ (r : Row) (class : ℕ) (f : class ≡ classOf r) where
   pub class-at : {k : ℕ} → class ≡ k → classOf r ≡ k
-  class-at g = ap classOf (sym e) ∙ sym f ∙ g
+  class-at g = sym f ∙ g
 
   module _ (ver : Version) (s : List ℕ) (at p : ℕ) (h : Head) where
-    pub body-lane : (k : ℕ) → k ≡ lanesOf (rowOf id) → class ≡ classNumber laneIndex → laneEnds k s at p h 0 0 ≡ bodyBy ver r s at p h
+    pub body-lane : (k : ℕ) → k ≡ lanesOf r → class ≡ classNumber laneIndex → laneEnds k s at p h 0 0 ≡ bodyBy ver r s at p h
     unfolding laneEnds immediatesBy immediatesAt
-    body-lane k g c = rw (g ∙ ap lanesOf e) (sym (body-class r laneIndex (class-at c) ver s at p h))
+    body-lane k g c = rw g (sym (body-class r laneIndex (class-at c) ver s at p h))
 
-    pub body-memory : (m k : ℕ) (laned : Bool) → m ≡ movedBy (rowOf id) → k ≡ lanesOf (rowOf id) → laned ≡ eqb class 5 → AllBut decoded class → class < 6
+    pub body-memory : (m k : ℕ) (laned : Bool) → m ≡ movedBy r → k ≡ lanesOf r → laned ≡ eqb class 5 → AllBut decoded class → class < 6
         → immediatesBy ver (memoryClass laned) m k s at p h ≡ bodyBy ver r s at p h
     body-memory m k laned g i j o t =
-        rw (g ∙ ap movedBy e, i ∙ ap lanesOf e, j)
+        rw (g, i, j)
         (⊎-elim
         (λ c. rw (ne-eqb class 5 (λ z. omega (arith, f, c))) (sym (body-class r memory (class-at (f ∙ c)) ver s at p h)))
         (λ c. rw (eq-eqb class 5 (f ∙ c)) (sym (body-class r memoryLane (class-at (f ∙ c)) ver s at p h)))
-        (memory-class (rowOf id) (subst (AllBut decoded) f o) (omega (arith, f))))
+        (memory-class r (subst (AllBut decoded) f o) (omega (arith, f))))
 
     pub body-none : AllBut decoded class → 6 ≤ class → bodyBy ver r s at p h ≡ refusal OPCODE at
     body-none o t =

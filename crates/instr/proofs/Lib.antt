@@ -12,6 +12,7 @@ pub mod Items
 pub mod Numbers
 pub mod Memory
 pub mod Over
+pub mod Named
 pub mod Sixteens
 pub mod Sets
 pub mod Forms

@@ -13,8 +13,8 @@ use Rattle.leb128.specs.Bytes.{bytes}
 use Rattle.opcode.specs.Table.{Row, carried, float, unassigned, PREFIX, rowAt}
 use Rattle.opcode.specs.Immediate.{Immediates, nothing, index, word, long, memory, memoryLane, laneIndex, sixteenBytes, sixteenLanes, immediates, movedBy, lanesOf}
 use Rattle.opcode.specs.Number.{classNumber, FLOAT, classOf, idOf, rowOf}
+use Rattle.opcode.specs.Entry.{entryOf}
 use Rattle.opcode.proofs.Id.{row-of-id}
-use Rattle.opcode.proofs.Inverse.{row-once}
 use Rattle.opcode.proofs.Classes.{class-carried, class-float}
 use Rattle.instr.specs.Layout.{Head, head}
 use Rattle.instr.specs.Decode.{refusal, Item, got, no, andThen, andRead, byteAt, laneAt, lanesAt, sixteenAt, immediatesAt}
@@ -148,27 +148,27 @@ module _ (at : ℕ) where
 -- ---- the answer
 
 abbrev pub answered : ℕ → ℕ → Item → Scanned
-answered at id (got v next) = record { code = DONE; place = 0; len = next - at; id = id; index = v }
-answered at id (no c l) = scanOf (refusal c l)
+answered at e (got v next) = record { code = DONE; place = 0; len = next - at; entry = e; index = v }
+answered at e (no c l) = scanOf (refusal c l)
 
 module _ (at : ℕ) (h : Head) where
-  then-over : (i : Item) (f : ℕ → ℕ → Decoded) → ((v q : ℕ) → scanOf (f v q) ≡ answered at (idOf (h .first) (h .number)) (got 0 q))
-      → scanOf (andThen i f) ≡ answered at (idOf (h .first) (h .number)) (over i)
+  then-over : (i : Item) (f : ℕ → ℕ → Decoded) → ((v q : ℕ) → scanOf (f v q) ≡ answered at (entryOf (rowOf (idOf (h .first) (h .number)))) (got 0 q))
+      → scanOf (andThen i f) ≡ answered at (entryOf (rowOf (idOf (h .first) (h .number)))) (over i)
   then-over (got v q) f e = e v q
   then-over (no c l) f e = refl
 
-  then-read : (i : Item) (f : ℕ → ℕ → Decoded) (g : ℕ → ℕ → Item) → ((v q : ℕ) → scanOf (f v q) ≡ answered at (idOf (h .first) (h .number)) (g v q))
-      → scanOf (andThen i f) ≡ answered at (idOf (h .first) (h .number)) (andRead i g)
+  then-read : (i : Item) (f : ℕ → ℕ → Decoded) (g : ℕ → ℕ → Item) → ((v q : ℕ) → scanOf (f v q) ≡ answered at (entryOf (rowOf (idOf (h .first) (h .number)))) (g v q))
+      → scanOf (andThen i f) ≡ answered at (entryOf (rowOf (idOf (h .first) (h .number)))) (andRead i g)
   then-read (got v q) f g e = e v q
   then-read (no c l) f g e = refl
 
-  then-kept : (i : Item) (f : ℕ → ℕ → Decoded) → ((v q : ℕ) → scanOf (f v q) ≡ answered at (idOf (h .first) (h .number)) (got v q))
-      → scanOf (andThen i f) ≡ answered at (idOf (h .first) (h .number)) i
+  then-kept : (i : Item) (f : ℕ → ℕ → Decoded) → ((v q : ℕ) → scanOf (f v q) ≡ answered at (entryOf (rowOf (idOf (h .first) (h .number)))) (got v q))
+      → scanOf (andThen i f) ≡ answered at (entryOf (rowOf (idOf (h .first) (h .number)))) i
   then-kept (got v q) f e = e v q
   then-kept (no c l) f e = refl
 
   module _ (ver : Version) (s : List ℕ) (p : ℕ) where
-    scan-class : (k : Immediates) (m n : ℕ) → scanOf (immediatesBy ver k m n s at p h) ≡ answered at (idOf (h .first) (h .number)) (overClass ver k m n s p)
+    scan-class : (k : Immediates) (m n : ℕ) → scanOf (immediatesBy ver k m n s at p h) ≡ answered at (entryOf (rowOf (idOf (h .first) (h .number)))) (overClass ver k m n s p)
     unfolding immediatesBy immediatesAt overClass overMemory
     scan-class nothing m n = refl
     scan-class index m n = then-kept (numberBy ver false 32 s p) _ (λ v q. refl)
@@ -181,36 +181,36 @@ module _ (at : ℕ) (h : Head) where
     scan-class sixteenBytes m n = then-over (sixteenAt s p) _ (λ v q. refl)
     scan-class sixteenLanes m n = then-over (lanesAt 16 s p) _ (λ v q. refl)
 
-    scan-row : (r : Row) → scanOf (bodyBy ver r s at p h) ≡ answered at (idOf (h .first) (h .number)) (overRow ver r s at p)
+    scan-row : (r : Row) → scanOf (bodyBy ver r s at p h) ≡ answered at (entryOf (rowOf (idOf (h .first) (h .number)))) (overRow ver r s at p)
     unfolding bodyBy overRow
     scan-row (carried c) = scan-class (immediates c) (movedBy (carried c)) (lanesOf (carried c))
     scan-row float = refl
     scan-row unassigned = refl
 
--- a row that is carried has one id; for another row the id is not told
-same-id : (ver : Version) (s : List ℕ) (at p id id′ : ℕ) (r : Row) → rowOf id ≡ r → rowOf id′ ≡ r
-    → answered at id (overRow ver r s at p) ≡ answered at id′ (overRow ver r s at p)
-unfolding overRow
-same-id ver s at p id id′ (carried c) e f = ap (λ (x : ℕ). answered at x (overRow ver (carried c) s at p)) (row-once e f)
-same-id ver s at p id id′ float e f = refl
-same-id ver s at p id id′ unassigned e f = refl
-
-module _ (ver : Version) (s : List ℕ) (at p first n id : ℕ) (l : first < 256) where
-  scan-either : (t : Bool) → rowOf id ≡ cond t unassigned (rowAt first n)
-      → answered at id (overRow ver (cond t unassigned (rowAt first n)) s at p) ≡ scanOf (bodyBy ver (cond t unassigned (rowAt first n)) s at p (head first n))
+-- a row that is refused has no entry to tell
+module _ (ver : Version) (s : List ℕ) (at p first n : ℕ) (l : first < 256) where
+  scan-either : (t : Bool) → answered at (entryOf (cond t unassigned (rowAt first n))) (overRow ver (cond t unassigned (rowAt first n)) s at p)
+      ≡ scanOf (bodyBy ver (cond t unassigned (rowAt first n)) s at p (head first n))
   unfolding bodyBy overRow
-  scan-either true e = refl
-  scan-either false e = same-id ver s at p id (idOf first n) (rowAt first n) e (row-of-id first n l) ∙ sym (scan-row at (head first n) ver s p (rowAt first n))
+  scan-either true = refl
+  scan-either false =
+      ap (λ (r : Row). answered at (entryOf r) (overRow ver (rowAt first n) s at p)) (sym (row-of-id first n l)) ∙ sym (scan-row at (head first n) ver s p (rowAt first n))
 
-  scan-body : rowOf id ≡ rowBy ver first n → answered at id (overRow ver (rowOf id) s at p) ≡ scanOf (bodyBy ver (rowBy ver first n) s at p (head first n))
+  scan-body : answered at (entryOf (rowBy ver first n)) (overRow ver (rowBy ver first n) s at p) ≡ scanOf (bodyBy ver (rowBy ver first n) s at p (head first n))
   unfolding rowBy
-  scan-body e =
-      ap (λ (r : Row). answered at id (overRow ver r s at p)) e ∙ scan-either (eqb first PREFIX && leb (ver .vectors) n) e
+  scan-body = scan-either (eqb first PREFIX && leb (ver .vectors) n)
 
--- a byte, a number and the rest were read
-pub scanned : (ver : Version) (s : List ℕ) (at : ℕ) → at < length s → bytes s → (n p : ℕ) → opcodeBy ver (getD s at 0) s (at + 1) ≡ got n p
-    → (id : ℕ) → rowOf id ≡ rowBy ver (getD s at 0) n → (i : Item) → overRow ver (rowOf id) s at p ≡ i → answered at id i ≡ scanOf (decodeBy ver s at)
+-- a byte and a number were read
+pub decode-body : (ver : Version) (s : List ℕ) (at : ℕ) → at < length s → (n p : ℕ) → opcodeBy ver (getD s at 0) s (at + 1) ≡ got n p
+    → decodeBy ver s at ≡ bodyBy ver (rowBy ver (getD s at 0) n) s at p (head (getD s at 0) n)
 unfolding decodeBy
-scanned ver s at l b n p o id e i t =
-    let d : decodeBy ver s at ≡ bodyBy ver (rowBy ver (getD s at 0) n) s at p (head (getD s at 0) n) = rw (byte-there s at l, o) in
-    sym (ap (answered at id) t) ∙ scan-body ver s at p (getD s at 0) n id (b at) e ∙ ap scanOf (sym d)
+decode-body ver s at l n p o = rw (byte-there s at l, o)
+
+-- and the rest
+pub scanned : (ver : Version) (s : List ℕ) (at : ℕ) → at < length s → bytes s → (n p : ℕ) → opcodeBy ver (getD s at 0) s (at + 1) ≡ got n p
+    → (e : ℕ) → e ≡ entryOf (rowBy ver (getD s at 0) n) → (i : Item) → overRow ver (rowBy ver (getD s at 0) n) s at p ≡ i → answered at e i ≡ scanOf (decodeBy ver s at)
+scanned ver s at l b n p o e is i t =
+    ap (λ (x : ℕ). answered at x i) is
+    ∙ sym (ap (answered at (entryOf (rowBy ver (getD s at 0) n))) t)
+    ∙ scan-body ver s at p (getD s at 0) n (b at)
+    ∙ ap scanOf (sym (decode-body ver s at l n p o))

@@ -4,15 +4,20 @@ use Prim.Native.Nat.{ℕ}
 use mathlib.Core.Path.{_≡_, sym, _∙_}
 use denote.Ref.{now}
 use Rattle.instr.specs.declared.Decoded.{Decoded}
+use Rattle.instr.specs.declared.Fetched.{Fetched}
 use Rattle.instr.specs.declared.Scanned.{Scanned}
 use Rattle.instr.specs.declared.Encoded.{Encoded}
 use Rattle.instr.proofs.decoding.decode.Reads as decode
+use Rattle.instr.proofs.decoding.fetch.Reads as fetch
 use Rattle.instr.proofs.scanning.scan.Reads as scan
 use Rattle.instr.proofs.encoding.encode.Reads as encode
 use Rattle.instr.proofs.encoding.encoded_len.Reads as encoded-len
 
 pub one-decoding : (κs : _) (a : _) (e e′ : _) (r r′ : Decoded) → decode.Post κs a r e → decode.Post κs a r′ e′ → r ≡ r′
 one-decoding κs a e e′ r r′ p q = p ∙ sym q
+
+pub one-fetch : (κs : _) (a : _) (e e′ : _) (r r′ : Fetched) → fetch.Post κs a r e → fetch.Post κs a r′ e′ → r ≡ r′
+one-fetch κs a e e′ r r′ p q = p ∙ sym q
 
 pub one-scan : (κs : _) (a : _) (e e′ : _) (r r′ : Scanned) → scan.Post κs a r e → scan.Post κs a r′ e′ → r ≡ r′
 one-scan κs a e e′ r r′ p q = p ∙ sym q

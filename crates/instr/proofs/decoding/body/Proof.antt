@@ -1,18 +1,13 @@
 -- Each class has its function; the class is the row's.
 use borrow.Author.Needs.{needs}
 use mathlib.Core.Path.{sym, _∙_, refl}
-use native.Mathlib.Omega.{arith}
-use Rattle.opcode.specs.Number.{rowOf}
 use Rattle.opcode.specs.Immediate.{nothing, index, word, long, sixteenBytes, sixteenLanes}
-use Rattle.opcode.proofs.Classes.{row-moved-small}
+use Rattle.opcode.proofs.Entries.{class-in, moved-in, lanes-in}
 use Rattle.instr.specs.Decode.{immediatesAt}
 use Rattle.instr.specs.Inner.Version.{immediatesBy}
 use Rattle.instr.proofs.Classes.{class-at, body-class, body-lane, body-memory, body-float, body-none}
 use Rattle.instr.proofs.decoding.body.Statement.{statement}
 use Rattle.instr.proofs.decoding.body.Tie as tie
-
-id-by-requires : tie.Need-id-by-requires
-id-by-requires c κs = search needs
 
 immediates-requires : tie.Need-immediates-requires
 immediates-requires c κs = search needs
@@ -51,91 +46,68 @@ lanes-requires-2 : tie.Need-lanes-requires-2
 lanes-requires-2 c κs = search needs
 
 with-memory-requires : tie.Need-with-memory-requires
-with-memory-requires c κs =
-    let start = c .before .before .before .before .before .before .before in
-    let at-id-by = c .before .before .before .before .before in
-    (start .pre .0, omega (arith, c .before .moved .ensures, row-moved-small (rowOf (at-id-by .id-by .result))))
+with-memory-requires c κs = search needs
 
 refused-requires-2 : tie.Need-refused-requires-2
 refused-requires-2 c κs = search needs
 
 returns : tie.Need-returns
 unfolding immediatesBy immediatesAt
-returns c =
-    let at-id-by = c .before .before .before in
-    c .whole .ensures ∙ sym (body-class _ nothing (class-at _ _ _ (at-id-by .id-by .ensures)
-    (c .before .before .immediates .ensures) (c .before .match .keys1)) _ _ _ _ _)
+returns c row is =
+    c .whole .ensures ∙ sym (body-class row nothing (class-at row _ (c .before .before .immediates .ensures ∙ class-in row is) (c .before .match .keys1)) _ _ _ _ _)
 
 returns-2 : tie.Need-returns-2
 unfolding immediatesBy
-returns-2 c =
-    let at-id-by = c .before .before .before in
-    c .with-index .ensures ∙ sym (body-class _ index (class-at _ _ _ (at-id-by .id-by .ensures)
-    (c .before .before .immediates .ensures) (c .before .match .keys2)) _ _ _ _ _)
+returns-2 c row is =
+    c .with-index .ensures ∙ sym (body-class row index (class-at row _ (c .before .before .immediates .ensures ∙ class-in row is) (c .before .match .keys2)) _ _ _ _ _)
 
 returns-3 : tie.Need-returns-3
 unfolding immediatesBy
-returns-3 c =
-    let at-id-by = c .before .before .before in
-    c .with-word .ensures ∙ sym (body-class _ word (class-at _ _ _ (at-id-by .id-by .ensures)
-    (c .before .before .immediates .ensures) (c .before .match .keys3)) _ _ _ _ _)
+returns-3 c row is =
+    c .with-word .ensures ∙ sym (body-class row word (class-at row _ (c .before .before .immediates .ensures ∙ class-in row is) (c .before .match .keys3)) _ _ _ _ _)
 
 returns-4 : tie.Need-returns-4
 unfolding immediatesBy
-returns-4 c =
-    let at-id-by = c .before .before .before in
-    c .with-long .ensures ∙ sym (body-class _ long (class-at _ _ _ (at-id-by .id-by .ensures)
-    (c .before .before .immediates .ensures) (c .before .match .keys4)) _ _ _ _ _)
+returns-4 c row is =
+    c .with-long .ensures ∙ sym (body-class row long (class-at row _ (c .before .before .immediates .ensures ∙ class-in row is) (c .before .match .keys4)) _ _ _ _ _)
 
 returns-5 : tie.Need-returns-5
-returns-5 c =
-    let at-id-by = c .before .before .before .before in
-    let at-immediates = c .before .before .before in
-    c .with-lane .ensures ∙ body-lane _ _ _ (at-id-by .id-by .ensures)
-    (at-immediates .immediates .ensures) _ _ _ _ _ _ (c .before .lanes .ensures) (c .before .before .match .keys5)
+returns-5 c row is =
+    c .with-lane .ensures ∙ body-lane row _ (c .before .before .before .immediates .ensures ∙ class-in row is) _ _ _ _ _ _ (c .before .lanes .ensures ∙ lanes-in row is)
+    (c .before .before .match .keys5)
 
 returns-6 : tie.Need-returns-6
 unfolding immediatesBy immediatesAt
-returns-6 c =
-    let at-id-by = c .before .before .before in
-    c .with-bytes .ensures ∙ sym (body-class _ sixteenBytes (class-at _ _ _ (at-id-by .id-by .ensures)
-    (c .before .before .immediates .ensures) (c .before .match .keys6)) _ _ _ _ _)
+returns-6 c row is =
+    c .with-bytes .ensures ∙ sym (body-class row sixteenBytes (class-at row _ (c .before .before .immediates .ensures ∙ class-in row is) (c .before .match .keys6)) _ _ _ _ _)
 
 returns-7 : tie.Need-returns-7
 unfolding immediatesBy immediatesAt
-returns-7 c =
-    let at-id-by = c .before .before .before in
-    c .with-lanes .ensures ∙ sym (body-class _ sixteenLanes (class-at _ _ _ (at-id-by .id-by .ensures)
-    (c .before .before .immediates .ensures) (c .before .match .keys7)) _ _ _ _ _)
+returns-7 c row is =
+    c .with-lanes .ensures ∙ sym (body-class row sixteenLanes (class-at row _ (c .before .before .immediates .ensures ∙ class-in row is) (c .before .match .keys7)) _ _ _ _ _)
 
 returns-8 : tie.Need-returns-8
-returns-8 c =
-    let at-id-by = c .before .before .before in
-    c .refused .ensures ∙ sym (body-float _ (class-at _ _ _ (at-id-by .id-by .ensures)
-    (c .before .before .immediates .ensures) (c .before .match .keys8)) _ _ _ _ _)
+returns-8 c row is =
+    c .refused .ensures ∙ sym (body-float row (class-at row _ (c .before .before .immediates .ensures ∙ class-in row is) (c .before .match .keys8)) _ _ _ _ _)
 
 returns-9 : tie.Need-returns-9
-returns-9 c =
-    let at-id-by = c .before .before .before .before .before .before in
+returns-9 c row is =
     let at-immediates = c .before .before .before .before .before in
     let at-match = c .before .before .before .before in
     let at-if1 = c .before .before .before in
-    c .with-memory .ensures ∙ body-memory _ _ _ (at-id-by .id-by .ensures)
-    (at-immediates .immediates .ensures) _ _ _ _ _ _ _ _ (c .before .before .moved .ensures) (c .before .lanes2 .ensures) refl (at-match .match .rest)
+    c .with-memory .ensures ∙ body-memory row _ (at-immediates .immediates .ensures ∙ class-in row is) _ _ _ _ _ _ _ _ (c .before .before .moved .ensures ∙ moved-in row is)
+    (c .before .lanes2 .ensures ∙ lanes-in row is) refl (at-match .match .rest)
     (at-if1 .if1 .taken)
 
 returns-10 : tie.Need-returns-10
-returns-10 c =
-    let at-id-by = c .before .before .before .before in
+returns-10 c row is =
     let at-immediates = c .before .before .before in
-    c .refused2 .ensures ∙ sym (body-none _ _ _ (at-id-by .id-by .ensures)
-    (at-immediates .immediates .ensures) _ _ _ _ _ (c .before .before .match .rest) (c .before .if1 .left))
+    c .refused2 .ensures ∙ sym (body-none row _ (at-immediates .immediates .ensures ∙ class-in row is) _ _ _ _ _ (c .before .before .match .rest) (c .before .if1 .left))
 
 pub body-spec : {M : Type 1} → statement M
 body-spec =
     tie.close
     (tie.spec
-    id-by-requires
     immediates-requires
     whole-requires
     with-index-requires

@@ -1,15 +1,25 @@
--- The opcode's bytes and the immediates'.
-use borrow.Author.Needs.{needs}
 use mathlib.Core.Path.{ap, _∙_}
 use native.Mathlib.Omega.{arith}
-use Rattle.opcode.specs.Number.{classOf}
+use Rattle.opcode.specs.Number.{classOf, rowOf}
+use Rattle.opcode.proofs.Entries.{class-in}
 use Rattle.instr.proofs.Classes.{row-in}
 use Rattle.instr.proofs.Forms.{encoding-length}
+use borrow.Author.Needs.{needs}
 use Rattle.instr.proofs.encoding.encoded_len.Statement.{statement}
 use Rattle.instr.proofs.encoding.encoded_len.Tie as tie
+use Rattle.instr.proofs.encoding.encoded_len.Reads as reads
+use Rattle.instr.proofs.encoding.encoded_len.Lts as lts
+use Rattle.instr.proofs.encoding.immediates_len.Reads as immediates-len-reads
+use Rattle.instr.proofs.encoding.opcode_len.Reads as opcode-len-reads
+use Rattle.opcode.proofs.id_of.Reads as id-of-reads
+use Rattle.opcode.proofs.immediates.Reads as immediates-reads
+use Rattle.opcode.proofs.entry.Reads as entry-reads
 
 id-of-requires : tie.Need-id-of-requires
 id-of-requires c κs = search needs
+
+entry-requires : tie.Need-entry-requires
+entry-requires c κs = search needs
 
 opcode-len-requires : tie.Need-opcode-len-requires
 opcode-len-requires c κs = search needs
@@ -19,22 +29,21 @@ immediates-requires c κs = search needs
 
 immediates-len-requires : tie.Need-immediates-len-requires
 immediates-len-requires c κs =
-    let start = c .before .before .before in
-    c .immediates .ensures ∙ ap classOf (row-in (start .args .i .first) (start .args .i .number) _ (search needs) (c .before .before .id-of .ensures))
+    let i = c .before .before .before .before .args .i in
+    c .immediates .ensures ∙ class-in (rowOf (c .before .before .before .id-of .result)) (c .before .before .entry .ensures) ∙ ap classOf (row-in (i .first) (i .number) _ (search needs) (c .before .before .before .id-of .ensures))
 
 add-result : tie.Need-add-result
 add-result c = search needs
 
 returns : tie.Need-returns
-returns c =
-    let start = c .before .before .before .before in
-    omega (arith, encoding-length (start .args .i), c .before .before .opcode-len .ensures .0, c .immediates-len .ensures .0)
+returns c = omega (arith, encoding-length (c .before .before .before .before .before .args .i), c .before .before .opcode-len .ensures .0, c .immediates-len .ensures .0)
 
 pub encoded-len-spec : {M : Type 1} → statement M
 encoded-len-spec =
     tie.close
     (tie.spec
     id-of-requires
+    entry-requires
     opcode-len-requires
     immediates-requires
     immediates-len-requires

@@ -1,13 +1,25 @@
--- What is wrong, class by class.
-use borrow.Author.Needs.{needs}
 use mathlib.Core.Bool.{true, false}
 use mathlib.Core.Path.{sym, subst, _∙_}
 use native.Mathlib.Omega.{arith}
 use Rattle.opcode.specs.Number.{rowOf}
 use Rattle.opcode.proofs.Classes.{row-moved-small}
+use Rattle.opcode.proofs.Entries.{class-in, moved-in, lanes-in}
 use Rattle.instr.proofs.Classes.{fault-memory, fault-memory-lane, fault-lane-memory, no-fault-lane, fault-lane, fault-lanes, fault-float, fault-unassigned, AllBut, judged, fault-other}
+use borrow.Author.Needs.{needs}
 use Rattle.instr.proofs.encoding.fault_of.Statement.{statement}
 use Rattle.instr.proofs.encoding.fault_of.Tie as tie
+use Rattle.instr.proofs.encoding.fault_of.Reads as reads
+use Rattle.instr.proofs.encoding.fault_of.Lts as lts
+use Rattle.instr.proofs.encoding.all_lanes.Reads as all-lanes-reads
+use Rattle.instr.proofs.encoding.exponent_fault.Reads as exponent-fault-reads
+use Rattle.instr.proofs.wide.Reads as wide-reads
+use Rattle.opcode.proofs.immediates.Reads as immediates-reads
+use Rattle.opcode.proofs.lanes.Reads as lanes-reads
+use Rattle.opcode.proofs.moved.Reads as moved-reads
+use Rattle.opcode.proofs.entry.Reads as entry-reads
+
+entry-requires : tie.Need-entry-requires
+entry-requires c κs = search needs
 
 immediates-requires : tie.Need-immediates-requires
 immediates-requires c κs = search needs
@@ -17,8 +29,8 @@ moved-requires c κs = search needs
 
 exponent-fault-requires : tie.Need-exponent-fault-requires
 exponent-fault-requires c κs =
-    let start = c .before .before .before in
-    omega (arith, c .moved .ensures, row-moved-small (rowOf (start .args .id)))
+    let r = rowOf (c .before .before .before .before .args .id) in
+    omega (arith, c .moved .ensures, moved-in r (c .before .before .before .entry .ensures), row-moved-small r)
 
 wide-requires : tie.Need-wide-requires
 wide-requires c κs = search needs
@@ -31,8 +43,8 @@ moved-requires-2 c κs = search needs
 
 exponent-fault-requires-2 : tie.Need-exponent-fault-requires-2
 exponent-fault-requires-2 c κs =
-    let start = c .before .before .before .before .before .before in
-    omega (arith, c .moved2 .ensures, row-moved-small (rowOf (start .args .id)))
+    let r = rowOf (c .before .before .before .before .before .before .before .args .id) in
+    omega (arith, c .moved2 .ensures, moved-in r (c .before .before .before .before .before .before .entry .ensures), row-moved-small r)
 
 wide-requires-2 : tie.Need-wide-requires-2
 wide-requires-2 c κs = search needs
@@ -45,80 +57,67 @@ all-lanes-requires c κs = search needs
 
 returns : tie.Need-returns
 returns c =
-    let start = c .before .before .before .before in
-    let at-immediates = c .before .before .before in
-    c .exponent-fault .ensures ∙ fault-memory (rowOf (start .args .id)) (start .args .i) _ (c .before .moved .ensures)
-    (sym (at-immediates .immediates .ensures) ∙ c .before .before .match .keys1)
+    let r = rowOf (c .before .before .before .before .before .args .id) in
+    let class = sym (c .before .before .before .immediates .ensures ∙ class-in r (c .before .before .before .before .entry .ensures)) in
+    c .exponent-fault .ensures ∙ fault-memory r (c .before .before .before .before .before .args .i) _ (c .before .moved .ensures ∙ moved-in r (c .before .before .before .before .entry .ensures)) (class ∙ c .before .before .match .keys1)
 
 returns-2 : tie.Need-returns-2
 returns-2 c =
-    let start = c .before .before .before .before .before .before .before in
-    let at-immediates = c .before .before .before .before .before .before in
-    let at-match = c .before .before .before .before .before in
-    let at-wide = c .before .before .before .before in
-    let at-lanes = c .before .before .before in
-    c .exponent-fault2 .ensures ∙ fault-memory-lane (rowOf (start .args .id)) (start .args .i) _ (at-lanes .lanes .ensures) _ (c .before .moved2 .ensures)
-    (sym (at-immediates .immediates .ensures) ∙ at-match .match .keys2) (rw (at-wide .wide .ensures) at (c .before .before .if1 .taken))
+    let r = rowOf (c .before .before .before .before .before .before .before .before .args .id) in
+    let class = sym (c .before .before .before .before .before .before .immediates .ensures ∙ class-in r (c .before .before .before .before .before .before .before .entry .ensures)) in
+    c .exponent-fault2 .ensures ∙ fault-memory-lane r (c .before .before .before .before .before .before .before .before .args .i) _ (c .before .before .before .lanes .ensures ∙ lanes-in r (c .before .before .before .before .before .before .before .entry .ensures)) _ (c .before .moved2 .ensures ∙ moved-in r (c .before .before .before .before .before .before .before .entry .ensures))
+    (class ∙ c .before .before .before .before .before .match .keys2) (rw (c .before .before .before .before .wide .ensures) at (c .before .before .if1 .taken))
 
 returns-3 : tie.Need-returns-3
 returns-3 c =
-    let start = c .before .before .before .before .before in
-    let at-immediates = c .before .before .before .before in
-    let at-match = c .before .before .before in
-    fault-lane-memory (rowOf (start .args .id)) (start .args .i) _ (c .before .lanes .ensures)
-    (sym (at-immediates .immediates .ensures) ∙ at-match .match .keys2) (rw (c .before .before .wide .ensures) at (c .if1 .left))
+    let r = rowOf (c .before .before .before .before .before .before .args .id) in
+    let class = sym (c .before .before .before .before .immediates .ensures ∙ class-in r (c .before .before .before .before .before .entry .ensures)) in
+    fault-lane-memory r (c .before .before .before .before .before .before .args .i) _ (c .before .lanes .ensures ∙ lanes-in r (c .before .before .before .before .before .entry .ensures)) (class ∙ c .before .before .before .match .keys2) (rw (c .before .before .wide .ensures) at (c .if1 .left))
 
 returns-4 : tie.Need-returns-4
 returns-4 c =
-    let start = c .before .before .before .before .before in
-    let at-immediates = c .before .before .before .before in
-    let at-match = c .before .before .before in
-    no-fault-lane (rowOf (start .args .id)) (start .args .i) _ (c .before .lanes2 .ensures) (sym (at-immediates .immediates .ensures) ∙ at-match .match .keys3)
-    (rw (c .before .before .wide2 .ensures) at (c .if2 .taken))
+    let r = rowOf (c .before .before .before .before .before .before .args .id) in
+    let class = sym (c .before .before .before .before .immediates .ensures ∙ class-in r (c .before .before .before .before .before .entry .ensures)) in
+    no-fault-lane r (c .before .before .before .before .before .before .args .i) _ (c .before .lanes2 .ensures ∙ lanes-in r (c .before .before .before .before .before .entry .ensures)) (class ∙ c .before .before .before .match .keys3) (rw (c .before .before .wide2 .ensures) at (c .if2 .taken))
 
 returns-5 : tie.Need-returns-5
 returns-5 c =
-    let start = c .before .before .before .before .before in
-    let at-immediates = c .before .before .before .before in
-    let at-match = c .before .before .before in
-    fault-lane (rowOf (start .args .id)) (start .args .i) _ (c .before .lanes2 .ensures) (sym (at-immediates .immediates .ensures) ∙ at-match .match .keys3)
-    (rw (c .before .before .wide2 .ensures) at (c .if2 .left))
+    let r = rowOf (c .before .before .before .before .before .before .args .id) in
+    let class = sym (c .before .before .before .before .immediates .ensures ∙ class-in r (c .before .before .before .before .before .entry .ensures)) in
+    fault-lane r (c .before .before .before .before .before .before .args .i) _ (c .before .lanes2 .ensures ∙ lanes-in r (c .before .before .before .before .before .entry .ensures)) (class ∙ c .before .before .before .match .keys3) (rw (c .before .before .wide2 .ensures) at (c .if2 .left))
 
 returns-6 : tie.Need-returns-6
 returns-6 c =
-    let start = c .before .before .before .before .before in
-    let at-immediates = c .before .before .before .before in
-    let at-match = c .before .before .before in
-    fault-lanes (rowOf (start .args .id)) (start .args .i) true (sym (c .if3 .taken) ∙ c .before .all-lanes .ensures)
-    (sym (at-immediates .immediates .ensures) ∙ at-match .match .keys4)
+    let r = rowOf (c .before .before .before .before .before .before .args .id) in
+    let class = sym (c .before .before .before .before .immediates .ensures ∙ class-in r (c .before .before .before .before .before .entry .ensures)) in
+    fault-lanes r (c .before .before .before .before .before .before .args .i) true (sym (c .if3 .taken) ∙ c .before .all-lanes .ensures) (class ∙ c .before .before .before .match .keys4)
 
 returns-7 : tie.Need-returns-7
 returns-7 c =
-    let start = c .before .before .before .before .before in
-    let at-immediates = c .before .before .before .before in
-    let at-match = c .before .before .before in
-    fault-lanes (rowOf (start .args .id)) (start .args .i) false (sym (c .if3 .left) ∙ c .before .all-lanes .ensures)
-    (sym (at-immediates .immediates .ensures) ∙ at-match .match .keys4)
+    let r = rowOf (c .before .before .before .before .before .before .args .id) in
+    let class = sym (c .before .before .before .before .immediates .ensures ∙ class-in r (c .before .before .before .before .before .entry .ensures)) in
+    fault-lanes r (c .before .before .before .before .before .before .args .i) false (sym (c .if3 .left) ∙ c .before .all-lanes .ensures) (class ∙ c .before .before .before .match .keys4)
 
 returns-8 : tie.Need-returns-8
 returns-8 c =
-    let start = c .before .before in
-    sym (fault-float (rowOf (start .args .id)) (sym (c .before .immediates .ensures) ∙ c .match .keys5) (start .args .i))
+    let r = rowOf (c .before .before .before .args .id) in
+    sym (fault-float r (sym (c .before .immediates .ensures ∙ class-in r (c .before .before .entry .ensures)) ∙ c .match .keys5) (c .before .before .before .args .i))
 
 returns-9 : tie.Need-returns-9
 returns-9 c =
-    let start = c .before .before in
-    sym (fault-unassigned (rowOf (start .args .id)) (sym (c .before .immediates .ensures) ∙ c .match .keys6) (start .args .i))
+    let r = rowOf (c .before .before .before .args .id) in
+    sym (fault-unassigned r (sym (c .before .immediates .ensures ∙ class-in r (c .before .before .entry .ensures)) ∙ c .match .keys6) (c .before .before .before .args .i))
 
 returns-10 : tie.Need-returns-10
 returns-10 c =
-    let start = c .before .before in
-    sym (fault-other (rowOf (start .args .id)) (subst (AllBut judged) (c .before .immediates .ensures) (c .match .rest)) (start .args .i))
+    let r = rowOf (c .before .before .before .args .id) in
+    sym (fault-other r (subst (AllBut judged) (c .before .immediates .ensures ∙ class-in r (c .before .before .entry .ensures)) (c .match .rest)) (c .before .before .before .args .i))
 
 pub fault-of-spec : {M : Type 1} → statement M
 fault-of-spec =
     tie.close
     (tie.spec
+    entry-requires
     immediates-requires
     moved-requires
     exponent-fault-requires
