@@ -1,8 +1,9 @@
-// Instructions decoded, and what was decoded encoded again. Two lines a case: the answer and the instruction; the answer and the buffer,
-// EE where nothing was written. stdout was worked out from documents 01 and 002 by a decoder and an encoder written for that in another
-// language, with no use of this code.
-use instr::Decoded;
+// Instructions decoded, and what was decoded encoded again. Three lines a case: the answer and the instruction; the answer and the buffer,
+// EE where nothing was written; what scanning answers, the kinds that the table has for it, and the id that fetching tells. stdout was
+// worked out from documents 01 and 002 by a decoder and an encoder written for that in another language, with no use of this code.
+use instr::Fetched;
 use instr::Instr;
+use instr::Scanned;
 use libc::STDOUT_FILENO;
 
 fn main() {
@@ -209,9 +210,7 @@ fn structs() {
 fn stream(s: &[u8]) {
     let mut at: usize = 0;
     while at < s.len() {
-        let d = instr::decode(s, at);
-        let n = d.len;
-        told(d);
+        let n = told(s, at);
         if n == 0 {
             break;
         }
@@ -223,7 +222,7 @@ fn stream(s: &[u8]) {
 }
 
 fn at_place(s: &[u8], at: usize) {
-    told(instr::decode(s, at));
+    told(s, at);
 }
 
 fn cuts(s: &[u8]) {
@@ -293,7 +292,8 @@ fn made(
     }
 }
 
-fn told(d: Decoded) {
+fn told(s: &[u8], at: usize) -> usize {
+    let d = instr::decode(s, at);
     answer(d.code, d.place, d.len);
     let i = d.instr;
     decimal(i.first as u64);
@@ -307,6 +307,20 @@ fn told(d: Decoded) {
     sixteen(i);
     end_line();
     written(i);
+    scanned(instr::scan(s, at));
+    fetched(instr::fetch(s, at));
+    d.len
+}
+
+fn scanned(d: Scanned) {
+    answer(d.code, d.place, d.len);
+    decimal(d.index as u64);
+    decimal(d.entry / 0x1_0000_0000);
+}
+
+fn fetched(f: Fetched) {
+    decimal(f.id as u64);
+    end_line();
 }
 
 fn sixteen(i: Instr) {

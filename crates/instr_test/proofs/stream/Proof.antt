@@ -14,9 +14,6 @@ abbrev μ-loop : tie.MeasureT-loop
 loop-holds : tie.Need-loop-holds Inv-loop μ-loop
 loop-holds c = tt
 
-decode-requires : tie.Need-decode-requires Inv-loop μ-loop
-decode-requires c κs = search needs
-
 told-requires : tie.Need-told-requires Inv-loop μ-loop
 told-requires c κs = search needs
 
@@ -48,7 +45,6 @@ stream-spec =
     Inv-loop
     μ-loop
     loop-holds
-    decode-requires
     told-requires
     sub-if2
     add-at
