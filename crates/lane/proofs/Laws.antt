@@ -2,10 +2,6 @@
 pub mod Number
 pub mod Lane
 pub mod Build
-pub mod Wrap
-pub mod Twos
-pub mod Saturate
-pub mod Product
 pub mod Told
 pub mod Bitwise
 pub mod Scan

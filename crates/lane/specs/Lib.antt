@@ -1,6 +1,5 @@
 pub mod Shape
 pub mod Vector
-pub mod Scalar
 pub mod Op
 pub mod Answer
 pub mod Inner

@@ -1,6 +1,5 @@
--- The four integer shapes (01, "Values and shapes"; 000, "Modulo integer interpretations"): a shape is known by its lane's width.
-use Prim.Native.Nat.{ℕ, _-_, _/_, _^_}
-use lib.IntN.{ℤ, pos, negsuc}
+-- The four integer shapes (01, "Values and shapes"; 000, "Lane division interpretation"): a shape is known by its lane's width.
+use Prim.Native.Nat.{ℕ, _/_}
 use mir.Syntax.{Width, w8, w16, w32, w64, w128}
 use mir.Val.{bits}
 
@@ -18,16 +17,6 @@ i64x2 = w64
 
 abbrev pub lanes : Width → ℕ
 lanes w = 128 / bits w
-
--- -2^(w-1), 2^(w-1) - 1 and 2^w - 1
-abbrev pub least : Width → ℤ
-least w = negsuc (2 ^ (bits w - 1) - 1)
-
-abbrev pub largest : Width → ℤ
-largest w = pos (2 ^ (bits w - 1) - 1)
-
-abbrev pub allOnes : Width → ℕ
-allOnes w = 2 ^ bits w - 1
 
 -- the shape whose lanes have half the width
 abbrev pub half : Width → Width

@@ -1,23 +1,17 @@
-// The lane arithmetic of v128 values, by itself.
+// The operations on v128 values, by themselves: a module for each shape, named as in Core. What is done to one lane is `scalar`.
 pub mod answer;
+pub mod i16x8;
+pub mod i32x4;
+pub mod i64x2;
+pub mod i8x16;
 mod lanes;
 mod memory;
 mod op;
-mod scalar;
-pub mod shape;
-mod shape16;
-mod shape32;
-mod shape64;
-mod shape8;
 mod vector;
 mod whole;
 
 pub use answer::LaneAnswer;
 pub use answer::VectorAnswer;
-pub use shape::I8x16;
-pub use shape::I16x8;
-pub use shape::I32x4;
-pub use shape::I64x2;
 
 // A value of kind v128: its sixteen bytes, byte 0 first.
 pub struct V128 {

@@ -1,8 +1,8 @@
 // What loads and stores do to the bytes once they are in hand. `m` holds the bytes that were read, from byte 0 on; what
 // stands behind them is not looked at.
 ghost use mathlib.Core.Path.{_≡_};
+ghost use Rattle.scalar.specs.Scalar.{S, U};
 ghost use Rattle.lane.specs.Shape.{i8x16, i16x8, i32x4, i64x2};
-ghost use Rattle.lane.specs.Scalar.{S, U};
 ghost use Rattle.lane.specs.Op.{Whole, Widen, Repeat, ZeroPad, loaded};
 ghost use Rattle.lane.specs.Answer.{loadLane, storeLane};
 use crate::V128;
@@ -25,14 +25,14 @@ use crate::lanes::widening::widen16;
 use crate::lanes::widening::widen32;
 use crate::lanes::widening::widen64;
 use crate::op;
-use crate::shape::I8x16;
-use crate::shape::I16x8;
-use crate::shape::I32x4;
-use crate::shape::I64x2;
 use crate::vector::get8;
 use crate::vector::get16;
 use crate::vector::get32;
 use crate::vector::get64;
+use scalar::I8x16;
+use scalar::I16x8;
+use scalar::I32x4;
+use scalar::I64x2;
 
 impl V128 {
     pub fn load(m: V128) -> V128

@@ -7,11 +7,12 @@ use native.Mathlib.Omega.{arith}
 use lib.ListN.{length, getD, take}
 use mir.Syntax.{Width, w8, w16, w32, w64, w128}
 use lib.IntN.{pos, _+ℤ_, _-ℤ_}
+use Rattle.scalar.specs.Scalar.{Sign, iadd, isub}
+use Rattle.scalar.proofs.Laws.Integers.{wrap-lt}
 use Rattle.lane.specs.Vector.{le, Sixteen}
-use Rattle.lane.specs.Scalar.{Sign, iadd, isub}
 use Rattle.lane.specs.Op.{Loadop, Shiftop, Op, Load, LoadLane, Store, StoreLane, Const, Shuffle, Splat, ExtractLane, ReplaceLane, Unary, Binary, Bitselect, Test, Shift, unary, binary, bitselect, test, shift, splat, extracted, replaced, shuffled, loaded, laneIn, laneOut}
 use Rattle.lane.proofs.Laws.Number.{Bytes, bytes-take}
-use Rattle.lane.proofs.Laws.Vectors.{wrap-lt, test-lt, extracted-lt, sixteen-unary, sixteen-binary, sixteen-bitselect, sixteen-shift, sixteen-splat, sixteen-replaced, sixteen-shuffled, sixteen-loaded, sixteen-laneIn, sixteen-laneOut}
+use Rattle.lane.proofs.Laws.Vectors.{test-lt, extracted-lt, sixteen-unary, sixteen-binary, sixteen-bitselect, sixteen-shift, sixteen-splat, sixteen-replaced, sixteen-shuffled, sixteen-loaded, sixteen-laneIn, sixteen-laneOut}
 use Rattle.limits.specs.Limits.{slot}
 use Rattle.opcode.specs.Kind.{Kind}
 use Rattle.opcode.specs.Table.{Plain, End, Drop, LocalGet, LocalSet, LocalTee, I32Const, I64Const, I32Add, I32Sub, Code, plain, vector}

@@ -6,7 +6,7 @@ use mathlib.Core.Bool.{Bool, true, false, cond, _&&_}
 use lib.Dec.{eqb, leb, ltb}
 use lib.ListN.{length, getD, take, set}
 use mir.Syntax.{Width, w8, w16, w32, w64, w128}
-use Rattle.lane.specs.Scalar.{iadd, isub}
+use Rattle.scalar.specs.Scalar.{iadd, isub}
 use Rattle.lane.specs.Op.{Op, Load, LoadLane, Store, StoreLane, Const, Shuffle, Splat, ExtractLane, ReplaceLane, Unary, Binary, Bitselect, Test, Shift, unary, binary, bitselect, test, shift, splat, extracted, replaced, shuffled, loaded, laneIn, laneOut}
 use Rattle.limits.specs.Limits.{stackLimit}
 use Rattle.opcode.specs.Kind.{Kind, kindByte}

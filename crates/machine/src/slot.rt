@@ -6,9 +6,9 @@ ghost use Rattle.limits.specs.Limits.{stackLimit, stackBytes};
 ghost use Rattle.lane.specs.Vector.{le};
 ghost use Rattle.machine.specs.Inner.Flat.{slotAt, putSlot, topOf, low32, low64};
 use crate::bytes;
-use lane::I32x4;
-use lane::I64x2;
 use lane::V128;
+use lane::i32x4;
+use lane::i64x2;
 
 pub(crate) fn get(s: &[u8], n: usize) -> V128
     requires { ⌜ (n < stackLimit) × (16 * n + 16 ≤ length (now s)) ⌝ }
@@ -35,18 +35,18 @@ pub(crate) fn top(stack: &[u8], depth: usize, j: usize) -> V128
 pub(crate) fn word(v: V128) -> u32
     ensures { λ r. ⌜ r ≡ low32 (v .bytes) ⌝ }
 {
-    (I32x4::extract_lane(v, 0).value % 4294967296) as u32
+    (i32x4::extract_lane(v, 0).value % 4294967296) as u32
 }
 
 pub(crate) fn long(v: V128) -> u64
     ensures { λ r. ⌜ r ≡ low64 (v .bytes) ⌝ }
 {
-    I64x2::extract_lane(v, 0).value
+    i64x2::extract_lane(v, 0).value
 }
 
 // A number's bytes, with zeros behind them.
 pub(crate) fn of_number(x: u64) -> V128
     ensures { λ r. ⌜ r .bytes ≡ le 16 x ⌝ }
 {
-    I64x2::replace_lane(V128 { bytes: [0u8; 16] }, 0, x).value
+    i64x2::replace_lane(V128 { bytes: [0u8; 16] }, 0, x).value
 }

@@ -11,14 +11,14 @@ use lib.Pow.{pow-mono}
 use mir.Syntax.{Width}
 use mir.Val.{bits, Fits, toZ}
 use mir.ValLaws.{toZ-fits, ofZ-toZ}
+use Rattle.scalar.specs.Scalar.{S, U, wrap, iextend}
+use Rattle.scalar.proofs.Laws.Wrap.{wrap-nat, wrap-held}
 use Rattle.lane.specs.Vector.{lane, vec}
-use Rattle.lane.specs.Scalar.{S, U, wrap, iextend}
 use Rattle.lane.specs.Op.{splat, replaced}
 use Rattle.lane.specs.Answer.{scalarIf, vectorIf}
 use Rattle.lane.specs.declared.answer.LaneAnswer.{LaneAnswer}
 use Rattle.lane.specs.declared.answer.VectorAnswer.{VectorAnswer}
 use Rattle.lane.proofs.Laws.Lane.{lane-lt}
-use Rattle.lane.proofs.Laws.Wrap.{wrap-nat, wrap-held}
 
 pub scalar-in : (n i : ℕ) {r : LaneAnswer} (x y : ℕ) → i < n → r ≡ scalarIf true x → x ≡ y → r ≡ scalarIf (ltb i n) y
 scalar-in n i x y h e f = e ∙ ap (scalarIf true) f ∙ sym (ap (λ (t : Bool). scalarIf t y) (lt-ltb i n h))

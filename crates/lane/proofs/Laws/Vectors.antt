@@ -3,26 +3,23 @@ use mathlib.Core.Path.{_≡_, refl, sym, ap, ap₂, _∙_, subst}
 use mathlib.Core.Bool.{Bool, true, false, not, _&&_}
 use mathlib.Core.List.{List}
 use Prim.Native.Nat.{ℕ, zero, suc, _+_, _*_, _-_, _/_, _%_, _^_, _≤_, _<_}
-use native.Mathlib.Nat.{mod-lt, zero-lt-suc, div-add-mod', suc-mul, pow-suc, lt-of-lt-of-le}
+use native.Mathlib.Nat.{zero-lt-suc, pow-suc, lt-of-lt-of-le}
 use native.Mathlib.Omega.{arith}
 use lib.Dec.{T, leb, leb→le, eqb, ltb}
 use borrow.Author.Tests.{lt-ltb}
-use lib.IntN.{ℤ, pos, negsuc, _+ℤ_, _-ℤ_, _*ℤ_}
-use lib.Pow.{pow-pos, pow-mono}
+use lib.Pow.{pow-mono}
 use mir.Syntax.{Width, w8, w16, w32, w64, w128}
 use mir.Val.{bits, bytes}
-use mir.ValLaws.{toZ-pos}
-use Rattle.lane.specs.Shape.{lanes, allOnes, i8x16}
+use Rattle.scalar.specs.Scalar.{Sign, value, iextend}
+use Rattle.scalar.proofs.Laws.Integers.{wrap-lt}
+use Rattle.lane.specs.Shape.{lanes, i8x16}
 use Rattle.lane.specs.Vector.{number, le, lane, build, vec, Sixteen}
-use Rattle.lane.specs.Scalar.{Sign, S, value, wrap, iextend}
 use Rattle.lane.specs.Op.{Unop, Not, Abs, Neg, Popcnt, Extend, ExtaddPairwise, unary, Binop, And, Andnot, Or, Xor, Swizzle, Eq, Ne, Lt, Gt, Le, Ge, Add, Sub, Mul, AddSat, SubSat, Min, Max, AvgrU, Q15mulrSatS, DotS, Narrow, Extmul, binary, bitselect, Testop, AnyTrue, AllTrue, Bitmask, truth, all, tally, test, Shiftop, Shl, Shr, shift, splat, unpack, extracted, replaced, shuffled, Loadop, Whole, Widen, Repeat, ZeroPad, loaded, laneIn, laneOut}
 use Rattle.lane.specs.Answer.{scalarIf, vectorIf, shuffle}
 use Rattle.lane.specs.declared.answer.LaneAnswer.{LaneAnswer}
 use Rattle.lane.specs.declared.answer.VectorAnswer.{VectorAnswer}
 use Rattle.lane.proofs.Laws.Number.{Bytes, length-le, bytes-le, bytes-append, fieldOf}
 use Rattle.lane.proofs.Laws.Build.{length-build, field-build, in-lanes}
-use Rattle.lane.proofs.Laws.Saturate.{minus-lt}
-use Rattle.lane.proofs.Laws.Twos.{half-power, high-is}
 use Rattle.lane.proofs.Laws.Scan.{bit-mul}
 
 -- ---- a vector and its lanes
@@ -126,35 +123,6 @@ sixteen-loaded Whole m h = h
 sixteen-loaded (Widen s w) m h = sixteen-vec w _
 sixteen-loaded (Repeat w) m h = sixteen-vec w _
 sixteen-loaded (ZeroPad w) m h = sixteen-vec w _
-
--- ---- integers
-
--- `wrap` is the reduction modulo 2^w: below 2^w, and a multiple of 2^w away
-pub wrap-lt : (w : Width) (z : ℤ) → wrap w z < 2 ^ bits w
-wrap-lt w (pos n) = mod-lt n (pow-pos (bits w))
-wrap-lt w (negsuc n) = omega (arith, pow-pos (bits w))
-
-pub wrap-is : (w : Width) (z : ℤ) → (q : ℤ) × (z ≡ pos (wrap w z) +ℤ q *ℤ pos (2 ^ bits w))
-wrap-is w (pos n) = (pos (n / 2 ^ bits w), ap pos (omega (arith, div-add-mod' n (2 ^ bits w))))
-wrap-is w (negsuc n) = (
-  negsuc (n / 2 ^ bits w),
-  sym (minus-lt (allOnes w - n % 2 ^ bits w) (suc (n / 2 ^ bits w) * 2 ^ bits w) (omega (arith, whole, pow-pos (bits w)))
-      ∙ ap negsuc (omega (arith, whole, part, mod-lt n (pow-pos (bits w))))),
-)
-  where
-    whole : suc (n / 2 ^ bits w) * 2 ^ bits w ≡ n / 2 ^ bits w * 2 ^ bits w + 2 ^ bits w
-    whole = suc-mul (n / 2 ^ bits w) (2 ^ bits w)
-
-    part : n / 2 ^ bits w * 2 ^ bits w + n % 2 ^ bits w ≡ n
-    part = div-add-mod' n (2 ^ bits w)
-
--- a signed lane is x below 2^(w-1), and x - 2^w from there on
-pub value-low : (w : Width) (x : ℕ) → x < 2 ^ (bits w - 1) → value S w x ≡ pos x
-value-low w x h = toZ-pos w x (subst (λ (p : ℕ). x < p) (half-power w) h)
-
-pub value-high : (w : Width) (x : ℕ) → 2 ^ (bits w - 1) ≤ x → x < 2 ^ bits w → value S w x ≡ pos x -ℤ pos (2 ^ bits w)
-value-high w x h f =
-    high-is w x (subst (λ (p : ℕ). p ≤ x) (half-power w) h) f ∙ sym (minus-lt x (2 ^ bits w) f ∙ ap negsuc (omega arith))
 
 -- ---- scalars
 

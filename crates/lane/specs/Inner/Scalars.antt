@@ -4,7 +4,7 @@ use lib.Bits.{bitAnd, bitOr, bitXor}
 use mathlib.Core.List.{List, [], _∷_, _++_}
 use lib.ListN.{getD}
 use mir.Syntax.{Width, w8, w16, w32, w64}
-use Rattle.lane.specs.Scalar.{S, U, iadd, isub, imul, ineg, iabs, iaddsat, isubsat, imin, imax, iavgr, iq15mulrsat, ipopcnt, ieq, ine, ilt, ile, ishl, ishr, iextend, iextmul, iextadd, inarrow}
+use Rattle.scalar.specs.Scalar.{S, U, iadd, isub, imul, ineg, iabs, iaddsat, isubsat, imin, imax, iavgr, iq15mulrsat, ipopcnt, ieq, ine, ilt, ile, ishl, ishr, iextend, iextmul, iextadd, inarrow}
 
 -- at every width
 abbrev pub always : Width → ℕ → ℕ → List ℕ

@@ -5,9 +5,9 @@ ghost use Rattle.lane.specs.Vector.{number, le};
 ghost use Rattle.lane.specs.Inner.Scalars.{bitwise};
 use crate::V128;
 use crate::op;
-use crate::shape::I8x16;
 use crate::vector::get8;
 use crate::vector::put8;
+use scalar::I8x16;
 
 fn bitwise8(op: u8, x: u8, y: u8) -> u8
     ensures { λ r. ⌜ r ≡ bitwise (2 ^ 8 - 1) op x y ⌝ }

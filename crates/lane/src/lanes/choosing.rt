@@ -8,9 +8,9 @@ ghost use Rattle.lane.specs.Shape.{i8x16, lanes};
 ghost use Rattle.lane.specs.Vector.{lane, Sixteen};
 ghost use Rattle.lane.specs.Op.{Swizzle, binary, all, laneOr0, shuffled};
 use crate::V128;
-use crate::shape::I8x16;
 use crate::vector::get8;
 use crate::vector::put8;
+use scalar::I8x16;
 
 fn byte_or_0(v: &[u8; 16], i: u8) -> u8
     requires { ⌜ Sixteen (now v) ⌝ }

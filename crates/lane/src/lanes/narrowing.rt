@@ -7,17 +7,17 @@ ghost use Rattle.lane.specs.Vector.{lane, vec, Sixteen};
 ghost use Rattle.lane.specs.Inner.Scalars.{narrowed};
 use crate::V128;
 use crate::op;
-use crate::scalar::widen::narrow_s8;
-use crate::scalar::widen::narrow_s16;
-use crate::scalar::widen::narrow_u8;
-use crate::scalar::widen::narrow_u16;
-use crate::shape::I8x16;
-use crate::shape::I16x8;
-use crate::shape::I32x4;
 use crate::vector::get16;
 use crate::vector::get32;
 use crate::vector::put8;
 use crate::vector::put16;
+use scalar::I8x16;
+use scalar::I16x8;
+use scalar::I32x4;
+use scalar::widen::narrow_s8;
+use scalar::widen::narrow_s16;
+use scalar::widen::narrow_u8;
+use scalar::widen::narrow_u16;
 
 fn narrowed8(op: u8, x: u16) -> u8
     ensures { λ r. ⌜ r ≡ narrowed w16 w8 op x ⌝ }

@@ -2,22 +2,22 @@
 ghost use mathlib.Core.Path.{_≡_};
 ghost use Prim.Native.Nat.{_+_, _*_};
 ghost use mir.Syntax.{w8, w16, w32};
+ghost use Rattle.scalar.specs.Scalar.{idot};
 ghost use Rattle.lane.specs.Vector.{lane, vec};
-ghost use Rattle.lane.specs.Scalar.{idot};
 ghost use Rattle.lane.specs.Inner.Scalars.{paired};
 use crate::V128;
 use crate::op;
-use crate::scalar::widen::dot_s16;
-use crate::scalar::widen::extadd_s8;
-use crate::scalar::widen::extadd_s16;
-use crate::scalar::widen::extadd_u8;
-use crate::scalar::widen::extadd_u16;
-use crate::shape::I16x8;
-use crate::shape::I32x4;
 use crate::vector::get8;
 use crate::vector::get16;
 use crate::vector::put16;
 use crate::vector::put32;
+use scalar::I16x8;
+use scalar::I32x4;
+use scalar::widen::dot_s16;
+use scalar::widen::extadd_s8;
+use scalar::widen::extadd_s16;
+use scalar::widen::extadd_u8;
+use scalar::widen::extadd_u16;
 
 fn paired16(op: u8, x: u8, y: u8) -> u16
     ensures { λ r. ⌜ r ≡ paired w8 w16 op x y ⌝ }

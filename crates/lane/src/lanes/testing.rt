@@ -3,14 +3,14 @@ ghost use mathlib.Core.Path.{_≡_};
 ghost use mir.Syntax.{w8, w16, w32, w64};
 ghost use Rattle.lane.specs.Op.{AnyTrue, AllTrue, Bitmask, test};
 use crate::V128;
-use crate::shape::I8x16;
-use crate::shape::I16x8;
-use crate::shape::I32x4;
-use crate::shape::I64x2;
 use crate::vector::get8;
 use crate::vector::get16;
 use crate::vector::get32;
 use crate::vector::get64;
+use scalar::I8x16;
+use scalar::I16x8;
+use scalar::I32x4;
+use scalar::I64x2;
 
 pub(crate) fn any_true(a: V128) -> u32
     ensures { λ r. ⌜ r ≡ test AnyTrue (a .bytes) ⌝ }

@@ -8,8 +8,8 @@ use lib.Dec.{eqb}
 use lib.IntN.{pos}
 use mir.Syntax.{Width, w8, w16, w32, w64, w128}
 use mir.Val.{bits}
+use Rattle.scalar.specs.Scalar.{wrap}
 use Rattle.lane.specs.Vector.{lane, vec}
-use Rattle.lane.specs.Scalar.{wrap}
 use Rattle.lane.specs.Op.{splat, replaced}
 
 module _ (w : Width) (narrow : bits w ≤ 32) (x : ℕ) where

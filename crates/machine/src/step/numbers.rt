@@ -4,8 +4,8 @@ ghost use Prim.Native.Nat.{_-_, _≤_, _<_};
 ghost use lib.ListN.{length};
 ghost use mir.Syntax.{w32};
 ghost use Rattle.limits.specs.Limits.{stackLimit, stackBytes, localBytes, localCount};
+ghost use Rattle.scalar.specs.Scalar.{iadd, isub};
 ghost use Rattle.lane.specs.Vector.{le};
-ghost use Rattle.lane.specs.Scalar.{iadd, isub};
 ghost use Rattle.machine.specs.Inner.Flat.{slotAt, putSlot, topOf, low32};
 use crate::slot;
 

@@ -4,17 +4,17 @@ ghost use Prim.Native.Nat.{ℕ, _-_, _≤_, _<_};
 ghost use lib.ListN.{length};
 ghost use mir.Syntax.{Width};
 ghost use Rattle.limits.specs.Limits.{stackLimit, stackBytes};
+ghost use Rattle.scalar.specs.Scalar.{Sign};
 ghost use Rattle.lane.specs.Shape.{lanes, i8x16};
 ghost use Rattle.lane.specs.Vector.{lane, le};
-ghost use Rattle.lane.specs.Scalar.{Sign};
 ghost use Rattle.lane.specs.Op.{Unop, Binop, Testop, Shiftop, Splat, ExtractLane, ReplaceLane, Unary, Binary, Test, Shift, unary, binary, bitselect, test, shift, splat, extracted, replaced, shuffled};
 ghost use Rattle.opcode.specs.Table.{does};
 ghost use Rattle.opcode.specs.Number.{rowOf};
 ghost use Rattle.machine.specs.Inner.Flat.{putSlot, topOf, low32, lowest};
 use crate::slot;
 use crate::vector;
-use lane::I8x16;
 use lane::V128;
+use lane::i8x16;
 
 pub(crate) fn unary(id: u32, stack: &mut [u8], depth: usize)
     requires { ⌜ (1 ≤ depth) × (depth ≤ stackLimit) × (length (now stack) ≡ stackBytes) ⌝ }
@@ -47,7 +47,7 @@ pub(crate) fn shuffle(indices: V128, stack: &mut [u8], depth: usize)
 {
     let b = slot::top(stack, depth, 1);
     let a = slot::top(stack, depth, 2);
-    slot::put(stack, depth - 2, I8x16::shuffle(a, b, indices).value);
+    slot::put(stack, depth - 2, i8x16::shuffle(a, b, indices).value);
 }
 
 pub(crate) fn test(id: u32, stack: &mut [u8], depth: usize)

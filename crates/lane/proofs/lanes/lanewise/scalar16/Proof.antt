@@ -5,7 +5,7 @@ use mathlib.Core.Bool.{cond}
 use mathlib.Core.List.{_++_, _∷_, []}
 use lib.ListN.{List·getD-eq-default}
 use mir.Syntax.{w16}
-use Rattle.lane.specs.Scalar.{mask, iq15mulrsat}
+use Rattle.scalar.specs.Scalar.{mask, iq15mulrsat}
 use Rattle.lane.specs.Inner.Scalars.{always, ordered, saturated, scalar16}
 use Rattle.lane.proofs.Laws.Told.{told, past}
 use Rattle.lane.proofs.lanes.lanewise.scalar16.Statement.{statement}

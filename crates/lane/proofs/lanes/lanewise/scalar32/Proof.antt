@@ -5,7 +5,7 @@ use mathlib.Core.Bool.{cond}
 use mathlib.Core.List.{_++_}
 use lib.ListN.{List·getD-eq-default}
 use mir.Syntax.{w32}
-use Rattle.lane.specs.Scalar.{mask}
+use Rattle.scalar.specs.Scalar.{mask}
 use Rattle.lane.specs.Inner.Scalars.{always, ordered, scalar32}
 use Rattle.lane.proofs.Laws.Told.{told, past}
 use Rattle.lane.proofs.lanes.lanewise.scalar32.Statement.{statement}

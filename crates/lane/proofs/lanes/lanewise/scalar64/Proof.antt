@@ -3,7 +3,7 @@ use borrow.Author.Needs.{needs}
 use mathlib.Core.Path.{_∙_, ap, sym}
 use lib.ListN.{List·getD-eq-default}
 use mir.Syntax.{w64}
-use Rattle.lane.specs.Scalar.{mask}
+use Rattle.scalar.specs.Scalar.{mask}
 use Rattle.lane.specs.Inner.Scalars.{always, scalar64}
 use Rattle.lane.proofs.Laws.Told.{told, past}
 use Rattle.lane.proofs.lanes.lanewise.scalar64.Statement.{statement}

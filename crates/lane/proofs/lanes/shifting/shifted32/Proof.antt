@@ -4,7 +4,7 @@ use mathlib.Core.Path.{_∙_, sym}
 use mathlib.Core.List.{_∷_, []}
 use lib.ListN.{List·getD-eq-default}
 use mir.Syntax.{w32}
-use Rattle.lane.specs.Scalar.{S, ishl, ishr}
+use Rattle.scalar.specs.Scalar.{S, ishl, ishr}
 use Rattle.lane.specs.Inner.Scalars.{shifted}
 use Rattle.lane.proofs.Laws.Told.{told, past}
 use Rattle.lane.proofs.lanes.shifting.shifted32.Statement.{statement}

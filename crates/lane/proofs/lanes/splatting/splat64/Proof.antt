@@ -5,9 +5,9 @@ use native.Mathlib.Omega.{arith}
 use borrow.Author.Needs.{needs}
 use lib.IntN.{pos}
 use mir.Syntax.{w64}
-use Rattle.lane.specs.Scalar.{wrap}
+use Rattle.scalar.specs.Scalar.{wrap}
+use Rattle.scalar.proofs.Laws.Wrap.{wrap-nat}
 use Rattle.lane.proofs.Laws.Build.{Built, built-none, built-more, built-all, sixteen-zeros}
-use Rattle.lane.proofs.Laws.Wrap.{wrap-nat}
 use Rattle.lane.proofs.lanes.splatting.splat64.Statement.{statement}
 use Rattle.lane.proofs.lanes.splatting.splat64.Tie as tie
 

@@ -8,8 +8,8 @@ use lib.IntN.{pos}
 use lib.Signed.{ltZ}
 use lib.Pow.{pow-mono}
 use mir.Syntax.{w64}
+use Rattle.scalar.specs.Scalar.{S, value}
 use Rattle.lane.specs.Vector.{lane}
-use Rattle.lane.specs.Scalar.{S, value}
 use Rattle.lane.specs.Op.{tally}
 use Rattle.lane.proofs.Laws.Lane.{lane-lt}
 use Rattle.lane.proofs.Laws.Scan.{tally-more, sign-bit, bit-mul, double}

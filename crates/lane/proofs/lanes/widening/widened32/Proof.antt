@@ -4,7 +4,7 @@ use mathlib.Core.Path.{_∙_, sym}
 use mathlib.Core.List.{_∷_, []}
 use lib.ListN.{List·getD-eq-default}
 use mir.Syntax.{w16, w32}
-use Rattle.lane.specs.Scalar.{S, U, iextend, iextmul}
+use Rattle.scalar.specs.Scalar.{S, U, iextend, iextmul}
 use Rattle.lane.specs.Inner.Scalars.{widened}
 use Rattle.lane.proofs.Laws.Told.{told, past}
 use Rattle.lane.proofs.lanes.widening.widened32.Statement.{statement}

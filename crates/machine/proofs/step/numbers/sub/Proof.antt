@@ -4,9 +4,9 @@ use mathlib.Core.Path.{_∙_, ap, ap₂, sym}
 use Prim.Native.Nat.{_-_}
 use native.Mathlib.Omega.{arith}
 use mir.Syntax.{w32}
+use Rattle.scalar.specs.Scalar.{isub}
+use Rattle.scalar.proofs.Laws.Wrap.{wrap-minus}
 use Rattle.lane.specs.Vector.{le}
-use Rattle.lane.specs.Scalar.{isub}
-use Rattle.lane.proofs.Laws.Wrap.{wrap-minus}
 use Rattle.machine.specs.Inner.Flat.{putSlot, low32}
 use Rattle.machine.proofs.step.numbers.sub.Statement.{statement}
 use Rattle.machine.proofs.step.numbers.sub.Tie as tie

@@ -1,0 +1,15 @@
+-- The bits of a lane of 64, read as signed.
+use borrow.Author.Needs.{needs}
+use mir.Syntax.{w64}
+use Rattle.scalar.proofs.Laws.Twos.{signed-fits, signed-high}
+use Rattle.scalar.proofs.sign.signed64.Statement.{statement}
+use Rattle.scalar.proofs.sign.signed64.Tie as tie
+
+sub-result : tie.Need-sub-result
+sub-result c = signed-fits w64 (c .before .args .x) (c .if1 .left)
+
+returns-2 : tie.Need-returns-2
+returns-2 c = signed-high w64 (c .before .args .x) (c .if1 .left) (c .before .fits .x .fits)
+
+pub signed64-spec : {M : Type 1} → statement M
+signed64-spec = tie.close (tie.spec (λ c. search needs) (λ c. search needs) sub-result (λ c. search needs) returns-2)
