@@ -11,7 +11,7 @@ use Rattle.card.specs.Card.{LOCAL}
 use Rattle.opcode.specs.Kind.{Kind, i32, kindByte}
 use Rattle.opcode.specs.Table.{End, Drop, LocalGet, LocalSet, LocalTee, I32Const, I64Const, I32Add, I32Sub, Code, plain, vector, carried}
 use Rattle.opcode.specs.Effect.{Signature, _⇒_, effect}
-use Rattle.opcode.specs.Number.{rowOf, packed, effectOf, groupOfCode, groupOf}
+use Rattle.opcode.specs.Number.{packed, effectOf, groupOfCode, groupOf}
 use Rattle.opcode.proofs.Effects.{kind-range, unpacked, no-signature}
 use Rattle.opcode.proofs.Groups.{by-group}
 use Rattle.rules.specs.Typing.{Local, first, later, Typed, by-signature, dropped, got, set, teed, Names, get-names, set-names, tee-names}
@@ -50,10 +50,8 @@ module _ (ls : List Kind) (n : ℕ) (c : Code) (κs : List Kind) where
       subst (Effected ls n c κs) (sym (ap packed q))
       (typed-by (by-signature q) (record { few = u .few; one = u .one; known = u .known }) (λ ins′ outs′ below t f. one-signature q t))
 
-  pub effected-signature : (id e : ℕ) → e ≡ effectOf (rowOf id) → rowOf id ≡ carried c → (e ≡ 0 → ⊥) → Effected ls n c κs e
-  effected-signature id e f row z =
-      let is : e ≡ packed (effect c) = f ∙ ap effectOf row in
-      subst (Effected ls n c κs) (sym is) (by-its-signature (effect c) refl (λ o. z (is ∙ o)))
+  pub effected-signature : (e : ℕ) → e ≡ effectOf (carried c) → (e ≡ 0 → ⊥) → Effected ls n c κs e
+  effected-signature e is z = subst (Effected ls n c κs) (sym is) (by-its-signature (effect c) refl (λ o. z (is ∙ o)))
 
 -- ---- by a kind
 
@@ -70,15 +68,12 @@ drops-or-names (plain I32Sub) e f = absurd (let z : _≡_ {A = ℕ} 0 1 = cc in 
 drops-or-names (vector o) e f = absurd (let z : _≡_ {A = ℕ} 0 1 = cc in omega arith)
 
 -- the number of the effect is 0, and the group is not drop's
-pub names-local : (c : Code) (id e g : ℕ) → rowOf id ≡ carried c → (c ≡ plain End → ⊥) → e ≡ effectOf (rowOf id) → e ≡ 0 → g ≡ groupOf (rowOf id) → (g ≡ 1 → ⊥) → Names c
-names-local c id e g row other f z q d = by (drops-or-names c (no-signature c (sym (f ∙ ap effectOf row) ∙ z)) other)
+pub names-local : (c : Code) (e g : ℕ) → (c ≡ plain End → ⊥) → e ≡ effectOf (carried c) → e ≡ 0 → g ≡ groupOf (carried c) → (g ≡ 1 → ⊥) → Names c
+names-local c e g other f z q d = by (drops-or-names c (no-signature c (sym f ∙ z)) other)
   where
     by : (c ≡ plain Drop) ⊎ Names c → Names c
-    by (inl is) = absurd (d (q ∙ ap groupOf row ∙ ap groupOfCode is))
+    by (inl is) = absurd (d (q ∙ ap groupOfCode is))
     by (inr names) = names
-
-pub at-group : (c : Code) (id : ℕ) {g k : ℕ} → rowOf id ≡ carried c → g ≡ groupOf (rowOf id) → g ≡ k → groupOfCode c ≡ k
-at-group c id row q is = sym (q ∙ ap groupOf row) ∙ is
 
 small-in : (k : Kind) → Small (k ∷ []) []
 small-in k = record { few = lit≤ tt; one = lit≤ tt; known = omega (arith, kind-range k) }
@@ -106,7 +101,7 @@ get-none (by-signature p) = absurd (let z : _≡_ {A = ℕ} 0 1 = cc in omega ar
 get-none (got m) = refl
 
 module _ (ls : List Kind) (n : ℕ) (κs : List Kind) (e : ℕ) where
-  module _ {kinds : List ℕ} {depth : ℕ} (h : Holds kinds depth κs) (c : Code) (id g : ℕ) (row : rowOf id ≡ carried c) (q : g ≡ groupOf (rowOf id)) (is : g ≡ 1) where
+  module _ {kinds : List ℕ} {depth : ℕ} (h : Holds kinds depth κs) (c : Code) (g : ℕ) (q : g ≡ groupOf (carried c)) (is : g ≡ 1) where
     none-to-drop : depth ≡ 0 → (ins outs below : List Kind) → Typed ls n (plain Drop) ins outs → κs ≡ below ++ ins → ins ≡ i32 ∷ []
     none-to-drop z ins outs below t f =
         let one = drop-one t in
@@ -115,7 +110,7 @@ module _ (ls : List Kind) (n : ℕ) (κs : List Kind) (e : ℕ) where
     pub effected-none : depth ≡ 0 → e ≡ kindByte i32 → Effected ls n c κs e
     effected-none z f =
         subst (Effected ls n c κs) (sym f)
-        (by-group (λ c. Effected ls n c κs (kindByte i32)) 1 (typed-by dropped (small-in i32) (none-to-drop z)) c (at-group c id row q is))
+        (by-group (λ c. Effected ls n c κs (kindByte i32)) 1 (typed-by dropped (small-in i32) (none-to-drop z)) c (sym q ∙ is))
 
     pub effected-drop : (depth ≡ 0 → ⊥) → e ≡ getD kinds (depth - 1) 0 → Effected ls n c κs e
     effected-drop z f =
@@ -129,7 +124,7 @@ module _ (ls : List Kind) (n : ℕ) (κs : List Kind) (e : ℕ) where
         let one = drop-one t in
         let tops = ends-once below (last .0) (one .0 ∷ []) (last .1 ∷ []) refl (sym (r ∙ ap (λ (x : List Kind). below ++ x) (one .1)) ∙ last .2) .1 in
         one .1 ∙ tops))
-        c (at-group c id row q is))
+        c (sym q ∙ is))
 
   module _ (s : List ℕ) {locals : ℕ} (h : Holds (drop 8 s) locals ls) (c : Code) (names : Names c) where
     pub effected-undeclared : locals ≤ n → e ≡ 0 → Effected ls n c κs e

@@ -11,10 +11,11 @@ use Rattle.card.specs.declared.Answer.{Answer}
 use Rattle.limits.specs.Limits.{fileLimit, stackLimit}
 use Rattle.leb128.specs.Bytes.{bytes}
 use Rattle.opcode.specs.Kind.{Kind, kindByte}
-use Rattle.opcode.specs.Table.{End, Code, plain, Row, carried, float, unassigned, plainAt}
-use Rattle.opcode.specs.Number.{rowOf}
+use Rattle.opcode.specs.Table.{End, Code, plain, Row, carried, float, unassigned}
+use Rattle.opcode.specs.Entry.{entryOf, groupIn}
 use Rattle.opcode.proofs.Id.{row-of-id}
-use Rattle.opcode.proofs.Inverse.{row-once}
+use Rattle.opcode.proofs.Entries.{group-in}
+use Rattle.opcode.proofs.Groups.{by-group}
 use Rattle.instr.specs.declared.Instr.{Instr}
 use Rattle.instr.specs.declared.Scanned.{Scanned}
 use Rattle.instr.specs.Layout.{Allowed, rowIn, Stands}
@@ -119,10 +120,6 @@ row-carried unassigned i a = absurd a
 abbrev read : List ℕ → ℕ → Instr
 read s at = decodeAt s at .instr
 
-end-row : rowOf 0x0B ≡ carried (plain End)
-unfolding rowOf plainAt
-end-row = refl
-
 module _ {s : List ℕ} {n r : ℕ} {kinds : List ℕ} {depth at : ℕ} (w : Going s n r kinds depth at) (d : Scanned) (is : d ≡ scanOf (decodeAt s at)) where
   pub refuses : (d .code ≡ DONE → ⊥) → Breach s (d .code) (d .place)
   refuses z =
@@ -140,26 +137,26 @@ module _ {s : List ℕ} {n r : ℕ} {kinds : List ℕ} {depth at : ℕ} (w : Goi
     pub moves : (0 < d .len) × (at + d .len ≤ length s) × (length s ≤ fileLimit)
     moves = (stands-some stands, stands-inside stands, w .counts .declares .sized)
 
-    row : rowOf (d .id) ≡ rowIn (read s at)
-    row = ap (λ (x : Scanned). rowOf (x .id)) is ∙ row-of-id (read s at .first) (read s at .number) (stands .typed .first)
+    its-entry : d .entry ≡ entryOf (carried (coded .0))
+    its-entry =
+        ap (λ (x : Scanned). x .entry) is ∙ ap entryOf (row-of-id (read s at .first) (read s at .number) (stands .typed .first) ∙ coded .1 .does)
 
-    pub at-end : d .id ≡ 0x0B → AtEnd s n r at kinds depth
+    -- the group of `end` has it alone
+    pub at-end : groupIn (d .entry) ≡ 0 → AtEnd s n r at kinds depth
     at-end e =
+        let it = by-group (λ c. c ≡ plain End) 0 refl (coded .0) (sym (group-in (carried (coded .0)) its-entry) ∙ e) in
         record {
           header = w .header;
           counts = w .counts;
           stack = w .stack;
           holds = w .holds;
           final = read s at;
-          here = record { reached = w .reached; size = d .len; reads = record { stands = stands; does = sym row ∙ ap rowOf e ∙ end-row } };
+          here = record { reached = w .reached; size = d .len; reads = record { stands = stands; does = coded .1 .does ∙ ap carried it } };
         }
 
-    module _ (e : d .id ≡ 0x0B → ⊥) where
-      its-row : rowOf (d .id) ≡ carried (coded .0)
-      its-row = row ∙ coded .1 .does
-
+    module _ (e : groupIn (d .entry) ≡ 0 → ⊥) where
       not-end : coded .0 ≡ plain End → ⊥
-      not-end q = e (row-once (its-row ∙ ap carried q) end-row)
+      not-end q = e (group-in (carried (plain End)) (its-entry ∙ ap (λ (c : Code). entryOf (carried c)) q))
 
       here : At s (w .header) at (w .stack) (read s at) (coded .0)
       here = record { reached = w .reached; size = d .len; reads = coded .1 }
@@ -188,11 +185,11 @@ module _ {s : List ℕ} {n r : ℕ} {kinds : List ℕ} {depth at : ℕ} (w : Goi
             }
 
         module _ {code depth′ : ℕ}
-            (j : (c : Code) (ls κs : List Kind) → rowOf (d .id) ≡ carried c → (c ≡ plain End → ⊥) → Holds (drop 8 s) n ls → Holds kinds depth κs → Judges ls (d .index) c κs after code depth′) where
+            (j : (c : Code) (ls κs : List Kind) → d .entry ≡ entryOf (carried c) → (c ≡ plain End → ⊥) → Holds (drop 8 s) n ls → Holds kinds depth κs → Judges ls (d .index) c κs after code depth′) where
           judgement : Judges (locals (w .header)) (read s at .index) (coded .0) (w .stack) after code depth′
           judgement =
               subst (λ (x : ℕ). Judges (locals (w .header)) x (coded .0) (w .stack) after code depth′) (ap (λ (x : Scanned). x .index) is)
-              (j (coded .0) (locals (w .header)) (w .stack) its-row not-end (holds-locals (w .counts)) (w .holds))
+              (j (coded .0) (locals (w .header)) (w .stack) its-entry not-end (holds-locals (w .counts)) (w .holds))
 
           pub breaks : (code ≡ DONE → ⊥) → Breach s code at
           breaks = breaks-of judgement

@@ -15,12 +15,12 @@ use Rattle.checker.proofs.Held.{split-last, held-at}
 
 -- of the operands some are still to pop, the top one first, and some are popped
 pub record Popped (κs ins : List Kind) (left base : ℕ) : Type 0 where
-  pub todo : List Kind
+  pub ahead : List Kind
   pub taken : List Kind
   pub below : List Kind
-  pub parts : ins ≡ reverseAux todo taken
+  pub parts : ins ≡ reverseAux ahead taken
   pub stack : κs ≡ below ++ taken
-  pub digits : number (map kindByte todo) ≡ left
+  pub digits : number (map kindByte ahead) ≡ left
   pub many : length below ≡ base
 
 pub record Popping (operands : ℕ) (kinds : List ℕ) (depth left base : ℕ) : Type 0 where
@@ -32,7 +32,7 @@ pops operands kinds depth =
     record {
       some = omega arith;
       so-far = λ κs ins h e. record {
-        todo = reverse ins;
+        ahead = reverse ins;
         taken = [];
         below = κs;
         parts = sym (reverse-reverse ins);
@@ -46,28 +46,28 @@ pops operands kinds depth =
 record Next (κs ins : List Kind) (kinds : List ℕ) (left base : ℕ) : Type 0 where
   operand : Kind
   value : Kind
-  todo : List Kind
+  ahead : List Kind
   taken : List Kind
   below : List Kind
-  parts : ins ≡ reverseAux todo (operand ∷ taken)
+  parts : ins ≡ reverseAux ahead (operand ∷ taken)
   stack : κs ≡ below ++ (value ∷ taken)
   digit : kindByte operand ≡ left % 256
-  digits : number (map kindByte todo) ≡ left / 256
+  digits : number (map kindByte ahead) ≡ left / 256
   byte : getD kinds (base - 1) 0 ≡ kindByte value
   many : length below ≡ base - 1
 
 module _ {κs ins : List Kind} {kinds : List ℕ} {depth left base : ℕ} (h : Holds kinds depth κs) (some-left : left ≡ 0 → ⊥) where
-  next-of : (todo taken below : List Kind) → ins ≡ reverseAux todo taken → κs ≡ below ++ taken → number (map kindByte todo) ≡ left → length below ≡ base
+  next-of : (ahead taken below : List Kind) → ins ≡ reverseAux ahead taken → κs ≡ below ++ taken → number (map kindByte ahead) ≡ left → length below ≡ base
       → (base ≡ 0 → ⊥) → Next κs ins kinds left base
   next-of [] taken below e f d m b = absurd (some-left (sym d))
-  next-of (k ∷ todo) taken below e f d m b =
+  next-of (k ∷ ahead) taken below e f d m b =
       let last = split-last below (omega arith) in
       let g : κs ≡ last .0 ++ (last .1 ∷ taken) = f ∙ ap (λ (x : List Kind). x ++ taken) (last .2) ∙ append-assoc (last .0) (last .1 ∷ []) taken in
       let long : length (last .0) ≡ base - 1 = omega (arith, ap length (last .2), length-append (last .0) (last .1 ∷ [])) in
       record {
         operand = k;
         value = last .1;
-        todo = todo;
+        ahead = ahead;
         taken = taken;
         below = last .0;
         parts = e;
@@ -79,16 +79,16 @@ module _ {κs ins : List Kind} {kinds : List ℕ} {depth left base : ℕ} (h : H
       }
 
   next : Popped κs ins left base → (base ≡ 0 → ⊥) → Next κs ins kinds left base
-  next p b = next-of (p .todo) (p .taken) (p .below) (p .parts) (p .stack) (p .digits) (p .many) b
+  next p b = next-of (p .ahead) (p .taken) (p .below) (p .parts) (p .stack) (p .digits) (p .many) b
 
-  none-under : (todo taken below : List Kind) → ins ≡ reverseAux todo taken → κs ≡ below ++ taken → number (map kindByte todo) ≡ left → length below ≡ base → base ≡ 0
+  none-under : (ahead taken below : List Kind) → ins ≡ reverseAux ahead taken → κs ≡ below ++ taken → number (map kindByte ahead) ≡ left → length below ≡ base → base ≡ 0
       → (b : List Kind) → κs ≡ b ++ ins → ⊥
   none-under [] taken below e f d m z b g = some-left (sym d)
-  none-under (k ∷ todo) taken below e f d m z b g =
+  none-under (k ∷ ahead) taken below e f d m z b g =
       omega (
         arith,
         ap length e,
-        length-reverseAux todo (k ∷ taken),
+        length-reverseAux ahead (k ∷ taken),
         ap length f,
         length-append below taken,
         ap length g,
@@ -104,7 +104,7 @@ module _ {operands : ℕ} {kinds : List ℕ} {depth left base : ℕ} (w : Poppin
             let n = next h l (w .so-far κs ins h e) b in
             let it : n .value ≡ n .operand = kind-once (sym (n .byte) ∙ same ∙ sym (n .digit)) in
             record {
-              todo = n .todo;
+              ahead = n .ahead;
               taken = n .operand ∷ n .taken;
               below = n .below;
               parts = n .parts;
@@ -119,7 +119,7 @@ module _ {operands : ℕ} {kinds : List ℕ} {depth left base : ℕ} (w : Poppin
     pub none-there : (left ≡ 0 → ⊥) → base ≡ 0 → (n : ℕ) → stackLimit < n → Under κs ins n
     none-there l b n big =
         let p = w .so-far κs ins h e in
-        missing big (none-under h l (p .todo) (p .taken) (p .below) (p .parts) (p .stack) (p .digits) (p .many) b)
+        missing big (none-under h l (p .ahead) (p .taken) (p .below) (p .parts) (p .stack) (p .digits) (p .many) b)
 
     pub other-there : (left ≡ 0 → ⊥) → (base ≡ 0 → ⊥) → (getD kinds (base - 1) 0 ≡ left % 256 → ⊥) → (n : ℕ) → stackLimit < n → Under κs ins n
     other-there l b other n big = missing big (λ c g. other (differs c g))
@@ -127,17 +127,17 @@ module _ {operands : ℕ} {kinds : List ℕ} {depth left base : ℕ} (w : Poppin
         differs : (c : List Kind) → κs ≡ c ++ ins → getD kinds (base - 1) 0 ≡ left % 256
         differs c g =
             let n = next h l (w .so-far κs ins h e) b in
-            let whole : n .below ++ (n .value ∷ n .taken) ≡ c ++ reverse (n .todo) ++ (n .operand ∷ n .taken) =
-            sym (n .stack) ∙ g ∙ ap (λ (x : List Kind). c ++ x) (n .parts ∙ reverseAux-eq (n .todo) (n .operand ∷ n .taken))
-            ∙ sym (append-assoc c (reverse (n .todo)) (n .operand ∷ n .taken)) in
-            let tops = ends-once (n .below) (c ++ reverse (n .todo)) (n .value ∷ n .taken) (n .operand ∷ n .taken) refl whole .1 in
+            let whole : n .below ++ (n .value ∷ n .taken) ≡ c ++ reverse (n .ahead) ++ (n .operand ∷ n .taken) =
+            sym (n .stack) ∙ g ∙ ap (λ (x : List Kind). c ++ x) (n .parts ∙ reverseAux-eq (n .ahead) (n .operand ∷ n .taken))
+            ∙ sym (append-assoc c (reverse (n .ahead)) (n .operand ∷ n .taken)) in
+            let tops = ends-once (n .below) (c ++ reverse (n .ahead)) (n .value ∷ n .taken) (n .operand ∷ n .taken) refl whole .1 in
             let it : n .value ≡ n .operand = cc in
             n .byte ∙ ap kindByte it ∙ n .digit
 
-    popped-of : (todo taken below : List Kind) → ins ≡ reverseAux todo taken → κs ≡ below ++ taken → number (map kindByte todo) ≡ left → length below ≡ base → left ≡ 0
+    popped-of : (ahead taken below : List Kind) → ins ≡ reverseAux ahead taken → κs ≡ below ++ taken → number (map kindByte ahead) ≡ left → length below ≡ base → left ≡ 0
         → Under κs ins base
     popped-of [] taken below p f d m z = subst (Under κs ins) m (under below (f ∙ ap (λ (x : List Kind). below ++ x) (sym p)))
-    popped-of (k ∷ todo) taken below p f d m z = absurd (let no : ⊥ = omega (arith, kind-range k) in no)
+    popped-of (k ∷ ahead) taken below p f d m z = absurd (let no : ⊥ = omega (arith, kind-range k) in no)
 
     pub all-popped : left ≡ 0 → Under κs ins base
-    all-popped z = let p = w .so-far κs ins h e in popped-of (p .todo) (p .taken) (p .below) (p .parts) (p .stack) (p .digits) (p .many) z
+    all-popped z = let p = w .so-far κs ins h e in popped-of (p .ahead) (p .taken) (p .below) (p .parts) (p .stack) (p .digits) (p .many) z

@@ -1,7 +1,7 @@
 -- A turn is one instruction.
 use borrow.Author.Needs.{needs}
 use Prim.Native.Nat.{_-_}
-use mathlib.Core.Path.{refl}
+use mathlib.Core.Path.{refl, sym, _∙_}
 use native.Mathlib.Omega.{arith}
 use lib.ListN.{length}
 use Rattle.rules.specs.Breach.{breach}
@@ -29,15 +29,16 @@ returns c =
     let d = c .before .before .before .scan in
     checked (c .answer .ensures) (breach (refuses (c .before .before .before .before .loop .inv) (d .result) (d .ensures) (c .before .if1 .taken)))
 
+group-requires : tie.Need-group-requires Inv-loop μ-loop
+group-requires c κs = search needs
+
 slice-aggregate-ending : tie.Need-slice-aggregate-ending Inv-loop μ-loop
 slice-aggregate-ending c = search needs
 
 ending-requires : tie.Need-ending-requires Inv-loop μ-loop
 ending-requires c κs =
     let d = c .before .before .before .before .before .scan in
-    let l = c .before .before .before .before .before .before .loop in
-    let bytes = c .before .before .before .before .before .before .before .shared-slice-known in
-    at-end (l .inv) (d .result) (d .ensures) (λ j. bytes .given j .fits) (c .before .before .before .if1 .left) (c .before .if2 .taken)
+    at-end (c .before .before .before .before .before .before .loop .inv) (d .result) (d .ensures) (λ j. c .before .before .before .before .before .before .before .shared-slice-known .given j .fits) (c .before .before .before .if1 .left) (sym (c .before .before .group .ensures) ∙ c .before .if2 .taken)
 
 returns-2 : tie.Need-returns-2 Inv-loop μ-loop
 returns-2 c = c .ending .ensures
@@ -54,31 +55,23 @@ answer-requires-2 c κs = search needs
 returns-3 : tie.Need-returns-3 Inv-loop μ-loop
 returns-3 c =
     let d = c .before .before .before .before .before .before .before .before .before .before .scan in
-    let l = c .before .before .before .before .before .before .before .before .before .before .before .loop in
-    let bytes = c .before .before .before .before .before .before .before .before .before .before .before .before .shared-slice-known in
     checked (c .answer2 .ensures)
-    (breach (breaks (l .inv) (d .result) (d .ensures) (λ j. bytes .given j .fits) (c .before .before .before .before .before .before .before .before .if1 .left) (c .before .before .before .before .before .before .if2 .left) (c .before .before .before .before .judge .ensures) (c .before .if3 .taken)))
+    (breach (breaks (c .before .before .before .before .before .before .before .before .before .before .before .loop .inv) (d .result) (d .ensures) (λ j. c .before .before .before .before .before .before .before .before .before .before .before .before .shared-slice-known .given j .fits) (c .before .before .before .before .before .before .before .before .if1 .left) (λ e. c .before .before .before .before .before .before .if2 .left (c .before .before .before .before .before .before .before .group .ensures ∙ e)) (c .before .before .before .before .judge .ensures) (c .before .if3 .taken)))
 
 add-at : tie.Need-add-at Inv-loop μ-loop
 add-at c =
     let d = c .before .before .before .before .before .before .before .before .before .before .scan in
-    let l = c .before .before .before .before .before .before .before .before .before .before .before .loop in
-    let bytes = c .before .before .before .before .before .before .before .before .before .before .before .before .shared-slice-known in
-    omega (arith, moves (l .inv) (d .result) (d .ensures) (λ j. bytes .given j .fits) (c .before .before .before .before .before .before .before .before .if1 .left))
+    omega (arith, moves (c .before .before .before .before .before .before .before .before .before .before .before .loop .inv) (d .result) (d .ensures) (λ j. c .before .before .before .before .before .before .before .before .before .before .before .before .shared-slice-known .given j .fits) (c .before .before .before .before .before .before .before .before .if1 .left))
 
 loop-less : tie.Need-loop-less Inv-loop μ-loop
 loop-less c =
     let d = c .before .before .before .before .before .before .before .before .before .before .scan in
-    let l = c .before .before .before .before .before .before .before .before .before .before .before .loop in
-    let bytes = c .before .before .before .before .before .before .before .before .before .before .before .before .shared-slice-known in
-    omega (arith, moves (l .inv) (d .result) (d .ensures) (λ j. bytes .given j .fits) (c .before .before .before .before .before .before .before .before .if1 .left))
+    omega (arith, moves (c .before .before .before .before .before .before .before .before .before .before .before .loop .inv) (d .result) (d .ensures) (λ j. c .before .before .before .before .before .before .before .before .before .before .before .before .shared-slice-known .given j .fits) (c .before .before .before .before .before .before .before .before .if1 .left))
 
 loop-again : tie.Need-loop-again Inv-loop μ-loop
 loop-again c =
     let d = c .before .before .before .before .before .before .before .before .before .before .scan in
-    let l = c .before .before .before .before .before .before .before .before .before .before .before .loop in
-    let bytes = c .before .before .before .before .before .before .before .before .before .before .before .before .shared-slice-known in
-    goes (l .inv) (d .result) (d .ensures) (λ j. bytes .given j .fits) (c .before .before .before .before .before .before .before .before .if1 .left) (c .before .before .before .before .before .before .if2 .left) (c .before .before .before .before .judge .ensures) (c .before .if3 .left) (search needs)
+    goes (c .before .before .before .before .before .before .before .before .before .before .before .loop .inv) (d .result) (d .ensures) (λ j. c .before .before .before .before .before .before .before .before .before .before .before .before .shared-slice-known .given j .fits) (c .before .before .before .before .before .before .before .before .if1 .left) (λ e. c .before .before .before .before .before .before .if2 .left (c .before .before .before .before .before .before .before .group .ensures ∙ e)) (c .before .before .before .before .judge .ensures) (c .before .if3 .left) (search needs)
 
 pub body-spec : {M : Type 1} → statement M
 body-spec =
@@ -90,6 +83,7 @@ body-spec =
     scan-requires
     answer-requires
     returns
+    group-requires
     slice-aggregate-ending
     ending-requires
     returns-2

@@ -1,10 +1,11 @@
 -- By the signature, by the value's kind, or by the local's.
 use borrow.Author.Needs.{needs}
 use Prim.Native.Nat.{_+_, _-_}
-use mathlib.Core.Path.{refl, ap, _∙_}
+use mathlib.Core.Path.{refl, sym, _∙_}
 use native.Mathlib.Omega.{arith}
-use Rattle.opcode.specs.Number.{groupOf}
-use Rattle.checker.proofs.Effects.{effected-signature, effected-none, effected-drop, names-local, at-group, effected-undeclared, effected-get, effected-set, effected-tee}
+use Rattle.opcode.specs.Table.{carried}
+use Rattle.opcode.proofs.Entries.{group-in, effect-in}
+use Rattle.checker.proofs.Effects.{effected-signature, effected-none, effected-drop, names-local, effected-undeclared, effected-get, effected-set, effected-tee}
 use Rattle.checker.proofs.typing.effect_of.Statement.{statement}
 use Rattle.checker.proofs.typing.effect_of.Tie as tie
 
@@ -12,7 +13,7 @@ effect-requires : tie.Need-effect-requires
 effect-requires c κs = search needs
 
 returns : tie.Need-returns
-returns c v ls κs row other h g = effected-signature ls (c .before .before .before .before .args .index) v κs (c .before .before .before .before .args .id) _ (c .before .effect .ensures) row (c .if1 .taken)
+returns c v ls κs row other h g = effected-signature ls (c .before .before .before .before .args .index) v κs _ (c .before .effect .ensures ∙ effect-in (carried v) row) (c .if1 .taken)
 
 group-requires : tie.Need-group-requires
 group-requires c κs = search needs
@@ -23,7 +24,7 @@ cast-result c = search needs
 returns-2 : tie.Need-returns-2
 returns-2 c v ls κs row other h g =
     let a = c .before .before .before .before .before .before .before .args in
-    effected-none ls (a .index) κs _ g v (a .id) _ row (c .before .before .group .ensures) (c .before .if2 .taken) (c .if3 .taken) refl
+    effected-none ls (a .index) κs _ g v _ (c .before .before .group .ensures ∙ group-in (carried v) row) (c .before .if2 .taken) (c .if3 .taken) refl
 
 sub-result : tie.Need-sub-result
 sub-result c = search needs
@@ -37,12 +38,12 @@ cast-result-2 c = let a = c .before .before .before .before .before .before .bef
 returns-3 : tie.Need-returns-3
 returns-3 c v ls κs row other h g =
     let a = c .before .before .before .before .before .before .before .before .args in
-    effected-drop ls (a .index) κs _ g v (a .id) _ row (c .before .before .before .group .ensures) (c .before .before .if2 .taken) (c .before .if3 .left) refl
+    effected-drop ls (a .index) κs _ g v _ (c .before .before .before .group .ensures ∙ group-in (carried v) row) (c .before .before .if2 .taken) (c .before .if3 .left) refl
 
 returns-4 : tie.Need-returns-4
 returns-4 c v ls κs row other h g =
     let a = c .before .before .before .before .before .before .before .args in
-    let names = names-local v (a .id) _ _ row other (c .before .before .before .before .effect .ensures) (c .before .before .before .if1 .left) (c .before .before .group .ensures) (c .before .if2 .left) in
+    let names = names-local v _ _ other (c .before .before .before .before .effect .ensures ∙ effect-in (carried v) row) (c .before .before .before .if1 .left) (c .before .before .group .ensures ∙ group-in (carried v) row) (c .before .if2 .left) in
     effected-undeclared ls (a .index) κs _ (a .strip .now) h v names (c .if4 .taken) refl
 
 add-k : tie.Need-add-k
@@ -66,20 +67,20 @@ add-result c = let a = c .before .before .before .before .before .before .before
 returns-5 : tie.Need-returns-5
 returns-5 c v ls κs row other h g =
     let a = c .before .before .before .before .before .before .before .before .before .args in
-    let names = names-local v (a .id) _ _ row other (c .before .before .before .before .before .before .effect .ensures) (c .before .before .before .before .before .if1 .left) (c .before .before .before .before .group .ensures) (c .before .before .before .if2 .left) in
-    effected-get ls (a .index) κs _ (a .strip .now) h v names (c .before .before .if4 .left) _ refl (at-group v (a .id) row (c .before .before .before .before .group .ensures) (c .match .keys1)) refl
+    let names = names-local v _ _ other (c .before .before .before .before .before .before .effect .ensures ∙ effect-in (carried v) row) (c .before .before .before .before .before .if1 .left) (c .before .before .before .before .group .ensures ∙ group-in (carried v) row) (c .before .before .before .if2 .left) in
+    effected-get ls (a .index) κs _ (a .strip .now) h v names (c .before .before .if4 .left) _ refl (sym (c .before .before .before .before .group .ensures ∙ group-in (carried v) row) ∙ c .match .keys1) refl
 
 returns-6 : tie.Need-returns-6
 returns-6 c v ls κs row other h g =
     let a = c .before .before .before .before .before .before .before .before .before .args in
-    let names = names-local v (a .id) _ _ row other (c .before .before .before .before .before .before .effect .ensures) (c .before .before .before .before .before .if1 .left) (c .before .before .before .before .group .ensures) (c .before .before .before .if2 .left) in
-    effected-set ls (a .index) κs _ (a .strip .now) h v names (c .before .before .if4 .left) _ refl (at-group v (a .id) row (c .before .before .before .before .group .ensures) (c .match .keys2)) refl
+    let names = names-local v _ _ other (c .before .before .before .before .before .before .effect .ensures ∙ effect-in (carried v) row) (c .before .before .before .before .before .if1 .left) (c .before .before .before .before .group .ensures ∙ group-in (carried v) row) (c .before .before .before .if2 .left) in
+    effected-set ls (a .index) κs _ (a .strip .now) h v names (c .before .before .if4 .left) _ refl (sym (c .before .before .before .before .group .ensures ∙ group-in (carried v) row) ∙ c .match .keys2) refl
 
 returns-7 : tie.Need-returns-7
 returns-7 c v ls κs row other h g =
     let a = c .before .before .before .before .before .before .before .before .before .args in
-    let names = names-local v (a .id) _ _ row other (c .before .before .before .before .before .before .effect .ensures) (c .before .before .before .before .before .if1 .left) (c .before .before .before .before .group .ensures) (c .before .before .before .if2 .left) in
-    let group = c .before .before .before .before .group .ensures ∙ ap groupOf row in
+    let names = names-local v _ _ other (c .before .before .before .before .before .before .effect .ensures ∙ effect-in (carried v) row) (c .before .before .before .before .before .if1 .left) (c .before .before .before .before .group .ensures ∙ group-in (carried v) row) (c .before .before .before .if2 .left) in
+    let group = c .before .before .before .before .group .ensures ∙ group-in (carried v) row in
     effected-tee ls (a .index) κs _ (a .strip .now) h v names (c .before .before .if4 .left) _ refl (λ is. c .match .rest .0 .1 (group ∙ is)) (λ is. c .match .rest .1 (group ∙ is)) refl
 
 pub effect-of-spec : {M : Type 1} → statement M

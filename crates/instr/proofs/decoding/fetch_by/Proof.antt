@@ -1,4 +1,6 @@
-use mathlib.Core.Path.{_≡_, refl, sym, ap, subst, _∙_}
+-- The first byte, the number, the body.
+use borrow.Author.Needs.{needs}
+use mathlib.Core.Path.{refl, sym, ap, subst, _∙_}
 use native.Mathlib.Omega.{arith}
 use denote.Ref.{now}
 use Rattle.opcode.specs.Number.{rowOf}
@@ -11,17 +13,8 @@ use Rattle.instr.proofs.Items.{byte-there, byte-cut}
 use Rattle.instr.proofs.Numbers.{opcode-there}
 use Rattle.instr.proofs.Over.{decode-body}
 use Rattle.instr.proofs.Named.{Named, body-named, fetched}
-use borrow.Author.Needs.{needs}
 use Rattle.instr.proofs.decoding.fetch_by.Statement.{statement}
 use Rattle.instr.proofs.decoding.fetch_by.Tie as tie
-use Rattle.instr.proofs.decoding.fetch_by.Reads as reads
-use Rattle.instr.proofs.decoding.fetch_by.Lts as lts
-use Rattle.instr.proofs.decoding.body.Reads as body-reads
-use Rattle.instr.proofs.decoding.not_found.Reads as not-found-reads
-use Rattle.instr.proofs.decoding.opcode_number.Reads as opcode-number-reads
-use Rattle.instr.proofs.decoding.refused.Reads as refused-reads
-use Rattle.instr.proofs.version.id_by.Reads as id-by-reads
-use Rattle.opcode.proofs.entry.Reads as entry-reads
 
 refused-requires : tie.Need-refused-requires
 refused-requires c κs = search needs

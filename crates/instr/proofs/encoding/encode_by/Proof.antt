@@ -1,3 +1,5 @@
+-- Three ways out: what is wrong, no room, the bytes.
+use borrow.Author.Needs.{needs}
 use mathlib.Core.Path.{sym, _∙_}
 use native.Mathlib.Omega.{arith}
 use denote.Ref.{now}
@@ -5,19 +7,8 @@ use Rattle.opcode.specs.Number.{rowOf}
 use Rattle.opcode.proofs.Entries.{class-in}
 use Rattle.instr.proofs.Versions.{fault-by, class-by}
 use Rattle.instr.proofs.Forms.{encoding-length, is-fault, is-small, is-done}
-use borrow.Author.Needs.{needs}
 use Rattle.instr.proofs.encoding.encode_by.Statement.{statement}
 use Rattle.instr.proofs.encoding.encode_by.Tie as tie
-use Rattle.instr.proofs.encoding.encode_by.Reads as reads
-use Rattle.instr.proofs.encoding.encode_by.Lts as lts
-use Rattle.instr.proofs.encoding.fault_of.Reads as fault-of-reads
-use Rattle.instr.proofs.encoding.immediates_len.Reads as immediates-len-reads
-use Rattle.instr.proofs.encoding.opcode_len.Reads as opcode-len-reads
-use Rattle.instr.proofs.encoding.put_immediates.Reads as put-immediates-reads
-use Rattle.instr.proofs.encoding.put_opcode.Reads as put-opcode-reads
-use Rattle.instr.proofs.version.id_by.Reads as id-by-reads
-use Rattle.opcode.proofs.immediates.Reads as immediates-reads
-use Rattle.opcode.proofs.entry.Reads as entry-reads
 
 id-by-requires : tie.Need-id-by-requires
 id-by-requires c κs = search needs

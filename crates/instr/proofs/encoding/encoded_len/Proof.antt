@@ -1,19 +1,13 @@
+-- The opcode's bytes and the immediates'.
+use borrow.Author.Needs.{needs}
 use mathlib.Core.Path.{ap, _∙_}
 use native.Mathlib.Omega.{arith}
 use Rattle.opcode.specs.Number.{classOf, rowOf}
 use Rattle.opcode.proofs.Entries.{class-in}
 use Rattle.instr.proofs.Classes.{row-in}
 use Rattle.instr.proofs.Forms.{encoding-length}
-use borrow.Author.Needs.{needs}
 use Rattle.instr.proofs.encoding.encoded_len.Statement.{statement}
 use Rattle.instr.proofs.encoding.encoded_len.Tie as tie
-use Rattle.instr.proofs.encoding.encoded_len.Reads as reads
-use Rattle.instr.proofs.encoding.encoded_len.Lts as lts
-use Rattle.instr.proofs.encoding.immediates_len.Reads as immediates-len-reads
-use Rattle.instr.proofs.encoding.opcode_len.Reads as opcode-len-reads
-use Rattle.opcode.proofs.id_of.Reads as id-of-reads
-use Rattle.opcode.proofs.immediates.Reads as immediates-reads
-use Rattle.opcode.proofs.entry.Reads as entry-reads
 
 id-of-requires : tie.Need-id-of-requires
 id-of-requires c κs = search needs

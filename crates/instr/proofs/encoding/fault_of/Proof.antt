@@ -1,3 +1,5 @@
+-- What is wrong, class by class.
+use borrow.Author.Needs.{needs}
 use mathlib.Core.Bool.{true, false}
 use mathlib.Core.Path.{sym, subst, _∙_}
 use native.Mathlib.Omega.{arith}
@@ -5,18 +7,8 @@ use Rattle.opcode.specs.Number.{rowOf}
 use Rattle.opcode.proofs.Classes.{row-moved-small}
 use Rattle.opcode.proofs.Entries.{class-in, moved-in, lanes-in}
 use Rattle.instr.proofs.Classes.{fault-memory, fault-memory-lane, fault-lane-memory, no-fault-lane, fault-lane, fault-lanes, fault-float, fault-unassigned, AllBut, judged, fault-other}
-use borrow.Author.Needs.{needs}
 use Rattle.instr.proofs.encoding.fault_of.Statement.{statement}
 use Rattle.instr.proofs.encoding.fault_of.Tie as tie
-use Rattle.instr.proofs.encoding.fault_of.Reads as reads
-use Rattle.instr.proofs.encoding.fault_of.Lts as lts
-use Rattle.instr.proofs.encoding.all_lanes.Reads as all-lanes-reads
-use Rattle.instr.proofs.encoding.exponent_fault.Reads as exponent-fault-reads
-use Rattle.instr.proofs.wide.Reads as wide-reads
-use Rattle.opcode.proofs.immediates.Reads as immediates-reads
-use Rattle.opcode.proofs.lanes.Reads as lanes-reads
-use Rattle.opcode.proofs.moved.Reads as moved-reads
-use Rattle.opcode.proofs.entry.Reads as entry-reads
 
 entry-requires : tie.Need-entry-requires
 entry-requires c κs = search needs

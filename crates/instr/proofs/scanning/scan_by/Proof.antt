@@ -1,3 +1,5 @@
+-- The first byte, the number, the immediates.
+use borrow.Author.Needs.{needs}
 use mathlib.Core.Path.{sym, ap, _∙_}
 use native.Mathlib.Omega.{arith}
 use denote.Ref.{now}
@@ -9,16 +11,8 @@ use Rattle.instr.specs.Inner.Version.{item, decodeBy}
 use Rattle.instr.proofs.Items.{byte-there, byte-cut}
 use Rattle.instr.proofs.Numbers.{opcode-there}
 use Rattle.instr.proofs.Over.{over-there, scanned}
-use borrow.Author.Needs.{needs}
 use Rattle.instr.proofs.scanning.scan_by.Statement.{statement}
 use Rattle.instr.proofs.scanning.scan_by.Tie as tie
-use Rattle.instr.proofs.scanning.scan_by.Reads as reads
-use Rattle.instr.proofs.scanning.scan_by.Lts as lts
-use Rattle.instr.proofs.decoding.opcode_number.Reads as opcode-number-reads
-use Rattle.instr.proofs.scanning.immediates.Reads as immediates-reads
-use Rattle.instr.proofs.scanning.refused.Reads as refused-reads
-use Rattle.instr.proofs.version.id_by.Reads as id-by-reads
-use Rattle.opcode.proofs.entry.Reads as entry-reads
 
 refused-requires : tie.Need-refused-requires
 refused-requires c κs = search needs
