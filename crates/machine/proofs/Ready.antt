@@ -10,9 +10,13 @@ use borrow.Author.Tests.{leb-true}
 use Rattle.lane.specs.Op.{Load, LoadLane, Store, StoreLane, Const, Shuffle, Splat, ExtractLane, ReplaceLane, Unary, Binary, Bitselect, Test, Shift}
 use Rattle.limits.specs.Limits.{stackLimit}
 use Rattle.opcode.specs.Table.{End, Drop, LocalGet, LocalSet, LocalTee, I32Const, I64Const, I32Add, I32Sub, Code, plain, vector, carried}
+use Rattle.opcode.specs.Immediate.{movedBy}
 use Rattle.opcode.specs.Number.{rowOf, groupOf, groupOfCode}
+use Rattle.opcode.specs.Entry.{entryOf, groupIn, movedIn}
 use Rattle.opcode.specs.Lists.{_to_}
+use Rattle.opcode.proofs.Classes.{row-moved-small}
 use Rattle.opcode.proofs.Groups.{Each, by-group}
+use Rattle.opcode.proofs.Entries.{moved-in, group-in}
 use Rattle.opcode.proofs.Arms.{anyKey}
 use Rattle.instr.specs.declared.Instr.{Instr}
 use Rattle.machine.specs.Inner.Flat.{flat}
@@ -75,36 +79,43 @@ untouched i st d len (vector Bitselect) h = refl
 untouched i st d len (vector (Test o)) h = refl
 untouched i st d len (vector (Shift o)) h = refl
 
-module _ (id : ℕ) {g : ℕ} (group : g ≡ groupOf (rowOf id)) where
-  pub group-of : (c : Code) → rowOf id ≡ carried c → g ≡ groupOfCode c
-  group-of c row = group ∙ ap groupOf row
+-- the entry of the number's row: what is read from it is what the row says
+module _ (id : ℕ) {e : ℕ} (entry : e ≡ entryOf (rowOf id)) where
+  pub group-of : {g : ℕ} → g ≡ groupIn e → (c : Code) → rowOf id ≡ carried c → g ≡ groupOfCode c
+  group-of group c row = group ∙ group-in (rowOf id) entry ∙ ap groupOf row
+
+  pub moved-of : {n : ℕ} → n ≡ movedIn e → {c : Code} → rowOf id ≡ carried c → n ≡ movedBy (carried c)
+  moved-of moved row = moved ∙ moved-in (rowOf id) entry ∙ ap movedBy row
+
+  pub moved-few : {n : ℕ} → n ≡ movedIn e → n ≤ 16
+  moved-few moved = subst (λ (k : ℕ). k ≤ 16) (sym (moved ∙ moved-in (rowOf id) entry)) (row-moved-small (rowOf id))
 
   -- of every code that the number may have
-  pub each : (P : Code → Type 0) {k : ℕ} → g ≡ k → Each (λ c. rowOf id ≡ carried c → P c) k → (c : Code) → rowOf id ≡ carried c → P c
-  each P {k} at f c row = by-group (λ c. rowOf id ≡ carried c → P c) k f c (sym (group-of c row) ∙ at) row
+  pub each : {g : ℕ} → g ≡ groupIn e → (P : Code → Type 0) {k : ℕ} → g ≡ k → Each (λ c. rowOf id ≡ carried c → P c) k → (c : Code) → rowOf id ≡ carried c → P c
+  each group P {k} at f c row = by-group (λ c. rowOf id ≡ carried c → P c) k f c (sym (group-of group c row) ∙ at) row
 
-  -- of the code that it has
-  pub fitting : {i : Instr} {st : List ℕ} {d k : ℕ} {X : Type 0} → Fits id i st d → g ≡ k → Each (λ c. rowOf id ≡ carried c → Fit c i st d → X) k → X
-  fitting {i} {st} {d} {X = X} r at f = each (λ c. Fit c i st d → X) at f (r .code) (r .row) (r .fit)
+-- of the code that it has
+pub fitting : {id e : ℕ} {st : List ℕ} {d : ℕ} → (e ≡ entryOf (rowOf id)) × Fits id st d → {g k : ℕ} {X : Type 0} → g ≡ groupIn e → g ≡ k → Each (λ c. rowOf id ≡ carried c → Fit c st d → X) k → X
+fitting {id} {e} {st} {d} (entry, r) {X = X} group at f = each id entry group (λ c. Fit c st d → X) at f (r .code) (r .row) (r .fit)
 
 -- a code's part of Ready
 pub record Asks (c : Code) (i : Instr) (st : List ℕ) (d : ℕ) (ls m : List ℕ) : Type 0 where
-  pub fit : Fit c i st d
+  pub fit : Fit c st d
   pub named : Named c i
   pub room : flat c i st d ls m .depth ≤ stackLimit
   pub clear : boundsOf c i st d (length m) ≡ Clear
 
-module _ {id : ℕ} {i : Instr} {st : List ℕ} {d : ℕ} {ls m : List ℕ} (r : Ready id i st d ls m) {g : ℕ} (group : g ≡ groupOf (rowOf id)) where
-  asks : Asks (r .code) i st d ls m
-  asks = record { fit = r .fit; named = r .named; room = r .room; clear = r .clear }
+module _ {id e : ℕ} {i : Instr} {st : List ℕ} {d : ℕ} {ls m : List ℕ} (pre : (e ≡ entryOf (rowOf id)) × Ready id i st d ls m) {g : ℕ} (group : g ≡ groupIn e) where
+  asks : Asks (pre .1 .code) i st d ls m
+  asks = let r = pre .1 in record { fit = r .fit; named = r .named; room = r .room; clear = r .clear }
 
   pub ready : {X : Type 0} {k : ℕ} → g ≡ k → Each (λ c. rowOf id ≡ carried c → Asks c i st d ls m → X) k → X
-  ready {X} at f = each id group (λ c. Asks c i st d ls m → X) at f (r .code) (r .row) asks
+  ready {X} at f = each id (pre .0) group (λ c. Asks c i st d ls m → X) at f (pre .1 .code) (pre .1 .row) asks
 
   pub did : {k d′ : ℕ} {st′ ls′ m′ : List ℕ} → g ≡ k → Each (λ c. rowOf id ≡ carried c → Asks c i st d ls m → Did (flat c i st d ls m) d′ st′ ls′ m′) k → DidBy id i st d ls m d′ st′ ls′ m′
   did {k} {d′} {st′} {ls′} {m′} at f =
       record {
         does = λ c row.
-            let same : r .code ≡ c = cc (r .row) in
-            each id group (λ c. Asks c i st d ls m → Did (flat c i st d ls m) d′ st′ ls′ m′) at f c row (subst (λ c. Asks c i st d ls m) same asks);
+            let same : pre .1 .code ≡ c = cc (pre .1 .row) in
+            each id (pre .0) group (λ c. Asks c i st d ls m → Did (flat c i st d ls m) d′ st′ ls′ m′) at f c row (subst (λ c. Asks c i st d ls m) same asks);
       }

@@ -13,7 +13,7 @@ use lane::V128;
 
 // The address is the value on top, or the one under it.
 pub fn bounds(id: u32, entry: u64, i: Instr, stack: &[u8], depth: usize, len: usize) -> Bounds
-    requires { ⌜ (entry ≡ entryOf (rowOf id)) × Fits id i (now stack) depth ⌝ }
+    requires { ⌜ (entry ≡ entryOf (rowOf id)) × Fits id (now stack) depth ⌝ }
     ensures { λ r. ⌜ ((c : Code) → rowOf id ≡ carried c → r ≡ boundsOf c i (now (stack .entry)) depth len) ⌝ }
 {
     match opcode::group(entry) {

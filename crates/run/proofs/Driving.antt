@@ -12,9 +12,13 @@ use Rattle.lane.proofs.Laws.Number.{Bytes}
 use Rattle.limits.specs.Limits.{slot, localCount, stackBytes, localBytes}
 use Rattle.opcode.specs.Table.{Code, carried}
 use Rattle.opcode.specs.Number.{idOf, rowOf, groupOf}
+use Rattle.opcode.specs.Entry.{entryOf, groupIn}
+use Rattle.opcode.proofs.Entries.{group-in}
 use Rattle.instr.specs.declared.Instr.{Instr}
 use Rattle.instr.specs.declared.Decoded.{Decoded}
+use Rattle.instr.specs.declared.Fetched.{Fetched}
 use Rattle.instr.specs.Decode.{decodeAt}
+use Rattle.instr.specs.Fetch.{fetchOf}
 use Rattle.instr.proofs.Ranges.{stands-inside}
 use Rattle.machine.specs.Value.{kindOf, allBytes}
 use Rattle.machine.specs.Memory.{stored}
@@ -89,16 +93,28 @@ module _ {s args mem₀ out : List ℕ} {budget : ℕ} {mem results stack : List
       let next : budget - steps ≡ suc (budget - suc steps) = omega arith in
       ap (λ (k : ℕ). meter s h k steps (D .config) out) next ∙ ap (meterBy steps (D .config) out (λ c. meter s h (budget - suc steps) (suc steps) c out)) e
 
-  -- ---- the instruction that was decoded here
-  module _ (d : Decoded) (decoded : d ≡ decodeAt s at) where
+  -- ---- the instruction that was fetched here
+  module _ (f : Fetched) (fetched : f ≡ fetchOf (decodeAt s at)) where
+    abbrev d : Decoded
+    d = f .decoded
+
     abbrev i : Instr
     i = d .instr
+
+    abbrev id : ℕ
+    id = f .id
 
     abbrev number : ℕ
     number = idOf (i .first) (i .number)
 
+    id-is : id ≡ number
+    id-is = subst (λ (x : Fetched). x .id ≡ idOf (x .decoded .instr .first) (x .decoded .instr .number)) (sym fetched) refl
+
+    entry-is : f .entry ≡ entryOf (rowOf id)
+    entry-is = subst (λ (x : Fetched). x .entry ≡ entryOf (rowOf (x .id))) (sym fetched) refl
+
     pub stands : Way s h (D .config) (D .sound .kinds) i (d .len)
-    stands = way (D .ready .valid) (D .config) (D .sound) d (decoded ∙ ap (decodeAt s) (sym (D .place)))
+    stands = way (D .ready .valid) (D .config) (D .sound) d (ap (λ (x : Fetched). x .decoded) fetched ∙ ap (decodeAt s) (sym (D .place)))
 
     pub inside : at + d .len ≤ length s
     inside = by stands
@@ -108,9 +124,9 @@ module _ {s args mem₀ out : List ℕ} {budget : ℕ} {mem results stack : List
         by (goes-to r ne e q) = omega (arith, D .place, stands-inside (r .stands))
         by (traps-at r ne e) = omega (arith, D .place, stands-inside (r .stands))
 
-    module _ (id group : ℕ) (id-is : id ≡ number) (told-group : group ≡ groupOf (rowOf id)) where
+    module _ (group : ℕ) (told-group : group ≡ groupIn (f .entry)) where
       group-is : group ≡ groupOf (rowOf number)
-      group-is = told-group ∙ ap (λ (n : ℕ). groupOf (rowOf n)) id-is
+      group-is = told-group ∙ group-in (rowOf id) entry-is ∙ ap (λ (n : ℕ). groupOf (rowOf n)) id-is
 
       row : {c : Code} → Reads s (D .config .place) i c (d .len) → rowOf id ≡ carried c
       row r = ap rowOf id-is ∙ row-is r
@@ -134,10 +150,10 @@ module _ {s args mem₀ out : List ℕ} {budget : ℕ} {mem results stack : List
 
       -- the others: asked of `bounds`
       module _ (more : steps < budget) (other : group ≡ 0 → ⊥) where
-        pub bounds-fits : Fits id i stack depth
-        bounds-fits = subst (λ (n : ℕ). Fits n i stack depth) (sym id-is) (by stands)
+        pub bounds-fits : (f .entry ≡ entryOf (rowOf id)) × Fits id stack depth
+        bounds-fits = (entry-is, subst (λ (n : ℕ). Fits n stack depth) (sym id-is) (by stands))
           where
-            by : Way s h (D .config) (D .sound .kinds) i (d .len) → Fits number i stack depth
+            by : Way s h (D .config) (D .sound .kinds) i (d .len) → Fits number stack depth
             by (last r κ) = absurd (other (end-in-group r group group-is refl))
             by (goes-to r ne e q) = fits r (h .results) (D .rep) e (λ z. let w : _≡_ {A = ℕ} 0 1 = cc in omega arith)
             by (traps-at r ne e) = fits r (h .results) (D .rep) e (λ z. let w : _≡_ {A = ℕ} 0 1 = cc in omega arith)
@@ -145,8 +161,8 @@ module _ {s args mem₀ out : List ℕ} {budget : ℕ} {mem results stack : List
         module _ (b : Bounds) (told : (c : Code) → rowOf id ≡ carried c → b ≡ boundsOf c i stack depth (length mem)) where
           -- within the memory: asked of `exec`, and what it leaves
           module _ (clear : b ≡ Clear) where
-            pub exec-apt : Apt id i stack depth locals mem
-            exec-apt = subst (λ (n : ℕ). Apt n i stack depth locals mem) (sym id-is) (by stands)
+            pub exec-apt : (f .entry ≡ entryOf (rowOf id)) × Apt id i stack depth locals mem
+            exec-apt = (entry-is, subst (λ (n : ℕ). Apt n i stack depth locals mem) (sym id-is) (by stands))
               where
                 by : Way s h (D .config) (D .sound .kinds) i (d .len) → Apt number i stack depth locals mem
                 by (last r κ) = absurd (other (end-in-group r group group-is refl))

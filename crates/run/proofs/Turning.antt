@@ -57,11 +57,11 @@ module _ {s : List ℕ} {p n : ℕ} {i : Instr} {c : Code} (r : Reads s p i c n)
   row-is = row-of-id (i .first) (i .number) (r .stands .typed .first) ∙ r .does
 
   module _ (rs : List Kind) {σ : State} {st : List ℕ} {d : ℕ} {ls m : List ℕ} (rep : Rep σ st d ls m) where
-    fit : {o : Outcome} → exec rs c i σ ≡ o → (o ≡ stuck → ⊥) → Fit c i st d
+    fit : {o : Outcome} → exec rs c i σ ≡ o → (o ≡ stuck → ⊥) → Fit c st d
     fit {o} e moves = record { stack-long = rep .stack-long; enough = enough rs i σ st d ls m rep o moves c e; deep = rep .deep }
 
     -- asked of `bounds`
-    pub fits : {o : Outcome} → exec rs c i σ ≡ o → (o ≡ stuck → ⊥) → Fits (idOf (i .first) (i .number)) i st d
+    pub fits : {o : Outcome} → exec rs c i σ ≡ o → (o ≡ stuck → ⊥) → Fits (idOf (i .first) (i .number)) st d
     fits e moves = record { code = c; row = row-is; fit = fit e moves }
 
     module _ {σ′ : State} (e : exec rs c i σ ≡ goes σ′) where

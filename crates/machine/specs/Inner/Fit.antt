@@ -83,16 +83,16 @@ abbrev pub Named : Code → Instr → Type 0
 Named (plain p) i = Slotted p i
 Named (vector o) i = Indexed o i
 
-pub record Fit (c : Code) (i : Instr) (st : List ℕ) (d : ℕ) : Type 0 where
+pub record Fit (c : Code) (st : List ℕ) (d : ℕ) : Type 0 where
   pub stack-long : length st ≡ stackBytes
   pub enough : takenBy c ≤ d
   pub deep : d ≤ stackLimit
 
 -- the instruction of this number, and the stack for it
-pub record Fits (id : ℕ) (i : Instr) (st : List ℕ) (d : ℕ) : Type 0 where
+pub record Fits (id : ℕ) (st : List ℕ) (d : ℕ) : Type 0 where
   pub code : Code
   pub row : rowOf id ≡ carried code
-  pub fit : Fit code i st d
+  pub fit : Fit code st d
 
 -- n bytes from an address on in a memory of this length: clear, or the first address out of reach
 abbrev pub boundsAt : ℕ → ℕ → ℕ → Bounds
@@ -122,7 +122,7 @@ boundsOf (vector o) i st d len = boundsOp o i st d len
 pub record Ready (id : ℕ) (i : Instr) (st : List ℕ) (d : ℕ) (ls m : List ℕ) : Type 0 where
   pub code : Code
   pub row : rowOf id ≡ carried code
-  pub fit : Fit code i st d
+  pub fit : Fit code st d
   pub named : Named code i
   pub room : flat code i st d ls m .depth ≤ stackLimit
   pub locals-long : length ls ≡ localBytes

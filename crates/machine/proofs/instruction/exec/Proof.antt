@@ -6,15 +6,13 @@ use native.Mathlib.Omega.{arith}
 use lib.Dec.{T}
 use lib.ListN.{length, take}
 use Rattle.lane.specs.Op.{Load, LoadLane, StoreLane, loaded, laneIn, laneOut}
-use Rattle.opcode.specs.Number.{rowOf}
-use Rattle.opcode.specs.Immediate.{moved, movedBy}
+use Rattle.opcode.specs.Immediate.{moved}
 use Rattle.opcode.specs.Lists.{_to_}
 use Rattle.opcode.proofs.Arms.{anyKey, missed}
-use Rattle.opcode.proofs.Classes.{row-moved-small}
 use Rattle.machine.specs.Memory.{part, padded, stored}
 use Rattle.machine.specs.Inner.Flat.{flat, putSlot, topOf, low32}
 use Rattle.machine.specs.Inner.Fit.{Did}
-use Rattle.machine.proofs.Ready.{within, alone, only-end, group-of, ready, did}
+use Rattle.machine.proofs.Ready.{within, alone, only-end, group-of, moved-of, moved-few, ready, did}
 use Rattle.machine.proofs.instruction.exec.Statement.{statement}
 use Rattle.machine.proofs.instruction.exec.Tie as tie
 
@@ -22,19 +20,19 @@ sub-result : tie.Need-sub-result
 sub-result c = ready (c .before .before .before .before .before .pre) (c .before .group .ensures) (c .match .keys1) (λ row q. omega (arith, q .fit .enough))
 
 get-local-requires : tie.Need-get-local-requires
-get-local-requires c κs = ready (c .before .before .before .before .before .before .before .pre) (c .before .before .before .group .ensures) (c .before .before .match .keys2) (λ row q. (q .named, omega (arith, q .room), c .before .before .before .before .before .before .before .pre .locals-long, q .fit .stack-long))
+get-local-requires c κs = ready (c .before .before .before .before .before .before .before .pre) (c .before .before .before .group .ensures) (c .before .before .match .keys2) (λ row q. (q .named, omega (arith, q .room), c .before .before .before .before .before .before .before .pre .1 .locals-long, q .fit .stack-long))
 
 add-result : tie.Need-add-result
 add-result c = ready (c .before .before .before .before .before .before .before .before .before .before .pre) (c .before .before .before .before .before .before .group .ensures) (c .before .before .before .before .before .match .keys2) (λ row q. omega (arith, q .fit .deep))
 
 set-local-requires : tie.Need-set-local-requires
-set-local-requires c κs = ready (c .before .before .before .before .before .before .before .pre) (c .before .before .before .group .ensures) (c .before .before .match .keys3) (λ row q. (q .named, q .fit .enough, q .fit .deep, c .before .before .before .before .before .before .before .pre .locals-long, q .fit .stack-long))
+set-local-requires c κs = ready (c .before .before .before .before .before .before .before .pre) (c .before .before .before .group .ensures) (c .before .before .match .keys3) (λ row q. (q .named, q .fit .enough, q .fit .deep, c .before .before .before .before .before .before .before .pre .1 .locals-long, q .fit .stack-long))
 
 sub-result-2 : tie.Need-sub-result-2
 sub-result-2 c = ready (c .before .before .before .before .before .before .before .before .before .before .pre) (c .before .before .before .before .before .before .group .ensures) (c .before .before .before .before .before .match .keys3) (λ row q. omega (arith, q .fit .enough))
 
 set-local-requires-2 : tie.Need-set-local-requires-2
-set-local-requires-2 c κs = ready (c .before .before .before .before .before .before .before .pre) (c .before .before .before .group .ensures) (c .before .before .match .keys4) (λ row q. (q .named, q .fit .enough, q .fit .deep, c .before .before .before .before .before .before .before .pre .locals-long, q .fit .stack-long))
+set-local-requires-2 c κs = ready (c .before .before .before .before .before .before .before .pre) (c .before .before .before .group .ensures) (c .before .before .match .keys4) (λ row q. (q .named, q .fit .enough, q .fit .deep, c .before .before .before .before .before .before .before .pre .1 .locals-long, q .fit .stack-long))
 
 push-number-requires : tie.Need-push-number-requires
 push-number-requires c κs = ready (c .before .before .before .before .before .before .before .pre) (c .before .before .before .group .ensures) (c .before .before .match .keys5) (λ row q. (omega (arith, q .room), q .fit .stack-long))
@@ -61,10 +59,10 @@ sub-result-4 : tie.Need-sub-result-4
 sub-result-4 c = ready (c .before .before .before .before .before .before .before .before .before .pre) (c .before .before .before .before .before .group .ensures) (c .before .before .before .before .match .keys8) (λ row q. omega (arith, q .fit .enough))
 
 load-requires : tie.Need-load-requires
-load-requires c κs = let a = c .before .before .before .before .before .before .before .before .args in let st = a .stack .now in let at = low32 (topOf st (a .depth) 1) + a .i .offset in ready (c .before .before .before .before .before .before .before .before .pre) (c .before .before .before .before .group .ensures) (c .before .before .before .match .keys9) (λ l row q. (q .fit .enough, q .fit .deep, q .fit .stack-long, omega (arith, c .before .before .moved .ensures, row-moved-small (rowOf (a .id))), subst (λ (n : ℕ). at + n ≤ length (a .mem .now)) (sym (c .before .before .moved .ensures ∙ ap movedBy row)) (within at (moved (Load l)) (length (a .mem .now)) (q .clear))))
+load-requires c κs = let a = c .before .before .before .before .before .before .before .before .args in let entry = c .before .before .before .before .before .before .before .before .pre .0 in let st = a .stack .now in let at = low32 (topOf st (a .depth) 1) + a .i .offset in ready (c .before .before .before .before .before .before .before .before .pre) (c .before .before .before .before .group .ensures) (c .before .before .before .match .keys9) (λ l row q. (q .fit .enough, q .fit .deep, q .fit .stack-long, moved-few (a .id) entry (c .before .before .moved .ensures), subst (λ (n : ℕ). at + n ≤ length (a .mem .now)) (sym (moved-of (a .id) entry (c .before .before .moved .ensures) row)) (within at (moved (Load l)) (length (a .mem .now)) (q .clear))))
 
 load-lane-requires : tie.Need-load-lane-requires
-load-lane-requires c κs = let a = c .before .before .before .before .before .before .before .before .args in let st = a .stack .now in let at = low32 (topOf st (a .depth) 2) + a .i .offset in ready (c .before .before .before .before .before .before .before .before .pre) (c .before .before .before .before .group .ensures) (c .before .before .before .match .keys10) (λ w row q. (q .fit .enough, q .fit .deep, q .fit .stack-long, omega (arith, c .before .before .moved2 .ensures, row-moved-small (rowOf (a .id))), subst (λ (n : ℕ). at + n ≤ length (a .mem .now)) (sym (c .before .before .moved2 .ensures ∙ ap movedBy row)) (within at (moved (LoadLane w)) (length (a .mem .now)) (q .clear))))
+load-lane-requires c κs = let a = c .before .before .before .before .before .before .before .before .args in let entry = c .before .before .before .before .before .before .before .before .pre .0 in let st = a .stack .now in let at = low32 (topOf st (a .depth) 2) + a .i .offset in ready (c .before .before .before .before .before .before .before .before .pre) (c .before .before .before .before .group .ensures) (c .before .before .before .match .keys10) (λ w row q. (q .fit .enough, q .fit .deep, q .fit .stack-long, moved-few (a .id) entry (c .before .before .moved2 .ensures), subst (λ (n : ℕ). at + n ≤ length (a .mem .now)) (sym (moved-of (a .id) entry (c .before .before .moved2 .ensures) row)) (within at (moved (LoadLane w)) (length (a .mem .now)) (q .clear))))
 
 sub-result-5 : tie.Need-sub-result-5
 sub-result-5 c = ready (c .before .before .before .before .before .before .before .before .before .before .before .pre) (c .before .before .before .before .before .before .before .group .ensures) (c .before .before .before .before .before .before .match .keys10) (λ w row q. omega (arith, q .fit .enough))
@@ -76,7 +74,7 @@ sub-result-6 : tie.Need-sub-result-6
 sub-result-6 c = ready (c .before .before .before .before .before .before .before .before .before .before .pre) (c .before .before .before .before .before .before .group .ensures) (c .before .before .before .before .before .match .keys11) (λ row q. omega (arith, q .fit .enough))
 
 store-lane-requires : tie.Need-store-lane-requires
-store-lane-requires c κs = let a = c .before .before .before .before .before .before .before .before .args in let st = a .stack .now in let at = low32 (topOf st (a .depth) 2) + a .i .offset in ready (c .before .before .before .before .before .before .before .before .pre) (c .before .before .before .before .group .ensures) (c .before .before .before .match .keys12) (λ w row q. (q .fit .enough, q .fit .deep, q .fit .stack-long, omega (arith, c .before .before .moved3 .ensures, row-moved-small (rowOf (a .id))), subst (λ (n : ℕ). at + n ≤ length (a .mem .now)) (sym (c .before .before .moved3 .ensures ∙ ap movedBy row)) (within at (moved (StoreLane w)) (length (a .mem .now)) (q .clear))))
+store-lane-requires c κs = let a = c .before .before .before .before .before .before .before .before .args in let entry = c .before .before .before .before .before .before .before .before .pre .0 in let st = a .stack .now in let at = low32 (topOf st (a .depth) 2) + a .i .offset in ready (c .before .before .before .before .before .before .before .before .pre) (c .before .before .before .before .group .ensures) (c .before .before .before .match .keys12) (λ w row q. (q .fit .enough, q .fit .deep, q .fit .stack-long, moved-few (a .id) entry (c .before .before .moved3 .ensures), subst (λ (n : ℕ). at + n ≤ length (a .mem .now)) (sym (moved-of (a .id) entry (c .before .before .moved3 .ensures) row)) (within at (moved (StoreLane w)) (length (a .mem .now)) (q .clear))))
 
 sub-result-7 : tie.Need-sub-result-7
 sub-result-7 c = ready (c .before .before .before .before .before .before .before .before .before .before .before .pre) (c .before .before .before .before .before .before .before .group .ensures) (c .before .before .before .before .before .before .match .keys12) (λ w row q. omega (arith, q .fit .enough))
@@ -154,16 +152,16 @@ returns-8 : tie.Need-returns-8
 returns-8 c = did (c .before .before .before .before .before .before .before .before .before .pre) (c .before .before .before .before .before .group .ensures) (c .before .before .before .before .match .keys8) (λ row q. record { depth = refl; stack = c .before .before .sub .ensures; locals = refl; memory = refl })
 
 returns-9 : tie.Need-returns-9
-returns-9 c = let a = c .before .before .before .before .before .before .before .before .before .before .before .args in let st = a .stack .now in let at = low32 (topOf st (a .depth) 1) + a .i .offset in did (c .before .before .before .before .before .before .before .before .before .before .before .pre) (c .before .before .before .before .before .before .before .group .ensures) (c .before .before .before .before .before .before .match .keys9) (λ l row q. record { depth = refl; stack = c .before .before .load .ensures l row ∙ ap (λ (n : ℕ). putSlot st (a .depth - 1) (loaded l (padded (part n at (a .mem .now))))) (c .before .before .before .before .before .moved .ensures ∙ ap movedBy row); locals = refl; memory = refl })
+returns-9 c = let a = c .before .before .before .before .before .before .before .before .before .before .before .args in let entry = c .before .before .before .before .before .before .before .before .before .before .before .pre .0 in let st = a .stack .now in let at = low32 (topOf st (a .depth) 1) + a .i .offset in did (c .before .before .before .before .before .before .before .before .before .before .before .pre) (c .before .before .before .before .before .before .before .group .ensures) (c .before .before .before .before .before .before .match .keys9) (λ l row q. record { depth = refl; stack = c .before .before .load .ensures l row ∙ ap (λ (n : ℕ). putSlot st (a .depth - 1) (loaded l (padded (part n at (a .mem .now))))) (moved-of (a .id) entry (c .before .before .before .before .before .moved .ensures) row); locals = refl; memory = refl })
 
 returns-10 : tie.Need-returns-10
-returns-10 c = let a = c .before .before .before .before .before .before .before .before .before .before .before .args in let st = a .stack .now in let at = low32 (topOf st (a .depth) 2) + a .i .offset in did (c .before .before .before .before .before .before .before .before .before .before .before .pre) (c .before .before .before .before .before .before .before .group .ensures) (c .before .before .before .before .before .before .match .keys10) (λ w row q. record { depth = refl; stack = c .before .before .load-lane .ensures w row (q .named) ∙ ap (λ (n : ℕ). putSlot st (a .depth - 2) (laneIn w (padded (part n at (a .mem .now))) (topOf st (a .depth) 1) (a .i .lane))) (c .before .before .before .before .before .moved2 .ensures ∙ ap movedBy row); locals = refl; memory = refl })
+returns-10 c = let a = c .before .before .before .before .before .before .before .before .before .before .before .args in let entry = c .before .before .before .before .before .before .before .before .before .before .before .pre .0 in let st = a .stack .now in let at = low32 (topOf st (a .depth) 2) + a .i .offset in did (c .before .before .before .before .before .before .before .before .before .before .before .pre) (c .before .before .before .before .before .before .before .group .ensures) (c .before .before .before .before .before .before .match .keys10) (λ w row q. record { depth = refl; stack = c .before .before .load-lane .ensures w row (q .named) ∙ ap (λ (n : ℕ). putSlot st (a .depth - 2) (laneIn w (padded (part n at (a .mem .now))) (topOf st (a .depth) 1) (a .i .lane))) (moved-of (a .id) entry (c .before .before .before .before .before .moved2 .ensures) row); locals = refl; memory = refl })
 
 returns-11 : tie.Need-returns-11
 returns-11 c = did (c .before .before .before .before .before .before .before .before .before .before .pre) (c .before .before .before .before .before .before .group .ensures) (c .before .before .before .before .before .match .keys11) (λ row q. record { depth = refl; stack = refl; locals = refl; memory = c .before .before .store .ensures })
 
 returns-12 : tie.Need-returns-12
-returns-12 c = let a = c .before .before .before .before .before .before .before .before .before .before .before .args in let st = a .stack .now in let at = low32 (topOf st (a .depth) 2) + a .i .offset in did (c .before .before .before .before .before .before .before .before .before .before .before .pre) (c .before .before .before .before .before .before .before .group .ensures) (c .before .before .before .before .before .before .match .keys12) (λ w row q. record { depth = refl; stack = refl; locals = refl; memory = c .before .before .store-lane .ensures w row (q .named) ∙ ap (λ (n : ℕ). stored (a .mem .now) at (take n (laneOut w (topOf st (a .depth) 1) (a .i .lane)))) (c .before .before .before .before .before .moved3 .ensures ∙ ap movedBy row) })
+returns-12 c = let a = c .before .before .before .before .before .before .before .before .before .before .before .args in let entry = c .before .before .before .before .before .before .before .before .before .before .before .pre .0 in let st = a .stack .now in let at = low32 (topOf st (a .depth) 2) + a .i .offset in did (c .before .before .before .before .before .before .before .before .before .before .before .pre) (c .before .before .before .before .before .before .before .group .ensures) (c .before .before .before .before .before .before .match .keys12) (λ w row q. record { depth = refl; stack = refl; locals = refl; memory = c .before .before .store-lane .ensures w row (q .named) ∙ ap (λ (n : ℕ). stored (a .mem .now) at (take n (laneOut w (topOf st (a .depth) 1) (a .i .lane)))) (moved-of (a .id) entry (c .before .before .before .before .before .moved3 .ensures) row) })
 
 returns-13 : tie.Need-returns-13
 returns-13 c = did (c .before .before .before .before .before .before .before .before .before .before .pre) (c .before .before .before .before .before .before .group .ensures) (c .before .before .before .before .before .match .keys13) (λ row q. record { depth = refl; stack = c .before .before .put .ensures; locals = refl; memory = refl })
@@ -196,7 +194,7 @@ returns-22 : tie.Need-returns-22
 returns-22 c = did (c .before .before .before .before .before .before .before .before .before .pre) (c .before .before .before .before .before .group .ensures) (c .before .before .before .before .match .keys22) (λ o row q. record { depth = refl; stack = c .before .before .shift .ensures o row; locals = refl; memory = refl })
 
 returns-23 : tie.Need-returns-23
-returns-23 c = let a = c .before .before .before .before .before .args in record { does = λ v row. subst (λ u. Did (flat u (a .i) (a .stack .now) (a .depth) (a .locals .now) (a .mem .now)) (a .depth) (a .stack .now) (a .locals .now) (a .mem .now)) (sym (only-end v (subst (λ (k : ℕ). T (anyKey (alone (1 to 22)) k) → ⊥) (group-of (a .id) (c .before .group .ensures) v row) (missed (Unit {0}) (alone (1 to 22)) _ (c .match .rest) .1)))) (record { depth = refl; stack = refl; locals = refl; memory = refl }) }
+returns-23 c = let a = c .before .before .before .before .before .args in record { does = λ v row. subst (λ u. Did (flat u (a .i) (a .stack .now) (a .depth) (a .locals .now) (a .mem .now)) (a .depth) (a .stack .now) (a .locals .now) (a .mem .now)) (sym (only-end v (subst (λ (k : ℕ). T (anyKey (alone (1 to 22)) k) → ⊥) (group-of (a .id) (c .before .before .before .before .before .pre .0) (c .before .group .ensures) v row) (missed (Unit {0}) (alone (1 to 22)) _ (c .match .rest) .1)))) (record { depth = refl; stack = refl; locals = refl; memory = refl }) }
 
 pub exec-spec : {M : Type 1} → statement M
 exec-spec = tie.close (

@@ -61,11 +61,8 @@ same-length-2 c = ap length (c .before .loop .inv .untouched)
 returns : tie.Need-returns Inv-loop μ-loop
 returns c = spent (c .before .loop .inv) (c .if1 .taken)
 
-decode-requires : tie.Need-decode-requires Inv-loop μ-loop
-decode-requires c κs = tt
-
-id-of-requires : tie.Need-id-of-requires Inv-loop μ-loop
-id-of-requires c κs = tt
+fetch-requires : tie.Need-fetch-requires Inv-loop μ-loop
+fetch-requires c κs = tt
 
 group-requires : tie.Need-group-requires Inv-loop μ-loop
 group-requires c κs = tt
@@ -84,26 +81,26 @@ same-length-4 c = c .before .before .put-results .kept .1 .0 ∙ ap length (c .b
 
 returns-2 : tie.Need-returns-2 Inv-loop μ-loop
 returns-2 c =
-    let a = c .before .before .before .before .before .before .before .before .before .before .before .before .before .loop .inv in let d = c .before .before .before .before .before .before .before .before .before .before .before .decode in let n = c .before .before .before .before .before .before .before .before .before .id-of in let g = c .before .before .before .before .before .before .before .before .group in
-    finished a (d .result) (d .ensures) (n .result) (g .result) (n .ensures) (g .ensures) (below (a .within) (c .before .before .before .before .before .before .before .before .before .before .before .before .if1 .left)) (c .before .before .before .before .before .before .before .if2 .taken) (c .before .before .put-results .ensures)
+    let a = c .before .before .before .before .before .before .before .before .before .before .before .before .before .loop .inv in let f = c .before .before .before .before .before .before .before .before .before .before .before .fetch in let g = c .before .before .before .before .before .before .before .before .group in
+    finished a (f .result) (f .ensures) (g .result) (g .ensures) (below (a .within) (c .before .before .before .before .before .before .before .before .before .before .before .before .if1 .left)) (c .before .before .before .before .before .before .before .if2 .taken) (c .before .before .put-results .ensures)
 
 bounds-requires : tie.Need-bounds-requires Inv-loop μ-loop
 bounds-requires c κs =
-    let a = c .before .before .before .before .before .before .before .before .before .loop .inv in let d = c .before .before .before .before .before .before .before .decode in let n = c .before .before .before .before .before .id-of in let g = c .before .before .before .before .group in
-    bounds-fits a (d .result) (d .ensures) (n .result) (g .result) (n .ensures) (g .ensures) (below (a .within) (c .before .before .before .before .before .before .before .before .if1 .left)) (c .before .before .before .if2 .left)
+    let a = c .before .before .before .before .before .before .before .before .before .loop .inv in let f = c .before .before .before .before .before .before .before .fetch in let g = c .before .before .before .before .group in
+    bounds-fits a (f .result) (f .ensures) (g .result) (g .ensures) (below (a .within) (c .before .before .before .before .before .before .before .before .if1 .left)) (c .before .before .before .if2 .left)
 
 enum-told : tie.Need-enum-told Inv-loop μ-loop
 enum-told c = search needs
 
 exec-requires : tie.Need-exec-requires Inv-loop μ-loop
 exec-requires c κs =
-    let a = c .before .before .before .before .before .before .before .before .before .before .before .before .before .before .before .loop .inv in let d = c .before .before .before .before .before .before .before .before .before .before .before .before .before .decode in let n = c .before .before .before .before .before .before .before .before .before .before .before .id-of in let g = c .before .before .before .before .before .before .before .before .before .before .group in let b = c .before .before .before .before .before .bounds in
-    exec-apt a (d .result) (d .ensures) (n .result) (g .result) (n .ensures) (g .ensures) (below (a .within) (c .before .before .before .before .before .before .before .before .before .before .before .before .before .before .if1 .left)) (c .before .before .before .before .before .before .before .before .before .if2 .left) (b .result) (b .ensures) (c .before .before .before .enum-told .given .1)
+    let a = c .before .before .before .before .before .before .before .before .before .before .before .before .before .before .before .loop .inv in let f = c .before .before .before .before .before .before .before .before .before .before .before .before .before .fetch in let g = c .before .before .before .before .before .before .before .before .before .before .group in let b = c .before .before .before .before .before .bounds in
+    exec-apt a (f .result) (f .ensures) (g .result) (g .ensures) (below (a .within) (c .before .before .before .before .before .before .before .before .before .before .before .before .before .before .if1 .left)) (c .before .before .before .before .before .before .before .before .before .if2 .left) (b .result) (b .ensures) (c .before .before .before .enum-told .given .1)
 
 add-at-3 : tie.Need-add-at-3 Inv-loop μ-loop
 add-at-3 c =
-    let a = c .before .before .before .before .before .before .before .before .before .before .before .before .before .before .before .before .before .before .before .loop .inv in let d = c .before .before .before .before .before .before .before .before .before .before .before .before .before .before .before .before .before .decode in let n = c .before .before .before .before .before .before .before .before .before .before .before .before .before .before .before .id-of in let g = c .before .before .before .before .before .before .before .before .before .before .before .before .before .before .group in
-    omega (arith, inside a (d .result) (d .ensures), declared (a .ready .valid .reached) .sized)
+    let a = c .before .before .before .before .before .before .before .before .before .before .before .before .before .before .before .before .before .before .before .loop .inv in let f = c .before .before .before .before .before .before .before .before .before .before .before .before .before .before .before .before .before .fetch in
+    omega (arith, inside a (f .result) (f .ensures), declared (a .ready .valid .reached) .sized)
 
 add-steps : tie.Need-add-steps Inv-loop μ-loop
 add-steps c = omega (arith, c .before .before .before .before .before .before .before .before .before .before .before .before .before .before .before .before .before .before .before .loop .inv .within, c .before .before .before .before .before .before .before .before .before .before .before .before .before .before .before .before .before .before .if1 .left, c .before .before .before .before .before .before .before .before .before .before .before .before .before .before .before .before .before .before .before .before .before .before .before .before .before .before .before .before .fits .budget)
@@ -113,8 +110,8 @@ loop-less c = let more = below (c .before .before .before .before .before .befor
 
 loop-again : tie.Need-loop-again Inv-loop μ-loop
 loop-again c =
-    let a = c .before .before .before .before .before .before .before .before .before .before .before .before .before .before .before .before .before .before .before .loop .inv in let d = c .before .before .before .before .before .before .before .before .before .before .before .before .before .before .before .before .before .decode in let n = c .before .before .before .before .before .before .before .before .before .before .before .before .before .before .before .id-of in let g = c .before .before .before .before .before .before .before .before .before .before .before .before .before .before .group in let b = c .before .before .before .before .before .before .before .before .before .bounds in
-    onward a (d .result) (d .ensures) (n .result) (g .result) (n .ensures) (g .ensures) (below (a .within) (c .before .before .before .before .before .before .before .before .before .before .before .before .before .before .before .before .before .before .if1 .left)) (c .before .before .before .before .before .before .before .before .before .before .before .before .before .if2 .left) (b .result) (b .ensures) (c .before .before .before .before .before .before .before .enum-told .given .1) (c .before .before .before .exec .ensures) (c .before .before .before .exec .kept .1 .1 .1 .1 .1 .0)
+    let a = c .before .before .before .before .before .before .before .before .before .before .before .before .before .before .before .before .before .before .before .loop .inv in let f = c .before .before .before .before .before .before .before .before .before .before .before .before .before .before .before .before .before .fetch in let g = c .before .before .before .before .before .before .before .before .before .before .before .before .before .before .group in let b = c .before .before .before .before .before .before .before .before .before .bounds in
+    onward a (f .result) (f .ensures) (g .result) (g .ensures) (below (a .within) (c .before .before .before .before .before .before .before .before .before .before .before .before .before .before .before .before .before .before .if1 .left)) (c .before .before .before .before .before .before .before .before .before .before .before .before .before .if2 .left) (b .result) (b .ensures) (c .before .before .before .before .before .before .before .enum-told .given .1) (c .before .before .before .exec .ensures) (c .before .before .before .exec .kept .1 .1 .1 .1 .1 .1 .0)
 
 enum-told-2 : tie.Need-enum-told-2 Inv-loop μ-loop
 enum-told-2 c = search needs
@@ -127,8 +124,8 @@ same-length-6 c = ap length (c .before .before .before .before .before .before .
 
 returns-3 : tie.Need-returns-3 Inv-loop μ-loop
 returns-3 c =
-    let a = c .before .before .before .before .before .before .before .before .before .before .before .before .loop .inv in let d = c .before .before .before .before .before .before .before .before .before .before .decode in let n = c .before .before .before .before .before .before .before .before .id-of in let g = c .before .before .before .before .before .before .before .group in let b = c .before .before .bounds in
-    strayed a (d .result) (d .ensures) (n .result) (g .result) (n .ensures) (g .ensures) (below (a .within) (c .before .before .before .before .before .before .before .before .before .before .before .if1 .left)) (c .before .before .before .before .before .before .if2 .left) (b .result) (b .ensures) (not-clear (c .enum-told2 .given .1))
+    let a = c .before .before .before .before .before .before .before .before .before .before .before .before .loop .inv in let f = c .before .before .before .before .before .before .before .before .before .before .fetch in let g = c .before .before .before .before .before .before .before .group in let b = c .before .before .bounds in
+    strayed a (f .result) (f .ensures) (g .result) (g .ensures) (below (a .within) (c .before .before .before .before .before .before .before .before .before .before .before .if1 .left)) (c .before .before .before .before .before .before .if2 .left) (b .result) (b .ensures) (not-clear (c .enum-told2 .given .1))
 
 pub drive-spec : {M : Type 1} → statement M
 drive-spec =
@@ -150,8 +147,7 @@ drive-spec =
     same-length
     same-length-2
     returns
-    decode-requires
-    id-of-requires
+    fetch-requires
     group-requires
     put-results-requires
     add-t31
