@@ -1,4 +1,4 @@
-/* The vector instructions that work lane by lane, as cases of the machine's switch. `sp` is behind the top of the stack; in an
+/* The vector instructions that work lane by lane, as cases of the machine's switch. `sp` is one past the top of the stack; in an
    expression `a` is the first operand, `b` the second, `i` the lane. */
 #ifndef LANES_H
 #define LANES_H
@@ -37,21 +37,11 @@ static inline union slot number_slot(uint64_t n)
         sp[-1] = r;                           \
         break;                                \
     }
-#define BINARY_LANES(op, n, to, e)            \
-    case VECTOR + (op): {                     \
-        const union slot a = sp[-2], b = sp[-1]; \
-        union slot r;                         \
-        for (int i = 0; i < n; i++)           \
-            r.to[i] = e;                      \
-        sp--;                                 \
-        sp[-1] = r;                           \
-        break;                                \
-    }
-/* The count is taken modulo the width. */
-#define SHIFT_LANES(op, n, to, e)             \
+/* Of two values: `second` declares what the expression takes of the upper one. */
+#define PAIRED_LANES(op, n, to, e, second)    \
     case VECTOR + (op): {                     \
         const union slot a = sp[-2];          \
-        const unsigned k = sp[-1].u32[0] % (128 / n); \
+        second;                               \
         union slot r;                         \
         for (int i = 0; i < n; i++)           \
             r.to[i] = e;                      \
@@ -59,6 +49,9 @@ static inline union slot number_slot(uint64_t n)
         sp[-1] = r;                           \
         break;                                \
     }
+#define BINARY_LANES(op, n, to, e) PAIRED_LANES(op, n, to, e, const union slot b = sp[-1])
+/* The count is taken modulo the width. */
+#define SHIFT_LANES(op, n, to, e) PAIRED_LANES(op, n, to, e, const unsigned k = sp[-1].u32[0] % (128 / n))
 /* One number of all lanes: r begins as `first` and takes in each lane. */
 #define FOLD_LANES(op, n, first, e)           \
     case VECTOR + (op): {                     \

@@ -16,7 +16,7 @@ static inline int last_allowed(enum width w, uint8_t b)
     }
 }
 
-/* Reads the number at *at and moves *at behind it. Answers DONE, SHORT or NUMBER. */
+/* Reads the number at *at and moves *at past it. Answers DONE, SHORT or NUMBER. */
 static inline enum code read_number(enum width w, const uint8_t *s, size_t len, size_t *at, uint64_t *value)
 {
     const unsigned last = w == S64 ? 9 : 4;

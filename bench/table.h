@@ -4,7 +4,7 @@
 
 #include "strip.h"
 
-/* An instruction's number: its first byte, or VECTOR + the number behind FD. */
+/* An instruction's number: its first byte, or VECTOR + the number after FD. */
 enum {
     END = 0x0B, DROP = 0x1A, LOCAL_GET = 0x20, LOCAL_SET = 0x21, LOCAL_TEE = 0x22, I32_CONST = 0x41, I64_CONST = 0x42, I32_ADD = 0x6A,
     I32_SUB = 0x6B, PREFIX = 0xFD, VECTOR = 0x100, INSTRUCTIONS = 0x200

@@ -17,7 +17,7 @@ use Rattle.opcode.specs.Table.{Plain, End, Drop, LocalGet, LocalSet, LocalTee, 
 use Rattle.opcode.specs.Immediate.{moved}
 use Rattle.instr.specs.declared.Instr.{Instr}
 use Rattle.machine.specs.Value.{Value, I32, I64}
-use Rattle.machine.specs.Exec.{State, Outcome, goes, done, trap, stuck, pushScalar, goOn, access, fits, popI32, popV128, execPlain, execVector, exec}
+use Rattle.machine.specs.Exec.{State, Outcome, goes, done, trap, stuck, pushScalar, goOn, access, ofKinds, popI32, popV128, execPlain, execVector, exec}
 use Rattle.machine.specs.Inner.Flat.{slotAt, topOf, low32, reach}
 use Rattle.machine.specs.Inner.Fit.{takenByPlain, takenByOp, takenBy, Slotted, boundsAt, boundsOp, boundsOf}
 use Rattle.machine.specs.declared.access.Bounds.{Bounds}
@@ -212,7 +212,7 @@ module _ (rs : List Kind) (i : Instr) (σ : State) (st : List ℕ) (d : ℕ) (ls
         record { bounds = r .bounds ∙ b .bounds; outside = b .outside }
 
     not-plain : (p : Plain) → execPlain rs p i σ ≡ trap a k → ⊥
-    not-plain End e = at (fits (σ .stack) (reverse rs)) e
+    not-plain End e = at (ofKinds (σ .stack) (reverse rs)) e
       where
         at : (t : Bool) → cond t (done (reverse (σ .stack))) stuck ≡ trap a k → ⊥
         at true q = let z : _≡_ {A = ℕ} 0 1 = cc in omega arith

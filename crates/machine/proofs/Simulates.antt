@@ -21,7 +21,7 @@ use Rattle.opcode.proofs.Classes.{moved-small}
 use Rattle.instr.specs.declared.Instr.{Instr}
 use Rattle.machine.specs.Value.{Value, I32, I64, V128, InRange, bytesOf}
 use Rattle.machine.specs.Memory.{part, padded, stored}
-use Rattle.machine.specs.Exec.{State, goes, done, stuck, goOn, access, fits, popI32, popV128, execPlain, execVector, exec}
+use Rattle.machine.specs.Exec.{State, goes, done, stuck, goOn, access, ofKinds, popI32, popV128, execPlain, execVector, exec}
 use Rattle.machine.specs.Inner.Flat.{slotAt, putSlot, topOf, low32, low64, lowest, reach, Flat, flatPlain, flatVector, flat}
 use Rattle.machine.proofs.Laws.Rep.{Rep, low-i32, low-i64}
 use Rattle.machine.proofs.Laws.Pops.{scalarOf, pop-i32, pop-v128, pop-any, pop-scalar, named, same-kind, reached}
@@ -220,7 +220,7 @@ module _ (rs : List Kind) (i : Instr) (apt : Apt i) (σ σ′ : State) (st : Lis
   sim-extract s w128 e = absurd (moves (sym (pop-v128 st (goes σ′) moves (σ .stack) _ (all-held rep) e .next)))
 
   sim-plain : (p : Plain) → execPlain rs p i σ ≡ goes σ′ → After (flatPlain p i st d ls m)
-  sim-plain End e = absurd (ended (fits (σ .stack) (reverse rs)) e)
+  sim-plain End e = absurd (ended (ofKinds (σ .stack) (reverse rs)) e)
     where
       ended : (t : Bool) → cond t (done (reverse (σ .stack))) stuck ≡ goes σ′ → ⊥
       ended true q = let z : _≡_ {A = ℕ} 0 1 = cc in omega arith

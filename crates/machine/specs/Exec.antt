@@ -92,18 +92,18 @@ access c at n f = cond (leb (at + n) (length (c .memory))) f (trap at n)
 -- ---- the instructions
 
 -- the stack is values of these kinds
-unfoldable pub fits : List Value → List Kind → Bool
-fits [] [] = true
-fits [] (k ∷ ks) = false
-fits (v ∷ vs) [] = false
-fits (v ∷ vs) (k ∷ ks) = eqb (kindByte (kindOf v)) (kindByte k) && fits vs ks
+unfoldable pub ofKinds : List Value → List Kind → Bool
+ofKinds [] [] = true
+ofKinds [] (k ∷ ks) = false
+ofKinds (v ∷ vs) [] = false
+ofKinds (v ∷ vs) (k ∷ ks) = eqb (kindByte (kindOf v)) (kindByte k) && ofKinds vs ks
 
 -- address and offset, never wrapped
 abbrev pub at : Instr → ℕ → ℕ
 at i a = a + i .offset
 
 abbrev pub execPlain : List Kind → Plain → Instr → State → Outcome
-execPlain rs End i c = cond (fits (c .stack) (reverse rs)) (done (reverse (c .stack))) stuck
+execPlain rs End i c = cond (ofKinds (c .stack) (reverse rs)) (done (reverse (c .stack))) stuck
 execPlain rs Drop i c = popAny (c .stack) (λ v st. goOn st (c .locals) (c .memory))
 execPlain rs LocalGet i c = local c (i .index) (λ v. push c (c .stack) v)
 execPlain rs LocalSet i c = popAny (c .stack) (λ v st. local c (i .index) (λ w. alike v w (goOn st (set (c .locals) (i .index) v) (c .memory))))

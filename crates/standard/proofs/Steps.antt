@@ -15,7 +15,7 @@ use Rattle.instr.specs.Layout.{Below, rowIn, found, Typed as InTypes}
 use Rattle.instr.specs.Decode.{decodeAt}
 use Rattle.instr.proofs.Decodes.{stands-decodes}
 use Rattle.machine.specs.Value.{kindOf, AllInRange}
-use Rattle.machine.specs.Exec.{State, done, stuck, fits, exec}
+use Rattle.machine.specs.Exec.{State, done, stuck, ofKinds, exec}
 use Rattle.machine.proofs.Simulates.{Apt}
 use Rattle.rules.specs.Header.{Header, locals}
 use Rattle.rules.specs.Typing.{Typed, Types}

@@ -14,7 +14,7 @@ use Rattle.opcode.specs.Effect.{Signature, _⇒_, takes, leaves, signature, eff
 use Rattle.opcode.proofs.Effects.{kind-once}
 use Rattle.instr.specs.declared.Instr.{Instr}
 use Rattle.machine.specs.Value.{Value, I32, kindOf}
-use Rattle.machine.specs.Exec.{State, Outcome, done, stuck, popAny, local, alike, fits, exec}
+use Rattle.machine.specs.Exec.{State, Outcome, done, stuck, popAny, local, alike, ofKinds, exec}
 use Rattle.rules.specs.Typing.{Local, Typed, by-signature, dropped, got, set, teed, Types, Names, get-names, set-names, tee-names}
 use Rattle.standard.proofs.ValueKinds.{kind-at, fit-kinds}
 use Rattle.standard.proofs.Operands.{Or, has, halts, all, or-numbers, or-vector}
@@ -105,8 +105,8 @@ module _ (rs : List Kind) (i : Instr) (σ : State) (ls : List Kind) (held : map 
   -- ---- 15: the stack is not the results
 
   pub end-stuck : (κs ≡ rs → ⊥) → exec rs (plain End) i σ ≡ stuck
-  end-stuck never = at (fits (σ .stack) (reverse rs)) refl
+  end-stuck never = at (ofKinds (σ .stack) (reverse rs)) refl
     where
-      at : (t : Bool) → fits (σ .stack) (reverse rs) ≡ t → cond t (done (reverse (σ .stack))) stuck ≡ stuck
+      at : (t : Bool) → ofKinds (σ .stack) (reverse rs) ≡ t → cond t (done (reverse (σ .stack))) stuck ≡ stuck
       at true q = absurd (never (sym (reverse-reverse κs) ∙ ap reverse (sym stacked ∙ fit-kinds (σ .stack) (reverse rs) q) ∙ reverse-reverse rs))
       at false q = refl

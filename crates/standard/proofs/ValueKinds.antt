@@ -10,7 +10,7 @@ use borrow.Author.Tests.{eq-eqb, eqb-true}
 use Rattle.opcode.specs.Kind.{Kind, kindByte}
 use Rattle.opcode.proofs.Effects.{kind-once}
 use Rattle.machine.specs.Value.{Value, I32, kindOf, AllInRange}
-use Rattle.machine.specs.Exec.{fits}
+use Rattle.machine.specs.Exec.{ofKinds}
 use Rattle.rules.specs.Typing.{Local, first, later}
 
 -- ---- the n-th
@@ -46,8 +46,8 @@ reverse-range vs a = turned-range vs [] a tt
 
 -- ---- the test that `end` makes
 
-pub kinds-fit : (vs : List Value) (ks : List Kind) → map kindOf vs ≡ ks → fits vs ks ≡ true
-unfolding fits
+pub kinds-fit : (vs : List Value) (ks : List Kind) → map kindOf vs ≡ ks → ofKinds vs ks ≡ true
+unfolding ofKinds
 kinds-fit [] [] e = refl
 kinds-fit [] (k ∷ ks) e = absurd (let z : _≡_ {A = ℕ} 0 1 = cc in omega arith)
 kinds-fit (v ∷ vs) [] e = absurd (let z : _≡_ {A = ℕ} 0 1 = cc in omega arith)
@@ -55,13 +55,13 @@ kinds-fit (v ∷ vs) (k ∷ ks) e =
     let same : kindOf v ≡ k = cc in
     ap₂ _&&_ (eq-eqb (kindByte (kindOf v)) (kindByte k) (ap kindByte same)) (kinds-fit vs ks (cc))
 
-pub fit-kinds : (vs : List Value) (ks : List Kind) → fits vs ks ≡ true → map kindOf vs ≡ ks
-unfolding fits
+pub fit-kinds : (vs : List Value) (ks : List Kind) → ofKinds vs ks ≡ true → map kindOf vs ≡ ks
+unfolding ofKinds
 fit-kinds [] [] e = refl
 fit-kinds [] (k ∷ ks) e = absurd (let z : _≡_ {A = ℕ} 0 1 = cc in omega arith)
 fit-kinds (v ∷ vs) [] e = absurd (let z : _≡_ {A = ℕ} 0 1 = cc in omega arith)
 fit-kinds (v ∷ vs) (k ∷ ks) e = at (eqb (kindByte (kindOf v)) (kindByte k)) refl e (fit-kinds vs ks)
   where
-    at : (t : Bool) → eqb (kindByte (kindOf v)) (kindByte k) ≡ t → t && fits vs ks ≡ true → (fits vs ks ≡ true → map kindOf vs ≡ ks) → kindOf v ∷ map kindOf vs ≡ k ∷ ks
+    at : (t : Bool) → eqb (kindByte (kindOf v)) (kindByte k) ≡ t → t && ofKinds vs ks ≡ true → (ofKinds vs ks ≡ true → map kindOf vs ≡ ks) → kindOf v ∷ map kindOf vs ≡ k ∷ ks
     at true q f deeper = ap₂ _∷_ (kind-once (eqb-true (kindByte (kindOf v)) (kindByte k) q)) (deeper f)
     at false q f deeper = absurd (let z : _≡_ {A = ℕ} 0 1 = cc in omega arith)

@@ -6,7 +6,7 @@ ghost use mir.Syntax.{w32};
 ghost use Rattle.limits.specs.Limits.{stackLimit, stackBytes, localBytes, localCount};
 ghost use Rattle.scalar.specs.Scalar.{iadd, isub};
 ghost use Rattle.lane.specs.Vector.{le};
-ghost use Rattle.machine.specs.Inner.Flat.{slotAt, putSlot, topOf, low32};
+ghost use Rattle.machine.specs.Inner.Flat.{Holds, slotAt, putSlot, topOf, low32};
 use crate::slot;
 
 // A number as a new value.
@@ -18,7 +18,7 @@ pub(crate) fn push_number(x: u64, stack: &mut [u8], depth: usize)
 }
 
 pub(crate) fn add(stack: &mut [u8], depth: usize)
-    requires { ⌜ (2 ≤ depth) × (depth ≤ stackLimit) × (length (now stack) ≡ stackBytes) ⌝ }
+    requires { ⌜ Holds 2 (now stack) depth ⌝ }
     ensures { λ r. ⌜ now (stack .exit) ≡ putSlot (now (stack .entry)) (depth - 2) (le 16 (iadd w32 (low32 (topOf (now (stack .entry)) depth 2)) (low32 (topOf (now (stack .entry)) depth 1)))) ⌝ }
 {
     let b = slot::word(slot::top(stack, depth, 1));
@@ -31,7 +31,7 @@ pub(crate) fn add(stack: &mut [u8], depth: usize)
 }
 
 pub(crate) fn sub(stack: &mut [u8], depth: usize)
-    requires { ⌜ (2 ≤ depth) × (depth ≤ stackLimit) × (length (now stack) ≡ stackBytes) ⌝ }
+    requires { ⌜ Holds 2 (now stack) depth ⌝ }
     ensures { λ r. ⌜ now (stack .exit) ≡ putSlot (now (stack .entry)) (depth - 2) (le 16 (isub w32 (low32 (topOf (now (stack .entry)) depth 2)) (low32 (topOf (now (stack .entry)) depth 1)))) ⌝ }
 {
     let b = slot::word(slot::top(stack, depth, 1)) as u64;
