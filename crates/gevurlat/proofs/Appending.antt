@@ -1,4 +1,4 @@
--- How a text grows in a buffer: by one byte, by one piece behind another, by a loop.
+-- How a text grows in a buffer: by one byte, by one piece after another, by a loop.
 use Prim.Native.Nat.{ℕ, zero, suc, _+_, _*_, _/_, _%_, _≤_, _<_}
 use mathlib.Core.Path.{_≡_, refl, ap, ap₂, sym, _∙_, subst}
 use mathlib.Core.List.{List, [], _∷_, _++_, append-assoc, append-nil}

@@ -1,4 +1,4 @@
--- Three numbers and the results, one behind the other, are the text of an answer.
+-- Three numbers and the results, one after the other, are the text of an answer.
 use Prim.Native.Nat.{ℕ, _+_, _/_, _≤_}
 use mathlib.Core.Path.{_≡_, ap, sym, _∙_}
 use mathlib.Core.List.{List, [], _∷_, _++_, append-nil}

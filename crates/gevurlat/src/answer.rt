@@ -8,7 +8,7 @@ use crate::text::show;
 
 const BUDGET: u32 = 1000000;
 
-// Room for three numbers of at most twenty digits and a byte behind each, and for three bytes for each of the results' 64: a line of 33 for sixteen is less.
+// Room for three numbers of at most twenty digits and a byte after each, and for three bytes for each of the results' 64: a line of 33 for sixteen is less.
 pub(crate) const LONGEST: usize = 255;
 
 pub(crate) fn answer(strip: &[u8], out: &mut [u8]) -> usize

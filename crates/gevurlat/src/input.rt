@@ -30,7 +30,7 @@ pub(crate) fn read_all(buf: &mut [u8]) -> Input
     Input::Bytes(n)
 }
 
-// One read, behind the n bytes that are there: they stay.
+// One read, after the n bytes that are there: they stay.
 fn read_on(buf: &mut [u8], n: usize) -> Input
     requires { ⌜ n ≤ length (now buf) ⌝ }
     ensures { λ r. ⌜ Inside r (length (now (buf .exit)) - n) ⌝ }

@@ -1,4 +1,4 @@
-// An answer and its results in ASCII. Each function writes behind the first `at` bytes of `out` and answers the place behind what it wrote.
+// An answer and its results in ASCII. Each function writes after the first `at` bytes of `out` and answers the place after what it wrote.
 ghost use Prim.Native.Nat.{_+_, _*_, _/_, _≤_, _<_};
 ghost use mathlib.Core.Path.{_≡_};
 ghost use mathlib.Core.List.{[], _∷_, _++_};
@@ -15,16 +15,16 @@ pub(crate) fn show(a: Answer, results: &[u8], out: &mut [u8]) -> usize
     ensures { λ r. ⌜ Counts r (now (out .exit)) ⌝ }
     ensures { λ r. ⌜ Shown a (now (results .entry)) (take r (now (out .exit))) ⌝ }
 {
-    let behind_code = number(a.code as u64, b' ', out, 0);
-    let behind_place = number(a.place as u64, b' ', out, behind_code);
-    let behind_steps = number(a.steps as u64, b'\n', out, behind_place);
+    let after_code = number(a.code as u64, b' ', out, 0);
+    let after_place = number(a.place as u64, b' ', out, after_code);
+    let after_steps = number(a.steps as u64, b'\n', out, after_place);
     if a.code != card::DONE {
-        return behind_steps;
+        return after_steps;
     }
-    lines(results, out, behind_steps)
+    lines(results, out, after_steps)
 }
 
-// In decimal, and one byte behind it.
+// In decimal, and one byte after it.
 fn number(n: u64, last: u8, out: &mut [u8], at: usize) -> usize
     requires { ⌜ at + 21 ≤ length (now out) ⌝ }
     ensures { λ r. ⌜ NumberAppended n last (now (out .entry)) (now (out .exit)) at r ⌝ }

@@ -5,7 +5,7 @@ ghost use lib.ListN.{length, take};
 ghost use Rattle.machine.specs.Memory.{part, padded, stored};
 use lane::V128;
 
-// n bytes from a place on, with zeros behind them.
+// n bytes from a place on, with zeros after them.
 pub(crate) fn read(s: &[u8], at: usize, n: usize) -> V128
     requires { ⌜ (n ≤ 16) × (at + n ≤ length (now s)) ⌝ }
     ensures { λ r. ⌜ r .bytes ≡ padded (part n at (now (s .entry))) ⌝ }

@@ -44,7 +44,7 @@ pub(crate) fn long(v: V128) -> u64
     i64x2::extract_lane(v, 0).value
 }
 
-// A number's bytes, with zeros behind them.
+// A number's bytes, with zeros after them.
 pub(crate) fn of_number(x: u64) -> V128
     ensures { λ r. ⌜ r .bytes ≡ le 16 x ⌝ }
 {

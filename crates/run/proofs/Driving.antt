@@ -31,7 +31,7 @@ use Rattle.machine.proofs.Laws.Rep.{Rep}
 use Rattle.rules.specs.Header.{Header, Declares, headerBytes}
 use Rattle.rules.specs.Strip.{Reads}
 use Rattle.rules.proofs.Onward.{declared}
-use Rattle.standard.specs.Standard.{Config, Stage, behind, step, begin}
+use Rattle.standard.specs.Standard.{Config, Stage, after, step, begin}
 use Rattle.standard.specs.Safety.{Sound}
 use Rattle.standard.proofs.Begin.{begin-sound}
 use Rattle.standard.proofs.Steps.{step-does, end-done, result-kinds}
@@ -143,7 +143,7 @@ module _ {s args mem₀ out : List ℕ} {budget : ℕ} {mem results stack : List
               let long : length results ≡ slot * length (σ .stack) =
               ap length (D .untouched) ∙ D .ready .slots ∙ ap (λ (n : ℕ). slot * n) (sym count ∙ length-reverse (σ .stack)) in
               stops
-              (one more _ (step-does h (D .config) r ∙ ap (behind (D .config) (d .len)) (end-done (D .sound .fits) κ i))
+              (one more _ (step-does h (D .config) r ∙ ap (after (D .config) (d .len)) (end-done (D .sound .fits) κ i))
               ∙ ap (λ (m : List ℕ). leaves DONE 0 (suc steps) m (allBytes (reverse (σ .stack)))) (D .rep .memory)
               ∙ ap₂ (λ (n : ℕ) (x : List ℕ). leaves DONE 0 n mem x) (sym (add-one steps))
               (sym (stack-bytes (σ .stack) stack (D .rep .slots)) ∙ ap (λ (n : ℕ). take n stack) (sym long) ∙ sym written))
@@ -185,7 +185,7 @@ module _ {s args mem₀ out : List ℕ} {budget : ℕ} {mem results stack : List
                       rep = did r (h .results) (D .rep) e (subst (λ (n : ℕ). DidBy n i stack depth locals mem depth′ stack′ locals′ mem′) id-is by-code);
                       within = omega arith;
                       same =
-                          D .same ∙ one more _ (step-does h (D .config) r ∙ ap (behind (D .config) (d .len)) e)
+                          D .same ∙ one more _ (step-does h (D .config) r ∙ ap (after (D .config) (d .len)) e)
                           ∙ ap (λ (n : ℕ). meter s h (budget - n) n (record { place = D .config .place + d .len; state = τ }) out) (sym (add-one steps));
                       untouched = D .untouched;
                       long = kept ∙ D .long;
@@ -198,7 +198,7 @@ module _ {s args mem₀ out : List ℕ} {budget : ℕ} {mem results stack : List
               by : Way s h (D .config) (D .sound .kinds) i (d .len) → Drove s args mem₀ out budget (leaves TRAP at steps mem results)
               by (last r κ) = absurd (other (end-in-group r group group-is refl))
               by (goes-to r ne e q) = absurd (past (told _ (row r) ∙ is-clear r (h .results) (D .rep) e))
-              by (traps-at r ne e) = stops (one more _ (step-does h (D .config) r ∙ ap (behind (D .config) (d .len)) e) ∙ here TRAP)
+              by (traps-at r ne e) = stops (one more _ (step-does h (D .config) r ∙ ap (after (D .config) (d .len)) e) ∙ here TRAP)
 
 -- ---- the start
 

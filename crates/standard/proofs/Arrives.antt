@@ -13,7 +13,7 @@ use Rattle.machine.specs.Exec.{Outcome, exec}
 use Rattle.rules.specs.Header.{Header, headerBytes, locals}
 use Rattle.rules.specs.Typing.{Types}
 use Rattle.rules.specs.Strip.{Reads, Reaches, front, past}
-use Rattle.standard.specs.Standard.{Config, going, trapped, behind, step, runs}
+use Rattle.standard.specs.Standard.{Config, going, trapped, after, step, runs}
 use Rattle.standard.specs.Safety.{Fits}
 use Rattle.standard.proofs.Along.{one-more}
 use Rattle.standard.proofs.Fine.{Fine, on, past as trapped-past}
@@ -33,7 +33,7 @@ module _ (s : List ℕ) (h : Header) (b : Config) where
       here : Reads s (c .place) i code n
       here = subst (λ (q : ℕ). Reads s q i code n) (sym at) r
 
-      by : (o : Outcome) → step s h c ≡ behind c n o → Fine (c .state) (reverse κs′) o → Arrives s h b (p + n) κs′
+      by : (o : Outcome) → step s h c ≡ after c n o → Fine (c .state) (reverse κs′) o → Arrives s h b (p + n) κs′
       by o q (on {τ} kept) = comes (suc k) (record { place = c .place + n; state = τ }) (one-more s h k b c e ∙ q) (ap (λ (x : ℕ). x + n) at) (kept-fits f kept)
       by o q (trapped-past {a} {n = m} g) = strays k a m c e (omega (arith, at, stands-some (r .stands))) q g
 

@@ -20,7 +20,7 @@ use Rattle.machine.proofs.Simulates.{Apt}
 use Rattle.rules.specs.Header.{Header, locals}
 use Rattle.rules.specs.Typing.{Typed, Types}
 use Rattle.rules.specs.Strip.{Reads}
-use Rattle.standard.specs.Standard.{Config, halted, behind, stepRow, stepBy, step}
+use Rattle.standard.specs.Standard.{Config, halted, after, stepRow, stepBy, step}
 use Rattle.standard.specs.Safety.{Fits}
 use Rattle.standard.proofs.ValueKinds.{reverse-kinds, reverse-range, kinds-fit}
 use Rattle.standard.proofs.Fine.{Fine}
@@ -31,7 +31,7 @@ use Rattle.standard.proofs.Typeds.{Ranged, typed-fine}
 pub reads-decoded : {s : List ℕ} {p n : ℕ} {i : Instr} {c : Code} → Reads s p i c n → decodeAt s p ≡ found n i
 reads-decoded {s} {p} {n} {i} r = stands-decodes s p i n (r .stands)
 
-pub step-does : {s : List ℕ} (h : Header) (c : Config) {n : ℕ} {i : Instr} {k : Code} → Reads s (c .place) i k n → step s h c ≡ behind c n (exec (h .results) k i (c .state))
+pub step-does : {s : List ℕ} (h : Header) (c : Config) {n : ℕ} {i : Instr} {k : Code} → Reads s (c .place) i k n → step s h c ≡ after c n (exec (h .results) k i (c .state))
 unfolding step
 step-does h c {n} {i} r = ap (stepBy h c) (reads-decoded r) ∙ ap (stepRow h c (found n i)) (r .does)
 

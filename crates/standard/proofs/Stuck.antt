@@ -17,7 +17,7 @@ use Rattle.rules.specs.Strip.{Reads, Reaches, front, past}
 use Rattle.rules.specs.Breach.{Refused, At, Breach, long, stub, unmarked, other-version, parameters, further, results, kind, kinds-short, short, opcode, float, number, lane, align, local, operand, deep, result, trailing}
 use Rattle.rules.proofs.Headers.{declares-once}
 use Rattle.rules.proofs.Onward.{declared}
-use Rattle.standard.specs.Standard.{Config, halted, behind, step, begin}
+use Rattle.standard.specs.Standard.{Config, halted, after, step, begin}
 use Rattle.standard.specs.Safety.{Given, Fits, StuckAt, traps-before, stuck-there}
 use Rattle.standard.proofs.Begin.{begin-fits}
 use Rattle.standard.proofs.Steps.{step-does, step-halts}
@@ -57,7 +57,7 @@ does-nothing : {s : List ℕ} {h : Header} {p : ℕ} {κs : List Kind} {i : Inst
     → ((σ : State) → Fits h κs σ → exec (h .results) c i σ ≡ stuck) → Halts s p
 does-nothing {s} {h} {i = i} {c = c} at no-way =
     halts (at .reached) (λ d here f.
-    step-does h d (subst (λ (q : ℕ). Reads s q i c (at .size)) (sym here) (at .reads)) ∙ ap (behind d (at .size)) (no-way (d .state) f))
+    step-does h d (subst (λ (q : ℕ). Reads s q i c (at .size)) (sym here) (at .reads)) ∙ ap (after d (at .size)) (no-way (d .state) f))
 
 -- no instruction is read there
 reads-nothing : {s : List ℕ} {code place : ℕ} (r : Refused s code place) → (code ≡ DONE → ⊥) → Halts s (r .at)

@@ -12,7 +12,7 @@ use Rattle.instr.specs.Decode.{decodeAt}
 use Rattle.machine.specs.Exec.{State, Outcome, stuck, exec}
 use Rattle.rules.specs.Header.{Header}
 use Rattle.rules.specs.Strip.{Reads, Reaches, past, Valid}
-use Rattle.standard.specs.Standard.{Config, behind, step}
+use Rattle.standard.specs.Standard.{Config, after, step}
 use Rattle.standard.specs.Safety.{Fits, Sound, Safe, safe-going, safe-ended, safe-trapped}
 use Rattle.standard.proofs.Fine.{Kept, Fine, on, past as trapped-past}
 use Rattle.standard.proofs.Next.{Next, ends, goes-on, what-next}
@@ -27,7 +27,7 @@ pub record Turn (s : List ℕ) (h : Header) (c : Config) : Type 0 where
   pub outcome : Outcome
   pub does : exec (h .results) code instr (c .state) ≡ outcome
   pub unstuck : outcome ≡ stuck → ⊥
-  pub steps : step s h c ≡ behind c size outcome
+  pub steps : step s h c ≡ after c size outcome
 
 -- ---- what is done is not stuck
 
@@ -70,7 +70,7 @@ kept-fits f k =
     }
 
 fine-safe : {s : List ℕ} {h : Header} {κs κs′ : List Kind} (c : Config) (n : ℕ) {o : Outcome} → Fits h κs (c .state) → Reaches s h (c .place + n) κs′ → Fine (c .state) (reverse κs′) o
-    → Safe s h (length (c .state .memory)) (behind c n o)
+    → Safe s h (length (c .state .memory)) (after c n o)
 fine-safe {κs′ = κs′} c n f reached (on k) = safe-going (record { kinds = κs′; reached = reached; fits = kept-fits f k }) (k .long)
 fine-safe c n f reached (trapped-past l) = safe-trapped l
 
@@ -79,7 +79,7 @@ safe-step {s} v m c sound long = subst (λ (n : ℕ). Safe s (v .header) n (step
   where
     by : Next s (v .header) (c .place) (sound .kinds) → Safe s (v .header) (length (c .state .memory)) (step s (v .header) c)
     by (ends {i} r e) =
-        subst (Safe s (v .header) (length (c .state .memory))) (sym (step-does (v .header) c r ∙ ap (behind c 1) (end-done (sound .fits) e i)))
+        subst (Safe s (v .header) (length (c .state .memory))) (sym (step-does (v .header) c r ∙ ap (after c 1) (end-done (sound .fits) e i)))
         (safe-ended (result-kinds (sound .fits) e) (result-range (sound .fits) e) refl)
     by (goes-on {n} r t l) =
         subst (Safe s (v .header) (length (c .state .memory))) (sym (step-does (v .header) c r))

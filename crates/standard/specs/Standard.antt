@@ -28,15 +28,15 @@ pub data Stage : Type 0 where
   halted : Stage  -- stuck
 
 -- after an instruction of n bytes
-abbrev pub behind : Config → ℕ → Outcome → Stage
-behind c n (goes σ) = going (record { place = c .place + n; state = σ })
-behind c n (done vs) = ended vs (c .state .memory)
-behind c n (trap a k) = trapped a k
-behind c n stuck = halted
+abbrev pub after : Config → ℕ → Outcome → Stage
+after c n (goes σ) = going (record { place = c .place + n; state = σ })
+after c n (done vs) = ended vs (c .state .memory)
+after c n (trap a k) = trapped a k
+after c n stuck = halted
 
 -- what is not carried is no instruction
 abbrev pub stepRow : Header → Config → Decoded → Row → Stage
-stepRow h c d (carried op) = behind c (d .len) (exec (h .results) op (d .instr) (c .state))
+stepRow h c d (carried op) = after c (d .len) (exec (h .results) op (d .instr) (c .state))
 stepRow h c d float = halted
 stepRow h c d unassigned = halted
 

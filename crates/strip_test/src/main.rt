@@ -1,5 +1,5 @@
 // Strips checked, run and rewritten, as the lines of data/cases.txt say. One line each: the name, of a run its budget, then code, place and steps (of a rewriting
-// the length); behind them the results and each part of the memory that has changed, or the output. stdout was worked out from document 01 and Core's table of opcodes by a check,
+// the length); after them the results and each part of the memory that has changed, or the output. stdout was worked out from document 01 and Core's table of opcodes by a check,
 // a run and a rewriter written for that in another language, with no use of this code, before this was first run.
 mod text;
 

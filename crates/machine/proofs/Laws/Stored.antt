@@ -25,9 +25,9 @@ module _ (s : List ℕ) (at : ℕ) (v : List ℕ) (h : at + length v ≤ length 
       List·getD-append (take at s ++ v) (drop (at + length v) s) 0 k (omega (arith, both-long))
       ∙ List·getD-append (take at s) v 0 k (omega (arith, head-long)) ∙ getD-take at s k 0 l
 
-  behind : (k : ℕ) → at + length v ≤ k → getD (stored s at v) k 0 ≡ getD s k 0
+  after : (k : ℕ) → at + length v ≤ k → getD (stored s at v) k 0 ≡ getD s k 0
   unfolding stored
-  behind k l =
+  after k l =
       let e : length (take at s ++ v) + (k - (at + length v)) ≡ k = omega (arith, both-long) in
       let f : at + length v + (k - (at + length v)) ≡ k = omega arith in
       ap (λ (j : ℕ). getD (take at s ++ v ++ drop (at + length v) s) j 0) (sym e)
@@ -44,7 +44,7 @@ module _ (s : List ℕ) (at : ℕ) (v : List ℕ) (h : at + length v ≤ length 
     where
       go : (b + n ≤ at) ⊎ (at + length v ≤ b) → (i : ℕ) → i < n → getD (stored s at v) (b + i) 0 ≡ getD s (b + i) 0
       go (inl e) i q = before (b + i) (omega arith)
-      go (inr e) i q = behind (b + i) (omega arith)
+      go (inr e) i q = after (b + i) (omega arith)
 
   -- the part that was stored
   pub part-same : (n : ℕ) → length v ≡ n → part n at (stored s at v) ≡ v

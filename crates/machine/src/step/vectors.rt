@@ -1,9 +1,7 @@
 // Vectors from the slots, and the answer in the lowest of these.
 ghost use mathlib.Core.Path.{_≡_};
-ghost use Prim.Native.Nat.{ℕ, _-_, _≤_, _<_};
-ghost use lib.ListN.{length};
+ghost use Prim.Native.Nat.{ℕ, _-_, _<_};
 ghost use mir.Syntax.{Width};
-ghost use Rattle.limits.specs.Limits.{stackLimit, stackBytes};
 ghost use Rattle.scalar.specs.Scalar.{Sign};
 ghost use Rattle.lane.specs.Shape.{lanes, i8x16};
 ghost use Rattle.lane.specs.Vector.{lane, le};
@@ -42,7 +40,7 @@ pub(crate) fn bitselect(stack: &mut [u8], depth: usize)
 }
 
 pub(crate) fn shuffle(indices: V128, stack: &mut [u8], depth: usize)
-    requires { ⌜ (2 ≤ depth) × (depth ≤ stackLimit) × (length (now stack) ≡ stackBytes) × ((k : ℕ) → k < 16 → lane i8x16 (indices .bytes) k < 32) ⌝ }
+    requires { ⌜ Holds 2 (now stack) depth × ((k : ℕ) → k < 16 → lane i8x16 (indices .bytes) k < 32) ⌝ }
     ensures { λ r. ⌜ now (stack .exit) ≡ putSlot (now (stack .entry)) (depth - 2) (shuffled (topOf (now (stack .entry)) depth 2) (topOf (now (stack .entry)) depth 1) (indices .bytes)) ⌝ }
 {
     let b = slot::top(stack, depth, 1);

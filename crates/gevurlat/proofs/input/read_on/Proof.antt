@@ -1,4 +1,4 @@
--- A read behind the n bytes leaves them.
+-- A read after the n bytes leaves them.
 use borrow.Author.Needs.{needs}
 use native.Mathlib.Omega.{arith}
 use Prim.Native.Nat.{_-_}

@@ -1,4 +1,4 @@
--- The bytes passed stand behind the text, two digits each.
+-- The bytes passed stand after the text, two digits each.
 use Prim.Native.Nat.{_-_}
 use native.Mathlib.Omega.{arith}
 use lib.ListN.{length, take}

@@ -1,4 +1,4 @@
--- A line for each result passed stands behind the text.
+-- A line for each result passed stands after the text.
 use Prim.Native.Nat.{_+_, _*_, _-_}
 use native.Mathlib.Omega.{arith}
 use lib.ListN.{drop, length-take}

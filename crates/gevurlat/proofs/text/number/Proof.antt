@@ -1,4 +1,4 @@
--- The digits, and the byte behind them.
+-- The digits, and the byte after them.
 use borrow.Author.Needs.{needs}
 use native.Mathlib.Omega.{arith}
 use lib.ListN.{take}

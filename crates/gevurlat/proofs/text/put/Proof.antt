@@ -1,4 +1,4 @@
--- The bytes passed stand behind the text.
+-- The bytes passed stand after the text.
 use Prim.Native.Nat.{_-_}
 use mathlib.Core.Path.{refl}
 use native.Mathlib.Omega.{arith}

@@ -86,7 +86,7 @@ add-result-4 : tie.Need-add-result-4
 add-result-4 c = ready (c .before .before .before .before .before .before .before .before .before .before .pre) (c .before .before .before .before .before .before .group .ensures) (c .before .before .before .before .before .match .keys13) (λ row q. omega (arith, q .fit .deep))
 
 shuffle-requires : tie.Need-shuffle-requires
-shuffle-requires c κs = ready (c .before .before .before .before .before .before .before .pre) (c .before .before .before .group .ensures) (c .before .before .match .keys14) (λ row q. (q .fit .enough, q .fit .deep, q .fit .stack-long, q .named))
+shuffle-requires c κs = ready (c .before .before .before .before .before .before .before .pre) (c .before .before .before .group .ensures) (c .before .before .match .keys14) (λ row q. ((q .fit .enough, q .fit .deep, q .fit .stack-long), q .named))
 
 sub-result-8 : tie.Need-sub-result-8
 sub-result-8 c = ready (c .before .before .before .before .before .before .before .before .before .before .pre) (c .before .before .before .before .before .before .group .ensures) (c .before .before .before .before .before .match .keys14) (λ row q. omega (arith, q .fit .enough))
