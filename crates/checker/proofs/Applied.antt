@@ -8,7 +8,7 @@ use lib.Dec.{lit<}
 use lib.ListN.{length, set, length-append, length-reverse}
 use Rattle.card.specs.Card.{DONE, OPERAND, DEEP}
 use Rattle.limits.specs.Limits.{stackLimit}
-use Rattle.lane.specs.Vector.{number}
+use Rattle.operation.specs.Vector.{number}
 use Rattle.opcode.specs.Kind.{Kind, kindByte}
 use Rattle.opcode.specs.Effect.{_⇒_}
 use Rattle.opcode.specs.Number.{packed}

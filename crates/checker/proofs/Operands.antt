@@ -5,7 +5,7 @@ use mathlib.Core.List.{List, [], _∷_, _++_, map, reverse, reverseAux, reverseA
 use native.Mathlib.Omega.{arith}
 use lib.ListN.{length, getD, length-append, length-reverseAux}
 use Rattle.limits.specs.Limits.{stackLimit}
-use Rattle.lane.specs.Vector.{number}
+use Rattle.operation.specs.Vector.{number}
 use Rattle.opcode.specs.Kind.{Kind, kindByte}
 use Rattle.opcode.proofs.Effects.{kind-once, kind-range}
 use Rattle.rules.proofs.Lists.{ends-once}

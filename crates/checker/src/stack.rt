@@ -5,7 +5,7 @@ ghost use mathlib.Core.List.{List, map, reverse};
 ghost use mathlib.Core.Option.{some};
 ghost use lib.ListN.{length};
 ghost use Rattle.limits.specs.Limits.{stackLimit};
-ghost use Rattle.lane.specs.Vector.{number};
+ghost use Rattle.operation.specs.Vector.{number};
 ghost use Rattle.opcode.specs.Kind.{Kind, kindByte};
 ghost use Rattle.opcode.specs.Effect.{_⇒_};
 ghost use Rattle.opcode.specs.Number.{packed};

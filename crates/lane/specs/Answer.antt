@@ -7,9 +7,9 @@ use lib.ListN.{replicate}
 use mir.Syntax.{Width}
 use Rattle.card.specs.Card.{DONE, LANE}
 use Rattle.scalar.specs.Scalar.{Sign}
-use Rattle.lane.specs.Shape.{i8x16, lanes}
-use Rattle.lane.specs.Vector.{lane}
-use Rattle.lane.specs.Op.{all, extracted, replaced, shuffled, laneIn, laneOut}
+use Rattle.operation.specs.Shape.{i8x16, lanes}
+use Rattle.operation.specs.Vector.{lane}
+use Rattle.operation.specs.Op.{all, extracted, replaced, shuffled, laneIn, laneOut}
 use Rattle.lane.specs.declared.answer.LaneAnswer.{LaneAnswer}
 use Rattle.lane.specs.declared.answer.VectorAnswer.{VectorAnswer}
 

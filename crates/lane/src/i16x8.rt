@@ -1,8 +1,8 @@
 // The operations of i16x8, under their names.
 ghost use mathlib.Core.Path.{_≡_};
 ghost use Rattle.scalar.specs.Scalar.{S, U};
-ghost use Rattle.lane.specs.Shape.{i16x8};
-ghost use Rattle.lane.specs.Op.{Abs, Add, AddSat, AllTrue, AvgrU, Bitmask, Eq, ExtaddPairwise, Extend, Extmul, Ge, Gt, High, Le, Low, Lt, Max, Min, Mul, Narrow, Ne, Neg, Q15mulrSatS, Shl, Shr, Sub, SubSat, unary, binary, test, shift, splat};
+ghost use Rattle.operation.specs.Shape.{i16x8};
+ghost use Rattle.operation.specs.Op.{Abs, Add, AddSat, AllTrue, AvgrU, Bitmask, Eq, ExtaddPairwise, Extend, Extmul, Ge, Gt, High, Le, Low, Lt, Max, Min, Mul, Narrow, Ne, Neg, Q15mulrSatS, Shl, Shr, Sub, SubSat, unary, binary, test, shift, splat};
 ghost use Rattle.lane.specs.Answer.{extractLane, replaceLane};
 use crate::V128;
 use crate::answer::LaneAnswer;

@@ -1,8 +1,8 @@
 // The operations of i32x4, under their names.
 ghost use mathlib.Core.Path.{_≡_};
 ghost use Rattle.scalar.specs.Scalar.{S, U};
-ghost use Rattle.lane.specs.Shape.{i32x4};
-ghost use Rattle.lane.specs.Op.{Abs, Add, AllTrue, Bitmask, DotS, Eq, ExtaddPairwise, Extend, Extmul, Ge, Gt, High, Le, Low, Lt, Max, Min, Mul, Ne, Neg, Shl, Shr, Sub, unary, binary, test, shift, splat};
+ghost use Rattle.operation.specs.Shape.{i32x4};
+ghost use Rattle.operation.specs.Op.{Abs, Add, AllTrue, Bitmask, DotS, Eq, ExtaddPairwise, Extend, Extmul, Ge, Gt, High, Le, Low, Lt, Max, Min, Mul, Ne, Neg, Shl, Shr, Sub, unary, binary, test, shift, splat};
 ghost use Rattle.lane.specs.Answer.{extractLane, replaceLane};
 use crate::V128;
 use crate::answer::LaneAnswer;

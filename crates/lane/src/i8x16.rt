@@ -1,8 +1,8 @@
 // The operations of i8x16, under their names.
 ghost use mathlib.Core.Path.{_≡_};
 ghost use Rattle.scalar.specs.Scalar.{S, U};
-ghost use Rattle.lane.specs.Shape.{i8x16};
-ghost use Rattle.lane.specs.Op.{Abs, Add, AddSat, AllTrue, AvgrU, Bitmask, Eq, Ge, Gt, Le, Lt, Max, Min, Narrow, Ne, Neg, Popcnt, Shl, Shr, Sub, SubSat, Swizzle, unary, binary, test, shift, splat};
+ghost use Rattle.operation.specs.Shape.{i8x16};
+ghost use Rattle.operation.specs.Op.{Abs, Add, AddSat, AllTrue, AvgrU, Bitmask, Eq, Ge, Gt, Le, Lt, Max, Min, Narrow, Ne, Neg, Popcnt, Shl, Shr, Sub, SubSat, Swizzle, unary, binary, test, shift, splat};
 ghost use Rattle.lane.specs.Answer.{extractLane, replaceLane, shuffle};
 use crate::V128;
 use crate::answer::LaneAnswer;

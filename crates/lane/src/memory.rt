@@ -2,8 +2,8 @@
 // stands behind them is not looked at.
 ghost use mathlib.Core.Path.{_≡_};
 ghost use Rattle.scalar.specs.Scalar.{S, U};
-ghost use Rattle.lane.specs.Shape.{i8x16, i16x8, i32x4, i64x2};
-ghost use Rattle.lane.specs.Op.{Whole, Widen, Repeat, ZeroPad, loaded};
+ghost use Rattle.operation.specs.Shape.{i8x16, i16x8, i32x4, i64x2};
+ghost use Rattle.operation.specs.Op.{Whole, Widen, Repeat, ZeroPad, loaded};
 ghost use Rattle.lane.specs.Answer.{loadLane, storeLane};
 use crate::V128;
 use crate::answer::VectorAnswer;

@@ -2,7 +2,7 @@
 ghost use mathlib.Core.Path.{_≡_};
 ghost use Prim.Native.Nat.{_<_};
 ghost use mir.Syntax.{w8, w16, w32, w64};
-ghost use Rattle.lane.specs.Vector.{lane, Sixteen};
+ghost use Rattle.operation.specs.Vector.{lane, Sixteen};
 ghost use Rattle.lane.specs.Inner.Put.{Wrote};
 
 pub(crate) fn get8(v: &[u8; 16], i: usize) -> u8

@@ -1,6 +1,6 @@
 // The operations of v128 as 128 bits, under their names.
 ghost use mathlib.Core.Path.{_≡_};
-ghost use Rattle.lane.specs.Op.{Not, And, Andnot, Or, Xor, AnyTrue, unary, binary, test, bitselect};
+ghost use Rattle.operation.specs.Op.{Not, And, Andnot, Or, Xor, AnyTrue, unary, binary, test, bitselect};
 use crate::V128;
 use crate::lanes::bitwise::bitwise128;
 use crate::lanes::testing;

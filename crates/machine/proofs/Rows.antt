@@ -9,7 +9,7 @@ use lib.Dec.{T, eqb, ltb}
 use borrow.Author.Tests.{eq-eqb, le-ltb}
 use mir.Syntax.{Width, Body}
 use Rattle.scalar.specs.Scalar.{Sign}
-use Rattle.lane.specs.Op.{Unop, Binop, Testop, Shiftop, Loadop, Op, Load, LoadLane, StoreLane, Splat, ExtractLane, ReplaceLane, Unary, Binary, Test, Shift}
+use Rattle.operation.specs.Op.{Unop, Binop, Testop, Shiftop, Loadop, Op, Load, LoadLane, StoreLane, Splat, ExtractLane, ReplaceLane, Unary, Binary, Test, Shift}
 use Rattle.opcode.specs.Table.{Code, carried, vector, does}
 use Rattle.opcode.specs.Number.{rowOf, groupOf, groupOfOp}
 use Rattle.opcode.proofs.Every.{below-or-past}

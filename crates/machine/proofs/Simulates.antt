@@ -9,8 +9,8 @@ use mir.Syntax.{Width, w8, w16, w32, w64, w128}
 use lib.IntN.{pos, _+ℤ_, _-ℤ_}
 use Rattle.scalar.specs.Scalar.{Sign, iadd, isub}
 use Rattle.scalar.proofs.Laws.Integers.{wrap-lt}
-use Rattle.lane.specs.Vector.{le, Sixteen}
-use Rattle.lane.specs.Op.{Loadop, Shiftop, Op, Load, LoadLane, Store, StoreLane, Const, Shuffle, Splat, ExtractLane, ReplaceLane, Unary, Binary, Bitselect, Test, Shift, unary, binary, bitselect, test, shift, splat, extracted, replaced, shuffled, loaded, laneIn, laneOut}
+use Rattle.operation.specs.Vector.{le, Sixteen}
+use Rattle.operation.specs.Op.{Loadop, Shiftop, Op, Load, LoadLane, Store, StoreLane, Const, Shuffle, Splat, ExtractLane, ReplaceLane, Unary, Binary, Bitselect, Test, Shift, unary, binary, bitselect, test, shift, splat, extracted, replaced, shuffled, loaded, laneIn, laneOut}
 use Rattle.lane.proofs.Laws.Number.{Bytes, bytes-take}
 use Rattle.lane.proofs.Laws.Vectors.{test-lt, extracted-lt, sixteen-unary, sixteen-binary, sixteen-bitselect, sixteen-shift, sixteen-splat, sixteen-replaced, sixteen-shuffled, sixteen-loaded, sixteen-laneIn, sixteen-laneOut}
 use Rattle.limits.specs.Limits.{slot}

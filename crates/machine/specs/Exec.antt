@@ -7,7 +7,7 @@ use lib.Dec.{eqb, leb, ltb}
 use lib.ListN.{length, getD, take, set}
 use mir.Syntax.{Width, w8, w16, w32, w64, w128}
 use Rattle.scalar.specs.Scalar.{iadd, isub}
-use Rattle.lane.specs.Op.{Op, Load, LoadLane, Store, StoreLane, Const, Shuffle, Splat, ExtractLane, ReplaceLane, Unary, Binary, Bitselect, Test, Shift, unary, binary, bitselect, test, shift, splat, extracted, replaced, shuffled, loaded, laneIn, laneOut}
+use Rattle.operation.specs.Op.{Op, Load, LoadLane, Store, StoreLane, Const, Shuffle, Splat, ExtractLane, ReplaceLane, Unary, Binary, Bitselect, Test, Shift, unary, binary, bitselect, test, shift, splat, extracted, replaced, shuffled, loaded, laneIn, laneOut}
 use Rattle.limits.specs.Limits.{stackLimit}
 use Rattle.opcode.specs.Kind.{Kind, kindByte}
 use Rattle.opcode.specs.Table.{Plain, End, Drop, LocalGet, LocalSet, LocalTee, I32Const, I64Const, I32Add, I32Sub, Code, plain, vector}

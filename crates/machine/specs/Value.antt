@@ -1,7 +1,7 @@
 -- Values (Core 2.0, 4.2.1) and their sixteen bytes in arguments and results (01, "Values and shapes").
 use Prim.Native.Nat.{ℕ, _<_, _^_}
 use mathlib.Core.List.{List, [], _∷_, _++_}
-use Rattle.lane.specs.Vector.{le, Sixteen}
+use Rattle.operation.specs.Vector.{le, Sixteen}
 use Rattle.opcode.specs.Kind.{Kind, i32, i64, v128}
 
 pub data Value : Type 0 where

@@ -3,7 +3,7 @@ ghost use mathlib.Core.Path.{_≡_};
 ghost use Prim.Native.Nat.{_+_, _*_, _≤_, _<_};
 ghost use lib.ListN.{length};
 ghost use Rattle.limits.specs.Limits.{stackLimit, stackBytes};
-ghost use Rattle.lane.specs.Vector.{le};
+ghost use Rattle.operation.specs.Vector.{le};
 ghost use Rattle.machine.specs.Inner.Flat.{slotAt, putSlot, topOf, low32, low64};
 use crate::bytes;
 use lane::V128;

@@ -9,8 +9,8 @@ use lib.ListN.{getD}
 use lib.Pow.{pow-mono}
 use mir.Syntax.{Width, w8, w16, w32, w64, w128}
 use mir.Val.{bytes}
-use Rattle.lane.specs.Shape.{lanes}
-use Rattle.lane.specs.Op.{Whole, Widen, Repeat, ZeroPad, Op, Load, LoadLane, Store, StoreLane, Const, Shuffle, Splat, ExtractLane, ReplaceLane, Unary, Binary, Bitselect, Test, Shift}
+use Rattle.operation.specs.Shape.{lanes}
+use Rattle.operation.specs.Op.{Whole, Widen, Repeat, ZeroPad, Op, Load, LoadLane, Store, StoreLane, Const, Shuffle, Splat, ExtractLane, ReplaceLane, Unary, Binary, Bitselect, Test, Shift}
 use Rattle.opcode.specs.Table.{Code, plain, vector, Row, carried, float, unassigned}
 use Rattle.opcode.specs.Immediate.{Immediates, nothing, index, word, long, memory, memoryLane, laneIndex, sixteenBytes, sixteenLanes, immediates, moved, laneCount, movedBy, lanesOf}
 use Rattle.opcode.specs.Number.{classNumber, FLOAT, UNASSIGNED, classOf}

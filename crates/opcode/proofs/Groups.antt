@@ -5,7 +5,7 @@ use Prim.Native.Nat.{ℕ, zero, suc, _≤_}
 use lib.Dec.{lit≤}
 use mir.Syntax.{Width}
 use Rattle.scalar.specs.Scalar.{Sign}
-use Rattle.lane.specs.Op.{Loadop, Unop, Binop, Testop, Shiftop, Op, Load, LoadLane, Store, StoreLane, Const, Shuffle, Splat, ExtractLane, ReplaceLane, Unary, Binary, Bitselect, Test, Shift}
+use Rattle.operation.specs.Op.{Loadop, Unop, Binop, Testop, Shiftop, Op, Load, LoadLane, Store, StoreLane, Const, Shuffle, Splat, ExtractLane, ReplaceLane, Unary, Binary, Bitselect, Test, Shift}
 use Rattle.opcode.specs.Table.{Plain, End, Drop, LocalGet, LocalSet, LocalTee, I32Const, I64Const, I32Add, I32Sub, Code, plain, vector, Row, carried, float, unassigned}
 use Rattle.opcode.specs.Number.{groupOfPlain, groupOfOp, groupOfCode, groupOf}
 

@@ -2,8 +2,8 @@
 -- index chooses among (000, "Load and store", "Immediate operands").
 use Prim.Native.Nat.{ℕ}
 use mir.Val.{bytes}
-use Rattle.lane.specs.Shape.{lanes}
-use Rattle.lane.specs.Op.{Whole, Widen, Repeat, ZeroPad, Op, Load, LoadLane, Store, StoreLane, Const, Shuffle, Splat, ExtractLane, ReplaceLane, Unary, Binary, Bitselect, Test, Shift}
+use Rattle.operation.specs.Shape.{lanes}
+use Rattle.operation.specs.Op.{Whole, Widen, Repeat, ZeroPad, Op, Load, LoadLane, Store, StoreLane, Const, Shuffle, Splat, ExtractLane, ReplaceLane, Unary, Binary, Bitselect, Test, Shift}
 use Rattle.opcode.specs.Table.{End, Drop, LocalGet, LocalSet, LocalTee, I32Const, I64Const, I32Add, I32Sub, Code, plain, vector, Row, carried, float, unassigned}
 
 pub data Immediates : Type 0 where

@@ -5,8 +5,8 @@ use mathlib.Core.List.{List, [], _∷_}
 use lib.Dec.{eqb}
 use lib.ListN.{getD}
 use Rattle.scalar.specs.Scalar.{S, U}
-use Rattle.lane.specs.Shape.{i8x16, i16x8, i32x4, i64x2}
-use Rattle.lane.specs.Op.{Low, High, Not, Abs, Neg, Popcnt, Extend, ExtaddPairwise, And, Andnot, Or, Xor, Swizzle, Eq, Ne, Lt, Gt, Le, Ge, Add, Sub, Mul, AddSat, SubSat, Min, Max, AvgrU, Q15mulrSatS, DotS, Narrow, Extmul, AnyTrue, AllTrue, Bitmask, Shl, Shr, Whole, Widen, Repeat, ZeroPad, Op, Load, LoadLane, Store, StoreLane, Const, Shuffle, Splat, ExtractLane, ReplaceLane, Unary, Binary, Bitselect, Test, Shift}
+use Rattle.operation.specs.Shape.{i8x16, i16x8, i32x4, i64x2}
+use Rattle.operation.specs.Op.{Low, High, Not, Abs, Neg, Popcnt, Extend, ExtaddPairwise, And, Andnot, Or, Xor, Swizzle, Eq, Ne, Lt, Gt, Le, Ge, Add, Sub, Mul, AddSat, SubSat, Min, Max, AvgrU, Q15mulrSatS, DotS, Narrow, Extmul, AnyTrue, AllTrue, Bitmask, Shl, Shr, Whole, Widen, Repeat, ZeroPad, Op, Load, LoadLane, Store, StoreLane, Const, Shuffle, Splat, ExtractLane, ReplaceLane, Unary, Binary, Bitselect, Test, Shift}
 
 -- the nine that are opcodes by themselves
 pub data Plain : Type 0 where

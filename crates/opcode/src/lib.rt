@@ -32,7 +32,7 @@ pub const FLOAT: u8 = 9;
 
 pub const UNASSIGNED: u8 = 10;
 
-// The groups: the nine plain opcodes, then those of lane's enumeration of operations, then what is not carried.
+// The groups: the nine plain opcodes, then those of the enumeration of operations, then what is not carried.
 pub const GROUP_END: u8 = 0;
 
 pub const GROUP_DROP: u8 = 1;

@@ -3,7 +3,7 @@ use Prim.Native.Nat.{ℕ}
 use mathlib.Core.Path.{_≡_, refl, ap₂}
 use mathlib.Core.List.{List, [], _∷_, _++_, map, reverse}
 use mir.Syntax.{Width, w8, w16, w32, w64, w128}
-use Rattle.lane.specs.Op.{Op, Load, LoadLane, Store, StoreLane, Const, Shuffle, Splat, ExtractLane, ReplaceLane, Unary, Binary, Bitselect, Test, Shift}
+use Rattle.operation.specs.Op.{Op, Load, LoadLane, Store, StoreLane, Const, Shuffle, Splat, ExtractLane, ReplaceLane, Unary, Binary, Bitselect, Test, Shift}
 use Rattle.opcode.specs.Kind.{Kind, i32, i64, v128}
 use Rattle.opcode.specs.Effect.{takes, scalar, signature}
 use Rattle.instr.specs.declared.Instr.{Instr}

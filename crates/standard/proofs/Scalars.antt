@@ -5,7 +5,7 @@ use mathlib.Core.Bool.{Bool, true, false, cond}
 use mathlib.Core.List.{List, [], _∷_}
 use lib.Dec.{T, eqb}
 use mir.Syntax.{Width, w8, w16, w32, w64, w128}
-use Rattle.lane.specs.Op.{Op, Load, LoadLane, Store, StoreLane, Const, Shuffle, Splat, ExtractLane, ReplaceLane, Unary, Binary, Bitselect, Test, Shift}
+use Rattle.operation.specs.Op.{Op, Load, LoadLane, Store, StoreLane, Const, Shuffle, Splat, ExtractLane, ReplaceLane, Unary, Binary, Bitselect, Test, Shift}
 use Rattle.opcode.specs.Table.{Plain, plain, vector, Row, carried, float, unassigned, vectors, vectorAt, plains, lookUp, plainAt}
 use Rattle.opcode.proofs.Every.{below}
 use Rattle.opcode.proofs.Rows.{vector-beyond}

@@ -6,7 +6,7 @@ use mathlib.Core.List.{List, [], _∷_}
 use mathlib.Core.Logic.{_↔_}
 use lib.Dec.{T, ltb, ltb→lt, lit<}
 use Rattle.scalar.specs.Scalar.{clamp, sat, iaddsat, inarrow, iq15mulrsat, idot}
-use Rattle.lane.specs.Vector.{lane, build}
+use Rattle.operation.specs.Vector.{lane, build}
 use Rattle.leb128.specs.Number.{lastOf, before, intOf, numberAt}
 use Rattle.leb128.specs.Promise.{ReadsNumber}
 use Rattle.leb128.specs.Bytes.{bytes}

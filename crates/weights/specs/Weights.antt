@@ -7,9 +7,9 @@ use mathlib.Core.List.{List, [], _∷_}
 use lib.IntN.{ℤ, pos, negℤ}
 use mir.Syntax.{Width}
 use Rattle.scalar.specs.Scalar.{S, U, wrap}
-use Rattle.lane.specs.Shape.{i8x16, i16x8, i32x4}
-use Rattle.lane.specs.Vector.{vec}
-use Rattle.lane.specs.Op.{Binop, Add, AddSat, Narrow, Q15mulrSatS, DotS, binary}
+use Rattle.operation.specs.Shape.{i8x16, i16x8, i32x4}
+use Rattle.operation.specs.Vector.{vec}
+use Rattle.operation.specs.Op.{Binop, Add, AddSat, Narrow, Q15mulrSatS, DotS, binary}
 use Rattle.leb128.specs.Bits.{bits}
 use Rattle.leb128.specs.Promise.{ReadsNumber}
 use Rattle.leb128.specs.declared.read.Leb.{Leb}

@@ -13,8 +13,8 @@ use mir.Val.{bits, Fits, toZ}
 use mir.ValLaws.{toZ-fits, ofZ-toZ}
 use Rattle.scalar.specs.Scalar.{S, U, wrap, iextend}
 use Rattle.scalar.proofs.Laws.Wrap.{wrap-nat, wrap-held}
-use Rattle.lane.specs.Vector.{lane, vec}
-use Rattle.lane.specs.Op.{splat, replaced}
+use Rattle.operation.specs.Vector.{lane, vec}
+use Rattle.operation.specs.Op.{splat, replaced}
 use Rattle.lane.specs.Answer.{scalarIf, vectorIf}
 use Rattle.lane.specs.declared.answer.LaneAnswer.{LaneAnswer}
 use Rattle.lane.specs.declared.answer.VectorAnswer.{VectorAnswer}

@@ -8,8 +8,8 @@ use native.Mathlib.Omega.{arith}
 use lib.Dec.{eqb}
 use borrow.Author.Tests.{eq-eqb, ne-eqb}
 use mir.Syntax.{w64}
-use Rattle.lane.specs.Vector.{number, lane, Sixteen}
-use Rattle.lane.specs.Op.{truth}
+use Rattle.operation.specs.Vector.{number, lane, Sixteen}
+use Rattle.operation.specs.Op.{truth}
 use Rattle.lane.proofs.Laws.Number.{number-lt, field-join}
 
 halves : (v : List ℕ) → Sixteen v → number v ≡ lane w64 v 0 + 2 ^ 64 * lane w64 v 1

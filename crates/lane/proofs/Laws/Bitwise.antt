@@ -6,7 +6,7 @@ use native.Mathlib.Omega.{arith}
 use lib.Arith.{digits-div, digits-mod}
 use lib.Bits.{bitAnd, bitOr, and-shr, or-shr, xor-shr, and-mod, or-mod, xor-mod, and-lt}
 use lib.Pow.{pow-pos, split, ones-split, shr-lt, ones-sub-lt}
-use Rattle.lane.specs.Vector.{number, le}
+use Rattle.operation.specs.Vector.{number, le}
 use Rattle.lane.specs.Inner.Scalars.{bitwise}
 use Rattle.lane.proofs.Laws.Number.{fieldOf, number-le}
 

@@ -11,8 +11,8 @@ use lib.ListN.{replicate, length, take, drop, set, length-append, length-set}
 use lib.Seq.{drop-drop, length-take-le, take-at, drop-at, take-all, set-split}
 use lib.Pow.{pow-pos, pow-add}
 use mir.Val.{bytes}
-use Rattle.lane.specs.Shape.{lanes}
-use Rattle.lane.specs.Vector.{number, le, build, Sixteen}
+use Rattle.operation.specs.Shape.{lanes}
+use Rattle.operation.specs.Vector.{number, le, build, Sixteen}
 use Rattle.lane.specs.Inner.Put.{put}
 use Rattle.lane.proofs.Laws.Number.{Bytes, length-le, number-append, number-le, le-number, le-split, le-mod, fieldOf, field-low}
 

@@ -8,7 +8,7 @@ use lib.ListN.{replicate, length, getD}
 use lib.Pow.{shr-shr}
 use mir.Syntax.{Width, w8}
 use mir.Val.{bits}
-use Rattle.lane.specs.Vector.{number, lane}
+use Rattle.operation.specs.Vector.{number, lane}
 use Rattle.lane.proofs.Laws.Number.{Bytes, head-byte, tail-bytes, number-append, number-lt, field-low, field-high, field-lt}
 
 pub lane-lt : (w : Width) (v : List ℕ) (n : ℕ) → lane w v n < 2 ^ bits w

@@ -9,7 +9,7 @@ use lib.ListN.{length, take, drop, getD}
 use lib.Pow.{pow-pos, pow-add, shr-shr, mod-pow-add}
 use mir.Syntax.{w8}
 use mir.Val.{Fits}
-use Rattle.lane.specs.Vector.{number, le}
+use Rattle.operation.specs.Vector.{number, le}
 
 -- every element is a byte
 abbrev pub Bytes : List ℕ → Type 0

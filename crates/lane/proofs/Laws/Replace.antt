@@ -11,7 +11,7 @@ use borrow.Author.Tests.{eqb-true, eqb-false, ltb-true, ltb-false}
 use lib.ListN.{length, take, drop, length-drop, take-append-drop}
 use lib.Seq.{length-take-le, drop-drop}
 use lib.Pow.{pow-pos, shr-shr}
-use Rattle.lane.specs.Vector.{number, le, build, Sixteen}
+use Rattle.operation.specs.Vector.{number, le, build, Sixteen}
 use Rattle.lane.specs.Inner.Put.{put}
 use Rattle.lane.proofs.Laws.Number.{Bytes, length-le, number-append, number-le, number-lt, bytes-take, bytes-drop, fieldOf, field-low, field-high}
 use Rattle.lane.proofs.Laws.Build.{in-lanes, build-same}

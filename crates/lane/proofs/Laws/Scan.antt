@@ -15,7 +15,7 @@ use mir.Syntax.{Width}
 use mir.Val.{bits, hbits, toZ}
 use mir.ValLaws.{pow-bits, toZ-pos}
 use Rattle.scalar.proofs.Laws.Twos.{high-is}
-use Rattle.lane.specs.Op.{truth, all, tally}
+use Rattle.operation.specs.Op.{truth, all, tally}
 
 pub all-more : (n : ℕ) (P : ℕ → Bool) → all n P ≡ true → P n ≡ true → all (n + 1) P ≡ true
 all-more n P e f = ap (λ (j : ℕ). all j P) (add-one n) ∙ ap₂ _&&_ f e

@@ -12,9 +12,9 @@ use mir.Syntax.{Width, w8, w16, w32, w64, w128}
 use mir.Val.{bits, bytes}
 use Rattle.scalar.specs.Scalar.{Sign, value, iextend}
 use Rattle.scalar.proofs.Laws.Integers.{wrap-lt}
-use Rattle.lane.specs.Shape.{lanes, i8x16}
-use Rattle.lane.specs.Vector.{number, le, lane, build, vec, Sixteen}
-use Rattle.lane.specs.Op.{Unop, Not, Abs, Neg, Popcnt, Extend, ExtaddPairwise, unary, Binop, And, Andnot, Or, Xor, Swizzle, Eq, Ne, Lt, Gt, Le, Ge, Add, Sub, Mul, AddSat, SubSat, Min, Max, AvgrU, Q15mulrSatS, DotS, Narrow, Extmul, binary, bitselect, Testop, AnyTrue, AllTrue, Bitmask, truth, all, tally, test, Shiftop, Shl, Shr, shift, splat, unpack, extracted, replaced, shuffled, Loadop, Whole, Widen, Repeat, ZeroPad, loaded, laneIn, laneOut}
+use Rattle.operation.specs.Shape.{lanes, i8x16}
+use Rattle.operation.specs.Vector.{number, le, lane, build, vec, Sixteen}
+use Rattle.operation.specs.Op.{Unop, Not, Abs, Neg, Popcnt, Extend, ExtaddPairwise, unary, Binop, And, Andnot, Or, Xor, Swizzle, Eq, Ne, Lt, Gt, Le, Ge, Add, Sub, Mul, AddSat, SubSat, Min, Max, AvgrU, Q15mulrSatS, DotS, Narrow, Extmul, binary, bitselect, Testop, AnyTrue, AllTrue, Bitmask, truth, all, tally, test, Shiftop, Shl, Shr, shift, splat, unpack, extracted, replaced, shuffled, Loadop, Whole, Widen, Repeat, ZeroPad, loaded, laneIn, laneOut}
 use Rattle.lane.specs.Answer.{scalarIf, vectorIf, shuffle}
 use Rattle.lane.specs.declared.answer.LaneAnswer.{LaneAnswer}
 use Rattle.lane.specs.declared.answer.VectorAnswer.{VectorAnswer}

@@ -5,7 +5,7 @@ use mathlib.Core.List.{List, _++_}
 use lib.ListN.{take, drop}
 use mir.Syntax.{Width}
 use mir.Val.{bytes}
-use Rattle.lane.specs.Vector.{le, Sixteen}
+use Rattle.operation.specs.Vector.{le, Sixteen}
 
 -- v with the k bytes of x at lane n
 unfoldable pub put : ℕ → List ℕ → ℕ → ℕ → List ℕ

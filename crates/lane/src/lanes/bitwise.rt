@@ -1,7 +1,7 @@
 // Bitwise operations, a byte at a time.
 ghost use mathlib.Core.Path.{_≡_};
 ghost use Prim.Native.Nat.{_-_, _^_};
-ghost use Rattle.lane.specs.Vector.{number, le};
+ghost use Rattle.operation.specs.Vector.{number, le};
 ghost use Rattle.lane.specs.Inner.Scalars.{bitwise};
 use crate::V128;
 use crate::op;

@@ -1,7 +1,7 @@
 // Lane by lane, over one vector or two: one loop a shape, told its operation by a number (op).
 ghost use mathlib.Core.Path.{_≡_};
 ghost use mir.Syntax.{w8, w16, w32, w64};
-ghost use Rattle.lane.specs.Vector.{lanewise2};
+ghost use Rattle.operation.specs.Vector.{lanewise2};
 ghost use Rattle.lane.specs.Inner.Scalars.{scalar8, scalar16, scalar32, scalar64};
 use crate::V128;
 use crate::op;

@@ -3,7 +3,7 @@ ghost use mathlib.Core.Path.{_≡_};
 ghost use mathlib.Core.List.{_++_};
 ghost use Prim.Native.Nat.{_<_};
 ghost use mir.Syntax.{w8, w16, w32};
-ghost use Rattle.lane.specs.Vector.{lane, vec, Sixteen};
+ghost use Rattle.operation.specs.Vector.{lane, vec, Sixteen};
 ghost use Rattle.lane.specs.Inner.Scalars.{narrowed};
 use crate::V128;
 use crate::op;

@@ -1,7 +1,7 @@
 // Shifts: the count is the same for all lanes.
 ghost use mathlib.Core.Path.{_≡_};
 ghost use mir.Syntax.{w8, w16, w32, w64};
-ghost use Rattle.lane.specs.Vector.{lanewise1};
+ghost use Rattle.operation.specs.Vector.{lanewise1};
 ghost use Rattle.lane.specs.Inner.Scalars.{shifted};
 use crate::V128;
 use crate::op;

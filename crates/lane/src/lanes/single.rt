@@ -4,7 +4,7 @@ ghost use mathlib.Core.Bool.{cond};
 ghost use Prim.Native.Nat.{_<_};
 ghost use lib.Dec.{eqb};
 ghost use mir.Syntax.{w8, w16, w32, w64};
-ghost use Rattle.lane.specs.Vector.{lane, vec};
+ghost use Rattle.operation.specs.Vector.{lane, vec};
 use crate::V128;
 use crate::vector::put8;
 use crate::vector::put16;

@@ -1,7 +1,7 @@
 // One value in every lane.
 ghost use mathlib.Core.Path.{_≡_};
 ghost use mir.Syntax.{w8, w16, w32, w64};
-ghost use Rattle.lane.specs.Op.{splat};
+ghost use Rattle.operation.specs.Op.{splat};
 use crate::V128;
 use crate::vector::put8;
 use crate::vector::put16;

@@ -1,7 +1,7 @@
 // Tests over all lanes: any bit, every lane, the sign of each lane.
 ghost use mathlib.Core.Path.{_≡_};
 ghost use mir.Syntax.{w8, w16, w32, w64};
-ghost use Rattle.lane.specs.Op.{AnyTrue, AllTrue, Bitmask, test};
+ghost use Rattle.operation.specs.Op.{AnyTrue, AllTrue, Bitmask, test};
 use crate::V128;
 use crate::vector::get8;
 use crate::vector::get16;

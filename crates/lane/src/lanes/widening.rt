@@ -2,7 +2,7 @@
 ghost use mathlib.Core.Path.{_≡_};
 ghost use Prim.Native.Nat.{_+_, _≤_};
 ghost use mir.Syntax.{w8, w16, w32, w64};
-ghost use Rattle.lane.specs.Vector.{lane, vec};
+ghost use Rattle.operation.specs.Vector.{lane, vec};
 ghost use Rattle.lane.specs.Inner.Scalars.{widened};
 use crate::V128;
 use crate::op;

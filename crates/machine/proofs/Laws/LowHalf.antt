@@ -9,8 +9,8 @@ use lib.IntN.{pos}
 use mir.Syntax.{Width, w8, w16, w32, w64, w128}
 use mir.Val.{bits}
 use Rattle.scalar.specs.Scalar.{wrap}
-use Rattle.lane.specs.Vector.{lane, vec}
-use Rattle.lane.specs.Op.{splat, replaced}
+use Rattle.operation.specs.Vector.{lane, vec}
+use Rattle.operation.specs.Op.{splat, replaced}
 
 module _ (w : Width) (narrow : bits w ≤ 32) (x : ℕ) where
   low-half : wrap w (pos (x % 2 ^ 32)) ≡ wrap w (pos x)

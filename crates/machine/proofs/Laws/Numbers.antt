@@ -7,8 +7,8 @@ use native.Mathlib.Omega.{arith}
 use lib.ListN.{replicate, length}
 use mir.Syntax.{Width, w8, w16, w32, w64, w128}
 use Rattle.scalar.specs.Scalar.{S}
-use Rattle.lane.specs.Vector.{le, lane, build}
-use Rattle.lane.specs.Op.{replaced, splat}
+use Rattle.operation.specs.Vector.{le, lane, build}
+use Rattle.operation.specs.Op.{replaced, splat}
 use Rattle.lane.specs.Answer.{extractLane, replaceLane}
 use Rattle.lane.specs.declared.answer.LaneAnswer.{LaneAnswer}
 use Rattle.lane.specs.declared.answer.VectorAnswer.{VectorAnswer}

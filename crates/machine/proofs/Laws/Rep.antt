@@ -13,7 +13,7 @@ use borrow.Author.Tests.{ltb-true, ltb-false}
 use lib.ListN.{length, getD}
 use mir.Syntax.{Width, w32, w64}
 use mir.Val.{bits}
-use Rattle.lane.specs.Vector.{number, le, lane, Sixteen}
+use Rattle.operation.specs.Vector.{number, le, lane, Sixteen}
 use Rattle.lane.proofs.Laws.Number.{Bytes, number-le}
 use Rattle.lane.proofs.Laws.Vectors.{sixteen-le}
 use Rattle.limits.specs.Limits.{slot, stackLimit, parameterLimit, localLimit}

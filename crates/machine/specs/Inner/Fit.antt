@@ -5,10 +5,10 @@ use mathlib.Core.Bool.{cond}
 use mathlib.Core.List.{List}
 use lib.Dec.{leb}
 use lib.ListN.{length}
-use Rattle.lane.specs.Shape.{lanes}
-use Rattle.lane.specs.Vector.{lane}
-use Rattle.lane.specs.Shape.{i8x16}
-use Rattle.lane.specs.Op.{Op, Load, LoadLane, Store, StoreLane, Const, Shuffle, Splat, ExtractLane, ReplaceLane, Unary, Binary, Bitselect, Test, Shift}
+use Rattle.operation.specs.Shape.{lanes}
+use Rattle.operation.specs.Vector.{lane}
+use Rattle.operation.specs.Shape.{i8x16}
+use Rattle.operation.specs.Op.{Op, Load, LoadLane, Store, StoreLane, Const, Shuffle, Splat, ExtractLane, ReplaceLane, Unary, Binary, Bitselect, Test, Shift}
 use Rattle.limits.specs.Limits.{stackLimit, stackBytes, localCount, localBytes}
 use Rattle.opcode.specs.Table.{Plain, End, Drop, LocalGet, LocalSet, LocalTee, I32Const, I64Const, I32Add, I32Sub, Code, plain, vector, carried}
 use Rattle.opcode.specs.Number.{rowOf}

@@ -5,9 +5,9 @@ use mathlib.Core.List.{List}
 use lib.ListN.{length, take}
 use mir.Syntax.{Width, w8, w16, w32, w64, w128}
 use Rattle.scalar.specs.Scalar.{iadd, isub}
-use Rattle.lane.specs.Shape.{i32x4, i64x2}
-use Rattle.lane.specs.Vector.{lane, le}
-use Rattle.lane.specs.Op.{Op, Load, LoadLane, Store, StoreLane, Const, Shuffle, Splat, ExtractLane, ReplaceLane, Unary, Binary, Bitselect, Test, Shift, unary, binary, bitselect, test, shift, splat, extracted, replaced, shuffled, loaded, laneIn, laneOut}
+use Rattle.operation.specs.Shape.{i32x4, i64x2}
+use Rattle.operation.specs.Vector.{lane, le}
+use Rattle.operation.specs.Op.{Op, Load, LoadLane, Store, StoreLane, Const, Shuffle, Splat, ExtractLane, ReplaceLane, Unary, Binary, Bitselect, Test, Shift, unary, binary, bitselect, test, shift, splat, extracted, replaced, shuffled, loaded, laneIn, laneOut}
 use Rattle.limits.specs.Limits.{slot, stackLimit, stackBytes}
 use Rattle.opcode.specs.Table.{End, Drop, LocalGet, LocalSet, LocalTee, I32Const, I64Const, I32Add, I32Sub, Plain, Code, plain, vector}
 use Rattle.opcode.specs.Immediate.{moved}

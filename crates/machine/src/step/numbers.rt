@@ -5,7 +5,7 @@ ghost use lib.ListN.{length};
 ghost use mir.Syntax.{w32};
 ghost use Rattle.limits.specs.Limits.{stackLimit, stackBytes, localBytes, localCount};
 ghost use Rattle.scalar.specs.Scalar.{iadd, isub};
-ghost use Rattle.lane.specs.Vector.{le};
+ghost use Rattle.operation.specs.Vector.{le};
 ghost use Rattle.machine.specs.Inner.Flat.{Holds, slotAt, putSlot, topOf, low32};
 use crate::slot;
 

@@ -1,7 +1,7 @@
 // The operations on two vectors.
 ghost use mathlib.Core.Path.{_≡_};
 ghost use Prim.Native.Nat.{_≤_, _<_};
-ghost use Rattle.lane.specs.Op.{Binop, Binary, binary};
+ghost use Rattle.operation.specs.Op.{Binop, Binary, binary};
 ghost use Rattle.opcode.specs.Table.{carried, vector};
 ghost use Rattle.opcode.specs.Number.{rowOf};
 ghost use Rattle.machine.specs.Inner.Flat.{Holds, topOf};

@@ -2,8 +2,8 @@
 ghost use mathlib.Core.Path.{_≡_};
 ghost use Prim.Native.Nat.{_<_};
 ghost use mir.Syntax.{Width};
-ghost use Rattle.lane.specs.Shape.{lanes};
-ghost use Rattle.lane.specs.Op.{Loadop, Load, LoadLane, StoreLane, loaded, laneIn, laneOut};
+ghost use Rattle.operation.specs.Shape.{lanes};
+ghost use Rattle.operation.specs.Op.{Loadop, Load, LoadLane, StoreLane, loaded, laneIn, laneOut};
 ghost use Rattle.opcode.specs.Table.{carried, vector};
 ghost use Rattle.opcode.specs.Number.{rowOf};
 use lane::V128;

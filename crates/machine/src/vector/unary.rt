@@ -1,6 +1,6 @@
 // The operations on one vector: lane by lane, to a number, and shifted.
 ghost use mathlib.Core.Path.{_≡_};
-ghost use Rattle.lane.specs.Op.{Unop, Testop, Shiftop, Unary, Test, Shift, unary, test, shift};
+ghost use Rattle.operation.specs.Op.{Unop, Testop, Shiftop, Unary, Test, Shift, unary, test, shift};
 ghost use Rattle.opcode.specs.Table.{carried, vector};
 ghost use Rattle.opcode.specs.Number.{rowOf};
 ghost use Rattle.machine.specs.Inner.Flat.{Holds, topOf, low32};

@@ -4,7 +4,7 @@ use Prim.Native.Nat.{ℕ, _*_, _<_, _^_}
 use mathlib.Core.Path.{_∙_, ap, ap₂, subst}
 use mathlib.Core.List.{List}
 use lib.Bits.{bitOr}
-use Rattle.lane.specs.Vector.{number, le, Sixteen}
+use Rattle.operation.specs.Vector.{number, le, Sixteen}
 use Rattle.lane.proofs.Laws.Number.{number-lt}
 use Rattle.lane.proofs.Laws.Bitwise.{select}
 use Rattle.lane.proofs.V128.bitselect.Statement.{statement}

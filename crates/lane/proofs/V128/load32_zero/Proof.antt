@@ -5,7 +5,7 @@ use mathlib.Core.Path.{_∙_, ap}
 use mathlib.Core.Bool.{cond}
 use lib.Dec.{eqb}
 use mir.Syntax.{w32}
-use Rattle.lane.specs.Vector.{vec}
+use Rattle.operation.specs.Vector.{vec}
 use Rattle.lane.proofs.V128.load32_zero.Statement.{statement}
 use Rattle.lane.proofs.V128.load32_zero.Tie as tie
 

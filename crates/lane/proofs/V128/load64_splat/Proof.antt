@@ -2,7 +2,7 @@
 use borrow.Author.Needs.{needs}
 use mathlib.Core.Path.{_∙_, ap}
 use mir.Syntax.{w64}
-use Rattle.lane.specs.Op.{splat}
+use Rattle.operation.specs.Op.{splat}
 use Rattle.lane.proofs.V128.load64_splat.Statement.{statement}
 use Rattle.lane.proofs.V128.load64_splat.Tie as tie
 

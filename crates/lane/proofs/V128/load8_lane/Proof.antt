@@ -3,7 +3,7 @@ use borrow.Author.Needs.{needs}
 use mathlib.Core.Path.{_∙_}
 use borrow.Author.Tests.{lt-ltb, le-ltb}
 use mir.Syntax.{w8}
-use Rattle.lane.specs.Op.{laneIn}
+use Rattle.operation.specs.Op.{laneIn}
 use Rattle.lane.proofs.Laws.Answers.{vector-in, vector-out, put-wrapped, wrapped-lane}
 use Rattle.lane.proofs.V128.load8_lane.Statement.{statement}
 use Rattle.lane.proofs.V128.load8_lane.Tie as tie

@@ -6,8 +6,8 @@ use mathlib.Core.Bool.{cond}
 use borrow.Author.Tests.{lt-ltb, le-ltb}
 use lib.Dec.{eqb}
 use mir.Syntax.{w16}
-use Rattle.lane.specs.Vector.{vec}
-use Rattle.lane.specs.Op.{laneOut}
+use Rattle.operation.specs.Vector.{vec}
+use Rattle.operation.specs.Op.{laneOut}
 use Rattle.lane.proofs.Laws.Answers.{vector-in, vector-out}
 use Rattle.lane.proofs.V128.store16_lane.Statement.{statement}
 use Rattle.lane.proofs.V128.store16_lane.Tie as tie

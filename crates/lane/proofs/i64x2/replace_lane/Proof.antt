@@ -4,7 +4,7 @@ use mathlib.Core.Path.{_∙_, sym}
 use borrow.Author.Tests.{lt-ltb, le-ltb}
 use mir.Syntax.{w64}
 use Rattle.scalar.proofs.Laws.Wrap.{wrap-nat}
-use Rattle.lane.specs.Op.{replaced}
+use Rattle.operation.specs.Op.{replaced}
 use Rattle.lane.proofs.Laws.Answers.{vector-in, vector-out, put-wrapped}
 use Rattle.lane.proofs.i64x2.replace_lane.Statement.{statement}
 use Rattle.lane.proofs.i64x2.replace_lane.Tie as tie

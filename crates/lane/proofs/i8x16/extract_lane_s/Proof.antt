@@ -4,8 +4,8 @@ use mathlib.Core.Path.{_∙_, ap}
 use mir.Syntax.{w8, w32}
 use Rattle.scalar.specs.Scalar.{iextend}
 use Rattle.scalar.specs.Scalar.{S}
-use Rattle.lane.specs.Shape.{i8x16}
-use Rattle.lane.specs.Op.{extracted}
+use Rattle.operation.specs.Shape.{i8x16}
+use Rattle.operation.specs.Op.{extracted}
 use Rattle.lane.proofs.Laws.Answers.{scalar-in, scalar-out}
 use Rattle.lane.proofs.i8x16.extract_lane_s.Statement.{statement}
 use Rattle.lane.proofs.i8x16.extract_lane_s.Tie as tie

@@ -3,7 +3,7 @@ use borrow.Author.Needs.{needs}
 use mathlib.Core.Path.{_∙_, refl}
 use borrow.Author.Tests.{lt-ltb, le-ltb}
 use mir.Syntax.{w8}
-use Rattle.lane.specs.Op.{replaced}
+use Rattle.operation.specs.Op.{replaced}
 use Rattle.lane.proofs.Laws.Answers.{vector-in, vector-out, put-wrapped}
 use Rattle.lane.proofs.i8x16.replace_lane.Statement.{statement}
 use Rattle.lane.proofs.i8x16.replace_lane.Tie as tie

@@ -1,7 +1,7 @@
 -- The bytes chosen, or LANE.
 use borrow.Author.Needs.{needs}
 use mathlib.Core.Path.{_∙_, sym}
-use Rattle.lane.specs.Op.{shuffled}
+use Rattle.operation.specs.Op.{shuffled}
 use Rattle.lane.proofs.Laws.Answers.{vector-in, vector-out}
 use Rattle.lane.proofs.i8x16.shuffle.Statement.{statement}
 use Rattle.lane.proofs.i8x16.shuffle.Tie as tie

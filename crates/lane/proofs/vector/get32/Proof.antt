@@ -1,7 +1,7 @@
 -- A lane of 32 bits is two of 16, the low one first.
 use native.Mathlib.Omega.{arith}
 use borrow.Author.Needs.{needs}
-use Rattle.lane.specs.Vector.{number, lane}
+use Rattle.operation.specs.Vector.{number, lane}
 use Rattle.lane.proofs.Laws.Number.{field-join}
 use Rattle.lane.proofs.vector.get32.Statement.{statement}
 use Rattle.lane.proofs.vector.get32.Tie as tie

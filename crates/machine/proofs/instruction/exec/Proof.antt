@@ -5,7 +5,7 @@ use mathlib.Core.Path.{refl, sym, _∙_, ap, subst}
 use native.Mathlib.Omega.{arith}
 use lib.Dec.{T}
 use lib.ListN.{length, take}
-use Rattle.lane.specs.Op.{Load, LoadLane, StoreLane, loaded, laneIn, laneOut}
+use Rattle.operation.specs.Op.{Load, LoadLane, StoreLane, loaded, laneIn, laneOut}
 use Rattle.opcode.specs.Immediate.{moved}
 use Rattle.opcode.specs.Lists.{_to_}
 use Rattle.opcode.proofs.Arms.{anyKey, missed}

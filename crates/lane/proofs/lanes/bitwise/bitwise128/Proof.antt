@@ -5,7 +5,7 @@ use mathlib.Core.List.{List}
 use native.Mathlib.Omega.{arith}
 use borrow.Author.Needs.{needs}
 use mir.Syntax.{w8}
-use Rattle.lane.specs.Vector.{number, lane, Sixteen}
+use Rattle.operation.specs.Vector.{number, lane, Sixteen}
 use Rattle.lane.specs.Inner.Scalars.{bitwise}
 use Rattle.lane.proofs.Laws.Build.{Built, built-none, built-more, built-all, build-same, build-fields, sixteen-zeros}
 use Rattle.lane.proofs.Laws.Number.{number-lt, fieldOf}

@@ -3,8 +3,8 @@ use borrow.Author.Needs.{needs}
 use mathlib.Core.Path.{_∙_, sym, ap}
 use mathlib.Core.Bool.{Bool, cond}
 use borrow.Author.Tests.{lt-ltb, le-ltb}
-use Rattle.lane.specs.Shape.{i8x16}
-use Rattle.lane.specs.Vector.{lane}
+use Rattle.operation.specs.Shape.{i8x16}
+use Rattle.operation.specs.Vector.{lane}
 use Rattle.lane.proofs.lanes.choosing.byte_or_0.Statement.{statement}
 use Rattle.lane.proofs.lanes.choosing.byte_or_0.Tie as tie
 

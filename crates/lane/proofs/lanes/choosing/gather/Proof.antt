@@ -6,8 +6,8 @@ use native.Mathlib.Omega.{arith}
 use borrow.Author.Needs.{needs}
 use borrow.Author.Tests.{ltb-true}
 use lib.Dec.{ltb}
-use Rattle.lane.specs.Shape.{i8x16}
-use Rattle.lane.specs.Vector.{lane}
+use Rattle.operation.specs.Shape.{i8x16}
+use Rattle.operation.specs.Vector.{lane}
 use Rattle.lane.proofs.Laws.Build.{Built, built-none, built-more, built-all, sixteen-zeros}
 use Rattle.lane.proofs.Laws.Scan.{all-each}
 use Rattle.lane.proofs.lanes.choosing.gather.Statement.{statement}

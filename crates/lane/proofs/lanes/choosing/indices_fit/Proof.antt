@@ -7,9 +7,9 @@ use native.Mathlib.Omega.{arith}
 use borrow.Author.Needs.{needs}
 use borrow.Author.Tests.{lt-ltb, le-ltb}
 use lib.Dec.{ltb}
-use Rattle.lane.specs.Shape.{i8x16}
-use Rattle.lane.specs.Vector.{lane}
-use Rattle.lane.specs.Op.{all}
+use Rattle.operation.specs.Shape.{i8x16}
+use Rattle.operation.specs.Vector.{lane}
+use Rattle.operation.specs.Op.{all}
 use Rattle.lane.proofs.Laws.Scan.{all-more, all-false}
 use Rattle.lane.proofs.lanes.choosing.indices_fit.Statement.{statement}
 use Rattle.lane.proofs.lanes.choosing.indices_fit.Tie as tie

@@ -3,9 +3,9 @@ use Prim.Native.Nat.{_≤_, _-_}
 use mathlib.Core.Path.{refl, _∙_, ap}
 use native.Mathlib.Omega.{arith}
 use borrow.Author.Needs.{needs}
-use Rattle.lane.specs.Shape.{i8x16}
-use Rattle.lane.specs.Vector.{lane}
-use Rattle.lane.specs.Op.{laneOr0}
+use Rattle.operation.specs.Shape.{i8x16}
+use Rattle.operation.specs.Vector.{lane}
+use Rattle.operation.specs.Op.{laneOr0}
 use Rattle.lane.proofs.Laws.Build.{Built, built-none, built-more, built-all, sixteen-zeros}
 use Rattle.lane.proofs.lanes.choosing.swizzle.Statement.{statement}
 use Rattle.lane.proofs.lanes.choosing.swizzle.Tie as tie

@@ -5,7 +5,7 @@ use mathlib.Core.List.{_++_}
 use native.Mathlib.Omega.{arith}
 use borrow.Author.Needs.{needs}
 use mir.Syntax.{w8, w16}
-use Rattle.lane.specs.Vector.{lane}
+use Rattle.operation.specs.Vector.{lane}
 use Rattle.lane.specs.Inner.Scalars.{narrowed}
 use Rattle.lane.proofs.Laws.Build.{Built, built-none, built-more, built-all, sixteen-zeros}
 use Rattle.lane.proofs.lanes.narrowing.narrow8.Statement.{statement}

@@ -4,7 +4,7 @@ use mathlib.Core.Path.{refl, _∙_, ap}
 use native.Mathlib.Omega.{arith}
 use borrow.Author.Needs.{needs}
 use mir.Syntax.{w64}
-use Rattle.lane.specs.Vector.{lane}
+use Rattle.operation.specs.Vector.{lane}
 use Rattle.lane.specs.Inner.Scalars.{shifted}
 use Rattle.lane.proofs.Laws.Build.{Built, built-none, built-more, built-all, sixteen-zeros}
 use Rattle.lane.proofs.lanes.shifting.shift64.Statement.{statement}

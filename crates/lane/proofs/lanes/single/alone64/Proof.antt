@@ -5,7 +5,7 @@ use mathlib.Core.Bool.{cond}
 use lib.Dec.{eqb}
 use lib.ListN.{replicate}
 use mir.Syntax.{w64}
-use Rattle.lane.specs.Vector.{lane}
+use Rattle.operation.specs.Vector.{lane}
 use Rattle.lane.proofs.Laws.Build.{build-same}
 use Rattle.lane.proofs.Laws.Lane.{lane-zeros}
 use Rattle.lane.proofs.lanes.single.alone64.Statement.{statement}

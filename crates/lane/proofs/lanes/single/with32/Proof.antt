@@ -2,7 +2,7 @@
 use borrow.Author.Needs.{needs}
 use mathlib.Core.Path.{_∙_, refl, subst}
 use native.Mathlib.Omega.{arith}
-use Rattle.lane.specs.Vector.{lane, Sixteen}
+use Rattle.operation.specs.Vector.{lane, Sixteen}
 use Rattle.lane.proofs.Laws.Replace.{put-lanes}
 use Rattle.lane.proofs.lanes.single.with32.Statement.{statement}
 use Rattle.lane.proofs.lanes.single.with32.Tie as tie

@@ -8,8 +8,8 @@ use borrow.Author.Needs.{needs}
 use borrow.Author.Tests.{eq-eqb, ne-eqb}
 use lib.Dec.{eqb}
 use mir.Syntax.{w64}
-use Rattle.lane.specs.Vector.{lane}
-use Rattle.lane.specs.Op.{all, truth}
+use Rattle.operation.specs.Vector.{lane}
+use Rattle.operation.specs.Op.{all, truth}
 use Rattle.lane.proofs.Laws.Scan.{all-more, all-false}
 use Rattle.lane.proofs.lanes.testing.all_true64.Statement.{statement}
 use Rattle.lane.proofs.lanes.testing.all_true64.Tie as tie

@@ -1,7 +1,7 @@
 -- The 128-bit number is zero where its two halves are.
 use borrow.Author.Needs.{needs}
 use Rattle.lane.proofs.Laws.Any.{some-low, some-high, none}
-use Rattle.lane.specs.Vector.{Sixteen}
+use Rattle.operation.specs.Vector.{Sixteen}
 use Rattle.lane.proofs.lanes.testing.any_true.Statement.{statement}
 use Rattle.lane.proofs.lanes.testing.any_true.Tie as tie
 

@@ -4,7 +4,7 @@ use mathlib.Core.Path.{refl, _∙_, ap₂}
 use native.Mathlib.Omega.{arith}
 use borrow.Author.Needs.{needs}
 use mir.Syntax.{w16, w32}
-use Rattle.lane.specs.Vector.{lane}
+use Rattle.operation.specs.Vector.{lane}
 use Rattle.lane.specs.Inner.Scalars.{widened}
 use Rattle.lane.proofs.Laws.Build.{Built, built-none, built-more, built-all, sixteen-zeros}
 use Rattle.lane.proofs.lanes.widening.widen32.Statement.{statement}

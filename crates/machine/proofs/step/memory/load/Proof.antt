@@ -2,7 +2,7 @@
 use borrow.Author.Needs.{needs}
 use mathlib.Core.Path.{_∙_, ap}
 use Prim.Native.Nat.{ℕ, _-_}
-use Rattle.lane.specs.Op.{loaded}
+use Rattle.operation.specs.Op.{loaded}
 use Rattle.machine.specs.Memory.{part, padded}
 use Rattle.machine.specs.Inner.Flat.{putSlot}
 use Rattle.machine.proofs.step.memory.load.Statement.{statement}

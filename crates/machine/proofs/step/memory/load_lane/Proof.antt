@@ -3,7 +3,7 @@ use borrow.Author.Needs.{needs}
 use mathlib.Core.Path.{_∙_, ap, ap₂}
 use mathlib.Core.List.{List}
 use Prim.Native.Nat.{ℕ, _-_}
-use Rattle.lane.specs.Op.{laneIn}
+use Rattle.operation.specs.Op.{laneIn}
 use Rattle.machine.specs.Memory.{part, padded}
 use Rattle.machine.specs.Inner.Flat.{putSlot}
 use Rattle.machine.proofs.step.memory.load_lane.Statement.{statement}

@@ -4,7 +4,7 @@ use mathlib.Core.Path.{_∙_, ap, ap₂}
 use mathlib.Core.List.{List}
 use Prim.Native.Nat.{ℕ}
 use lib.ListN.{take}
-use Rattle.lane.specs.Op.{laneOut}
+use Rattle.operation.specs.Op.{laneOut}
 use Rattle.machine.specs.Memory.{stored}
 use Rattle.machine.proofs.step.memory.store_lane.Statement.{statement}
 use Rattle.machine.proofs.step.memory.store_lane.Tie as tie

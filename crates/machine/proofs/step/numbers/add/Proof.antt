@@ -2,7 +2,7 @@
 use borrow.Author.Needs.{needs}
 use mathlib.Core.Path.{_∙_, ap, ap₂}
 use Prim.Native.Nat.{ℕ, _+_, _-_, _%_, _^_}
-use Rattle.lane.specs.Vector.{le}
+use Rattle.operation.specs.Vector.{le}
 use Rattle.machine.specs.Inner.Flat.{putSlot, low32}
 use Rattle.machine.proofs.step.numbers.add.Statement.{statement}
 use Rattle.machine.proofs.step.numbers.add.Tie as tie

@@ -6,7 +6,7 @@ use native.Mathlib.Omega.{arith}
 use mir.Syntax.{w32}
 use Rattle.scalar.specs.Scalar.{isub}
 use Rattle.scalar.proofs.Laws.Wrap.{wrap-minus}
-use Rattle.lane.specs.Vector.{le}
+use Rattle.operation.specs.Vector.{le}
 use Rattle.machine.specs.Inner.Flat.{putSlot, low32}
 use Rattle.machine.proofs.step.numbers.sub.Statement.{statement}
 use Rattle.machine.proofs.step.numbers.sub.Tie as tie

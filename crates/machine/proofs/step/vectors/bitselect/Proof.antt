@@ -3,7 +3,7 @@ use borrow.Author.Needs.{needs}
 use mathlib.Core.Path.{_∙_, ap, ap₂}
 use mathlib.Core.List.{List}
 use Prim.Native.Nat.{ℕ, _-_}
-use Rattle.lane.specs.Op.{bitselect}
+use Rattle.operation.specs.Op.{bitselect}
 use Rattle.machine.specs.Inner.Flat.{putSlot, topOf}
 use Rattle.machine.proofs.step.vectors.bitselect.Statement.{statement}
 use Rattle.machine.proofs.step.vectors.bitselect.Tie as tie

@@ -3,8 +3,8 @@ use borrow.Author.Needs.{needs}
 use mathlib.Core.Path.{_∙_, ap}
 use mathlib.Core.List.{List}
 use Prim.Native.Nat.{ℕ, _-_}
-use Rattle.lane.specs.Vector.{le}
-use Rattle.lane.specs.Op.{extracted}
+use Rattle.operation.specs.Vector.{le}
+use Rattle.operation.specs.Op.{extracted}
 use Rattle.machine.specs.Inner.Flat.{putSlot}
 use Rattle.machine.proofs.step.vectors.extract.Statement.{statement}
 use Rattle.machine.proofs.step.vectors.extract.Tie as tie

@@ -3,7 +3,7 @@ use borrow.Author.Needs.{needs}
 use mathlib.Core.Path.{_∙_, ap, ap₂}
 use mathlib.Core.List.{List}
 use Prim.Native.Nat.{ℕ, _-_}
-use Rattle.lane.specs.Op.{replaced}
+use Rattle.operation.specs.Op.{replaced}
 use Rattle.machine.specs.Inner.Flat.{putSlot, topOf, low64}
 use Rattle.machine.proofs.Laws.Numbers.{replaced-lowest}
 use Rattle.machine.proofs.step.vectors.replace.Statement.{statement}

@@ -3,7 +3,7 @@ use borrow.Author.Needs.{needs}
 use mathlib.Core.Path.{_∙_, ap, ap₂}
 use mathlib.Core.List.{List}
 use Prim.Native.Nat.{ℕ, _-_}
-use Rattle.lane.specs.Op.{shuffled}
+use Rattle.operation.specs.Op.{shuffled}
 use Rattle.machine.specs.Inner.Flat.{putSlot}
 use Rattle.lane.proofs.Laws.Vectors.{shuffle-value}
 use Rattle.machine.proofs.step.vectors.shuffle.Statement.{statement}

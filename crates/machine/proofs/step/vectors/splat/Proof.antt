@@ -2,7 +2,7 @@
 use borrow.Author.Needs.{needs}
 use mathlib.Core.Path.{_∙_, ap}
 use Prim.Native.Nat.{_-_}
-use Rattle.lane.specs.Op.{splat}
+use Rattle.operation.specs.Op.{splat}
 use Rattle.machine.specs.Inner.Flat.{putSlot, topOf, low64}
 use Rattle.machine.proofs.Laws.Numbers.{splat-lowest}
 use Rattle.machine.proofs.step.vectors.splat.Statement.{statement}

@@ -2,7 +2,7 @@
 use borrow.Author.Needs.{needs}
 use mathlib.Core.Path.{_∙_, ap}
 use Prim.Native.Nat.{_-_}
-use Rattle.lane.specs.Vector.{le}
+use Rattle.operation.specs.Vector.{le}
 use Rattle.machine.specs.Inner.Flat.{putSlot}
 use Rattle.machine.proofs.step.vectors.test.Statement.{statement}
 use Rattle.machine.proofs.step.vectors.test.Tie as tie

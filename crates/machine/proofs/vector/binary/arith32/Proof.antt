@@ -1,6 +1,6 @@
 -- Each operation of the range, arm by arm.
 use mathlib.Core.Path.{refl}
-use Rattle.lane.specs.Op.{binary}
+use Rattle.operation.specs.Op.{binary}
 use Rattle.opcode.specs.Table.{vectors, vectorAt, plainAt}
 use Rattle.opcode.specs.Number.{rowOf}
 use Rattle.machine.proofs.Rows.{binaries, on-two, past-between}

@@ -1,6 +1,6 @@
 -- Each lane taken out, arm by arm.
 use mathlib.Core.Path.{refl}
-use Rattle.lane.specs.Shape.{i8x16, i16x8, i32x4, i64x2}
+use Rattle.operation.specs.Shape.{i8x16, i16x8, i32x4, i64x2}
 use Rattle.lane.proofs.Laws.Vectors.{scalar-value}
 use Rattle.opcode.specs.Table.{vectors, vectorAt, plainAt}
 use Rattle.opcode.specs.Number.{rowOf}

@@ -2,7 +2,7 @@
 use mathlib.Core.Path.{refl, _∙_}
 use native.Mathlib.Omega.{arith}
 use lib.Dec.{lit≤}
-use Rattle.lane.specs.Shape.{i8x16, i16x8, i32x4}
+use Rattle.operation.specs.Shape.{i8x16, i16x8, i32x4}
 use Rattle.machine.proofs.Laws.LowHalf.{splat-low}
 use Rattle.opcode.specs.Table.{vectors, vectorAt, plainAt}
 use Rattle.opcode.specs.Number.{rowOf}

@@ -1,6 +1,6 @@
 -- Each shift, arm by arm.
 use mathlib.Core.Path.{refl}
-use Rattle.lane.specs.Op.{shift}
+use Rattle.operation.specs.Op.{shift}
 use Rattle.opcode.specs.Table.{vectors, vectorAt, plainAt}
 use Rattle.opcode.specs.Number.{rowOf}
 use Rattle.machine.proofs.Rows.{shifts, on-two, past-arms}

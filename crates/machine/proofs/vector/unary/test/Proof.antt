@@ -1,6 +1,6 @@
 -- Each test, arm by arm.
 use mathlib.Core.Path.{refl}
-use Rattle.lane.specs.Op.{test}
+use Rattle.operation.specs.Op.{test}
 use Rattle.opcode.specs.Table.{vectors, vectorAt, plainAt}
 use Rattle.opcode.specs.Number.{rowOf}
 use Rattle.machine.proofs.Rows.{tests, on-one, past-arms}

@@ -1,6 +1,6 @@
 -- Each operation on one vector, arm by arm.
 use mathlib.Core.Path.{refl}
-use Rattle.lane.specs.Op.{unary}
+use Rattle.operation.specs.Op.{unary}
 use Rattle.opcode.specs.Table.{vectors, vectorAt, plainAt}
 use Rattle.opcode.specs.Number.{rowOf}
 use Rattle.machine.proofs.Rows.{unaries, on-one, past-arms}

@@ -6,7 +6,7 @@ use mathlib.Core.Path.{_≡_}
 use lib.ListN.{length, getD}
 use mir.Syntax.{Width, w8}
 use mir.Val.{bits, bytes, Fits}
-use Rattle.lane.specs.Shape.{lanes}
+use Rattle.operation.specs.Shape.{lanes}
 
 -- the number that bytes are, the lowest first
 abbrev pub number : List ℕ → ℕ
