@@ -8,7 +8,10 @@ use borrow.Author.Tests.{lt-ltb, le-ltb}
 use Rattle.card.specs.Card.{SHORT, LANE}
 use Rattle.leb128.specs.Number.{numberAt}
 use Rattle.leb128.specs.declared.read.Leb.{Leb}
+use Rattle.instr.specs.Layout.{head}
 use Rattle.instr.specs.Decode.{got, no, itemOf, numberItem, byteAt, laneAt}
+use Rattle.instr.specs.Inner.Version.{rowBy, bodyBy, opcodeBy, decodeBy}
+use Rattle.instr.specs.declared.version.Version.{Version}
 
 module _ (s : List ℕ) where
   pub number-item : (sign : Bool) (N p : ℕ) (r : Leb) → numberAt sign N s p ≡ r → numberItem sign N s p ≡ itemOf (length s) p r
@@ -36,3 +39,9 @@ module _ (s : List ℕ) where
       pub lane-cut : length s ≤ p → laneAt n s p ≡ no SHORT (length s)
       unfolding laneAt
       lane-cut h = rw (byte-cut h)
+
+-- a byte and a number were read
+pub decode-body : (ver : Version) (s : List ℕ) (at : ℕ) → at < length s → (n p : ℕ) → opcodeBy ver (getD s at 0) s (at + 1) ≡ got n p
+    → decodeBy ver s at ≡ bodyBy ver (rowBy ver (getD s at 0) n) s at p (head (getD s at 0) n)
+unfolding decodeBy
+decode-body ver s at l n p o = rw (byte-there s at l, o)

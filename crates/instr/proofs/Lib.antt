@@ -11,6 +11,7 @@ pub mod Classes
 pub mod Items
 pub mod Numbers
 pub mod Memory
+pub mod Onward
 pub mod Over
 pub mod Named
 pub mod Sixteens

@@ -25,7 +25,8 @@ use Rattle.instr.specs.declared.Decoded.{Decoded}
 use Rattle.instr.specs.declared.Scanned.{Scanned}
 use Rattle.instr.specs.declared.version.Version.{Version}
 use Rattle.instr.proofs.Classes.{AllBut, decoded, other-class, memory-class}
-use Rattle.instr.proofs.Items.{byte-there}
+use Rattle.instr.proofs.Items.{decode-body}
+use Rattle.instr.proofs.Onward.{Onward, number-onward, exponent-onward, lane-onward, lanes-onward, sixteen-onward}
 use Rattle.instr.proofs.Numbers.{number-there, number-32}
 use Rattle.card.specs.Card as card
 
@@ -55,64 +56,30 @@ module _ (ver : Version) (r : Row) (s : List ℕ) (at p : ℕ) where
         (λ c. rw (eq-eqb class 5 (f ∙ c)) (over-class memoryLane c))
         (memory-class r (subst (AllBut decoded) f o) (omega (arith, f)))
 
--- ---- what is kept is a number of 32 bits, and the next place lies behind
-
-abbrev After : ℕ → Item → Type 0
-After at (got v q) = at ≤ q
-After at (no c l) = Unit {0}
+-- ---- what is kept is a number of 32 bits, and the next place is not before this one
 
 abbrev Fits : ℕ → Item → Type 0
 Fits at (got v q) = (v < 2 ^ 32) × (at ≤ q)
 Fits at (no c l) = Unit {0}
 
 module _ (at : ℕ) where
-  over-fits : (i : Item) → After at i → Fits at (over i)
+  over-fits : (i : Item) → Onward at i → Fits at (over i)
   over-fits (got v q) h = (omega arith, h)
   over-fits (no c l) h = tt
 
-  cond-after : (t : Bool) (v q c l : ℕ) → at ≤ q → After at (cond t (got v q) (no c l))
-  cond-after true v q c l h = h
-  cond-after false v q c l h = tt
-
-  read-after : (i : Item) (f : ℕ → ℕ → Item) → After at i → ((v q : ℕ) → at ≤ q → After at (f v q)) → After at (andRead i f)
-  read-after (got v q) f h g = g v q h
-  read-after (no c l) f h g = tt
-
-  read-fits : (i : Item) (f : ℕ → ℕ → Item) → After at i → ((v q : ℕ) → at ≤ q → Fits at (f v q)) → Fits at (andRead i f)
+  read-fits : (i : Item) (f : ℕ → ℕ → Item) → Onward at i → ((v q : ℕ) → at ≤ q → Fits at (f v q)) → Fits at (andRead i f)
   read-fits (got v q) f h g = g v q h
   read-fits (no c l) f h g = tt
 
   module _ (ver : Version) (s : List ℕ) where
-    number-after : (sign : Bool) (N p : ℕ) → at ≤ p → After at (numberBy ver sign N s p)
-    number-after sign N p h = by (numberBy ver sign N s p) refl
-      where
-        by : (i : Item) → numberBy ver sign N s p ≡ i → After at i
-        by (got v q) e = omega (arith, number-there ver sign N s p v q e .2)
-        by (no c l) e = tt
-
-    exponent-after : (m p : ℕ) → at ≤ p → After at (exponentBy ver m s p)
-    unfolding exponentBy
-    exponent-after m p h = read-after (numberBy ver false 32 s p) _ (number-after false 32 p h) (λ a q l. cond-after (leb (2 ^ a) m) a q card.ALIGN p l)
-
-    lane-after : (n p : ℕ) → at ≤ p → After at (laneAt n s p)
-    unfolding laneAt byteAt
-    lane-after n p h =
-        read-after (cond (ltb p (length s)) (got (getD s p 0) (p + 1)) (no SHORT (length s))) _ (cond-after (ltb p (length s)) (getD s p 0) (p + 1) SHORT (length s) (omega arith))
-        (λ b q l. cond-after (ltb b n) b q LANE p l)
-
-    lanes-after : (k p : ℕ) → at ≤ p → After at (lanesAt k s p)
-    unfolding lanesAt
-    lanes-after zero p h = h
-    lanes-after (suc k) p h = read-after (laneAt 32 s p) _ (lane-after 32 p h) (λ b q l. lanes-after k q l)
-
     memory-fits : (laned : Bool) (m n p : ℕ) → at ≤ p → Fits at (overMemory ver laned m n s p)
     unfolding overMemory
     memory-fits laned m n p h =
-        read-fits (exponentBy ver m s p) _ (exponent-after m p h) (λ a q l.
-        read-fits (numberBy ver false 32 s q) _ (number-after false 32 q l) (λ o r k. by laned r k))
+        read-fits (exponentBy ver m s p) _ (exponent-onward at ver s m p h) (λ a q l.
+        read-fits (numberBy ver false 32 s q) _ (number-onward at ver s false 32 q l) (λ o r k. by laned r k))
       where
         by : (t : Bool) (r : ℕ) → at ≤ r → Fits at (cond t (over (laneAt n s r)) (got 0 r))
-        by true r k = over-fits (laneAt n s r) (lane-after n r k)
+        by true r k = over-fits (laneAt n s r) (lane-onward at s n r k)
         by false r k = (omega arith, k)
 
     module _ (b : bytes s) (p : ℕ) (h : at ≤ p) where
@@ -124,17 +91,16 @@ module _ (at : ℕ) where
           by (no c l) e = tt
 
       class-fits : (k : Immediates) (m n : ℕ) → Fits at (overClass ver k m n s p)
-      unfolding overClass sixteenAt
+      unfolding overClass
       class-fits nothing m n = (omega arith, h)
       class-fits index m n = index-fits
-      class-fits word m n = over-fits (numberBy ver true 32 s p) (number-after true 32 p h)
-      class-fits long m n = over-fits (numberBy ver true 64 s p) (number-after true 64 p h)
+      class-fits word m n = over-fits (numberBy ver true 32 s p) (number-onward at ver s true 32 p h)
+      class-fits long m n = over-fits (numberBy ver true 64 s p) (number-onward at ver s true 64 p h)
       class-fits memory m n = memory-fits false m n p h
       class-fits memoryLane m n = memory-fits true m n p h
-      class-fits laneIndex m n = over-fits (laneAt n s p) (lane-after n p h)
-      class-fits sixteenBytes m n =
-          over-fits (cond (leb (p + 16) (length s)) (got 0 (p + 16)) (no SHORT (length s))) (cond-after (leb (p + 16) (length s)) 0 (p + 16) SHORT (length s) (omega arith))
-      class-fits sixteenLanes m n = over-fits (lanesAt 16 s p) (lanes-after 16 p h)
+      class-fits laneIndex m n = over-fits (laneAt n s p) (lane-onward at s n p h)
+      class-fits sixteenBytes m n = over-fits (sixteenAt s p) (sixteen-onward at s p h)
+      class-fits sixteenLanes m n = over-fits (lanesAt 16 s p) (lanes-onward at s 16 p h)
 
       row-fits : (r : Row) → Fits at (overRow ver r s at p)
       unfolding overRow
@@ -200,13 +166,7 @@ module _ (ver : Version) (s : List ℕ) (at p first n : ℕ) (l : first < 256) w
   unfolding rowBy
   scan-body = scan-either (eqb first PREFIX && leb (ver .vectors) n)
 
--- a byte and a number were read
-pub decode-body : (ver : Version) (s : List ℕ) (at : ℕ) → at < length s → (n p : ℕ) → opcodeBy ver (getD s at 0) s (at + 1) ≡ got n p
-    → decodeBy ver s at ≡ bodyBy ver (rowBy ver (getD s at 0) n) s at p (head (getD s at 0) n)
-unfolding decodeBy
-decode-body ver s at l n p o = rw (byte-there s at l, o)
-
--- and the rest
+-- a byte, a number and the rest were read
 pub scanned : (ver : Version) (s : List ℕ) (at : ℕ) → at < length s → bytes s → (n p : ℕ) → opcodeBy ver (getD s at 0) s (at + 1) ≡ got n p
     → (e : ℕ) → e ≡ entryOf (rowBy ver (getD s at 0) n) → (i : Item) → overRow ver (rowBy ver (getD s at 0) n) s at p ≡ i → answered at e i ≡ scanOf (decodeBy ver s at)
 scanned ver s at l b n p o e is i t =

@@ -1,6 +1,7 @@
 // Instructions decoded, and what was decoded encoded again. Three lines a case: the answer and the instruction; the answer and the buffer,
 // EE where nothing was written; what scanning answers, the kinds that the table has for it, and the id that fetching tells. stdout was
-// worked out from documents 01 and 002 by a decoder and an encoder written for that in another language, with no use of this code.
+// worked out from documents 01 and 002 by a decoder and an encoder written for that in another language, its kinds by the table of bench/,
+// with no use of this code.
 use instr::Fetched;
 use instr::Instr;
 use instr::Scanned;

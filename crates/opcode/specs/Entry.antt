@@ -1,11 +1,14 @@
--- A row of the table as one number of eight bytes, its entry, and what each of its bytes says.
+-- A row of the table as one number of eight bytes, its entry: the class, the bytes moved, the lanes and the group, a byte each, then the four
+-- of the signature. And the parts of any such number.
 use Prim.Native.Nat.{ℕ, _+_, _*_, _/_, _%_, _^_}
+use mathlib.Core.List.{[], _∷_}
+use Rattle.operation.specs.Vector.{number}
 use Rattle.opcode.specs.Table.{Row}
 use Rattle.opcode.specs.Immediate.{movedBy, lanesOf}
 use Rattle.opcode.specs.Number.{classOf, groupOf, effectOf}
 
 abbrev pub entryOf : Row → ℕ
-entryOf r = classOf r + 2 ^ 8 * movedBy r + 2 ^ 16 * lanesOf r + 2 ^ 24 * groupOf r + 2 ^ 32 * effectOf r
+entryOf r = number (classOf r ∷ movedBy r ∷ lanesOf r ∷ groupOf r ∷ []) + 2 ^ 32 * effectOf r
 
 abbrev pub classIn : ℕ → ℕ
 classIn e = e % 2 ^ 8

@@ -9,9 +9,8 @@ use Rattle.opcode.proofs.Classes.{row-moved-small}
 use Rattle.opcode.proofs.Entries.{moved-in}
 use Rattle.instr.specs.Fetch.{fetchOf}
 use Rattle.instr.specs.Inner.Version.{item, decodeBy}
-use Rattle.instr.proofs.Items.{byte-there, byte-cut}
+use Rattle.instr.proofs.Items.{byte-there, byte-cut, decode-body}
 use Rattle.instr.proofs.Numbers.{opcode-there}
-use Rattle.instr.proofs.Over.{decode-body}
 use Rattle.instr.proofs.Named.{Named, body-named, fetched}
 use Rattle.instr.proofs.decoding.fetch_by.Statement.{statement}
 use Rattle.instr.proofs.decoding.fetch_by.Tie as tie
@@ -63,7 +62,7 @@ body-requires c κs =
 not-found-requires-2 : tie.Need-not-found-requires-2
 not-found-requires-2 c κs =
     let is = c .before .before .body .ensures _ (c .before .before .before .entry .ensures ∙ ap entryOf (c .before .before .before .before .id-by .ensures)) in
-    subst (Named _) (sym is) (body-named _ _ _ _ _ _ _ (c .before .before .before .before .before .before .before .before .before .before .before .shared-slice-known .given _ .fits) (c .before .before .before .before .id-by .ensures)) .1 (c .if2 .taken)
+    subst (Named _) (sym is) (body-named _ _ _ _ _ _ _ (c .before .before .before .before .before .before .before .before .before .before .before .shared-slice-known .given _ .fits) (c .before .before .before .before .id-by .ensures)) .untold (c .if2 .taken)
 
 returns-2 : tie.Need-returns-2
 returns-2 c =
@@ -83,7 +82,7 @@ returns-3 : tie.Need-returns-3
 returns-3 c =
     let is = c .before .before .body .ensures _ (c .before .before .before .entry .ensures ∙ ap entryOf (c .before .before .before .before .id-by .ensures)) in
     let named = subst (Named _) (sym is) (body-named _ _ _ _ _ _ _ (c .before .before .before .before .before .before .before .before .before .before .before .shared-slice-known .given _ .fits) (c .before .before .before .before .id-by .ensures)) in
-    fetched _ _ _ (named .0 (c .if2 .left)) (c .before .before .before .entry .ensures) ∙ ap fetchOf (is ∙ sym (decode-body _ _ _ (c .before .before .before .before .before .before .before .before .before .before .if1 .left) _ _ (sym (c .before .before .before .before .before .before .before .before .opcode-number .ensures) ∙ ap item (c .before .before .before .before .before .before .n .given .1))))
+    fetched _ _ _ (named .told (c .if2 .left)) (c .before .before .before .entry .ensures) ∙ ap fetchOf (is ∙ sym (decode-body _ _ _ (c .before .before .before .before .before .before .before .before .before .before .if1 .left) _ _ (sym (c .before .before .before .before .before .before .before .before .opcode-number .ensures) ∙ ap item (c .before .before .before .before .before .before .n .given .1))))
 
 returns-4 : tie.Need-returns-4
 unfolding decodeBy
