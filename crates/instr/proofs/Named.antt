@@ -17,7 +17,6 @@ use Rattle.instr.specs.Decode.{refusal, Item, got, no, andThen, laneAt, 
 use Rattle.instr.specs.Fetch.{fetchOf}
 use Rattle.instr.specs.Inner.Version.{numberBy, exponentBy, immediatesBy, rowBy, bodyBy}
 use Rattle.instr.specs.declared.Decoded.{Decoded}
-use Rattle.instr.specs.declared.Fetched.{Fetched}
 use Rattle.instr.specs.declared.version.Version.{Version}
 use Rattle.instr.proofs.Onward.{Onward, number-onward, exponent-onward, lane-onward, lanes-onward, sixteen-onward}
 

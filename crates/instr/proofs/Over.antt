@@ -1,14 +1,14 @@
 -- Scanning goes over what decoding reads, and answers the same.
-use Prim.Native.Nat.{ℕ, zero, suc, _+_, _-_, _<_, _≤_, _^_}
+use Prim.Native.Nat.{ℕ, _+_, _-_, _<_, _≤_, _^_}
 use mathlib.Core.Bool.{Bool, true, false, cond, _&&_}
 use mathlib.Core.List.{List}
 use mathlib.Core.Logic.{⊎-elim}
 use mathlib.Core.Path.{_≡_, refl, sym, ap, subst, _∙_}
 use native.Mathlib.Omega.{arith}
-use lib.Dec.{ltb, leb, eqb}
+use lib.Dec.{leb, eqb}
 use lib.ListN.{length, getD}
 use borrow.Author.Tests.{eq-eqb, ne-eqb}
-use Rattle.card.specs.Card.{DONE, SHORT, OPCODE, LANE}
+use Rattle.card.specs.Card.{DONE, OPCODE}
 use Rattle.leb128.specs.Bytes.{bytes}
 use Rattle.opcode.specs.Table.{Row, carried, float, unassigned, PREFIX, rowAt}
 use Rattle.opcode.specs.Immediate.{Immediates, nothing, index, word, long, memory, memoryLane, laneIndex, sixteenBytes, sixteenLanes, immediates, movedBy, lanesOf}
@@ -17,7 +17,7 @@ use Rattle.opcode.specs.Entry.{entryOf}
 use Rattle.opcode.proofs.Id.{row-of-id}
 use Rattle.opcode.proofs.Classes.{class-carried, class-float}
 use Rattle.instr.specs.Layout.{Head, head}
-use Rattle.instr.specs.Decode.{refusal, Item, got, no, andThen, andRead, byteAt, laneAt, lanesAt, sixteenAt, immediatesAt}
+use Rattle.instr.specs.Decode.{refusal, Item, got, no, andThen, andRead, laneAt, lanesAt, sixteenAt, immediatesAt}
 use Rattle.instr.specs.Scan.{scanOf}
 use Rattle.instr.specs.Inner.Version.{numberBy, exponentBy, immediatesBy, rowBy, bodyBy, opcodeBy, decodeBy}
 use Rattle.instr.specs.Inner.Over.{over, overMemory, overClass, overRow}
@@ -27,7 +27,7 @@ use Rattle.instr.specs.declared.version.Version.{Version}
 use Rattle.instr.proofs.Classes.{AllBut, decoded, other-class, memory-class}
 use Rattle.instr.proofs.Items.{decode-body}
 use Rattle.instr.proofs.Onward.{Onward, number-onward, exponent-onward, lane-onward, lanes-onward, sixteen-onward}
-use Rattle.instr.proofs.Numbers.{number-there, number-32}
+use Rattle.instr.proofs.Numbers.{number-32}
 use Rattle.card.specs.Card as card
 
 -- ---- by the class of the row

@@ -10,17 +10,22 @@ use Rattle.opcode.specs.Number.{classOf, groupOf, effectOf}
 abbrev pub entryOf : Row → ℕ
 entryOf r = number (classOf r ∷ movedBy r ∷ lanesOf r ∷ groupOf r ∷ []) + 2 ^ 32 * effectOf r
 
+-- byte k of a number
+abbrev pub byteIn : ℕ → ℕ → ℕ
+byteIn k e = e / 2 ^ (8 * k) % 2 ^ 8
+
 abbrev pub classIn : ℕ → ℕ
-classIn e = e % 2 ^ 8
+classIn = byteIn 0
 
 abbrev pub movedIn : ℕ → ℕ
-movedIn e = e / 2 ^ 8 % 2 ^ 8
+movedIn = byteIn 1
 
 abbrev pub lanesIn : ℕ → ℕ
-lanesIn e = e / 2 ^ 16 % 2 ^ 8
+lanesIn = byteIn 2
 
 abbrev pub groupIn : ℕ → ℕ
-groupIn e = e / 2 ^ 24 % 2 ^ 8
+groupIn = byteIn 3
 
+-- bytes 4 to 7
 abbrev pub effectIn : ℕ → ℕ
 effectIn e = e / 2 ^ 32

@@ -1,7 +1,7 @@
 -- The four groups that touch the memory.
 use borrow.Author.Needs.{needs}
 use Prim.Native.Nat.{ℕ}
-use mathlib.Core.Path.{_≡_, _∙_, ap, ap₂, subst}
+use mathlib.Core.Path.{_≡_, _∙_, ap₂, subst}
 use native.Mathlib.Omega.{arith}
 use lib.Dec.{T}
 use Rattle.opcode.specs.Lists.{_to_}
