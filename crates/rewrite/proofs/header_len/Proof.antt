@@ -2,7 +2,7 @@
 use borrow.Author.Needs.{needs}
 use mathlib.Core.Path.{sym}
 use native.Mathlib.Omega.{arith}
-use Rattle.rewrite.proofs.Strips.{header-length}
+use Rattle.rules.proofs.Strips.{header-length}
 use Rattle.rewrite.proofs.header_len.Statement.{statement}
 use Rattle.rewrite.proofs.header_len.Tie as tie
 

@@ -1,6 +1,6 @@
 -- Counted, then no room or all written.
 use borrow.Author.Needs.{needs}
-use Rattle.rewrite.proofs.Strips.{valid-holds, header-counts}
+use Rattle.rules.proofs.Strips.{valid-holds, header-counts}
 use Rattle.rewrite.proofs.Room.{ready-to-count, too-small, header-fits, ready-to-write, all-written}
 use Rattle.rewrite.proofs.shorten.Statement.{statement}
 use Rattle.rewrite.proofs.shorten.Tie as tie

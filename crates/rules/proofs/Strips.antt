@@ -9,13 +9,13 @@ use Rattle.opcode.specs.Kind.{Kind, kindByte}
 use Rattle.instr.specs.declared.Instr.{Instr}
 use Rattle.instr.proofs.Stands.{stands-once}
 use Rattle.instr.proofs.Ranges.{stands-some, stands-inside}
 use Rattle.rules.specs.Header.{Header, Declares, headerBytes, kinds, locals}
 use Rattle.rules.specs.Strip.{Valid}
 use Rattle.rules.specs.Breach.{Breach, Says, valid, breach}
 use Rattle.rules.proofs.Headers.{declares-once}
 use Rattle.rules.proofs.Onward.{Onward, here, next, from-front, declared}
 use Rattle.rules.proofs.Verdicts.{breach-coded}
-use Rattle.rewrite.specs.Rewrite.{Instructions, no-more, one-more, Consists}
+use Rattle.rules.specs.Consists.{Instructions, no-more, one-more, Consists}
 
 pub instructions-once : {s : List ℕ} {p : ℕ} {is js : List Instr} → Instructions s p is → Instructions s p js → is ≡ js
 instructions-once (no-more e) (no-more f) = refl
