@@ -27,9 +27,10 @@ use Rattle.rules.specs.Header.{Header, Declares, locals, kinds}
 use Rattle.rules.specs.Strip.{Reads, Reaches, front, past, Valid}
 use Rattle.rules.specs.Breach.{At, Breach, local, operand, deep, result, trailing, Says, breach}
 use Rattle.checker.specs.Check.{Checked}
-use Rattle.checker.specs.Inner.Kinds.{Holds, Compares}
-use Rattle.checker.specs.Inner.Judging.{Judges, no-local, untyped, too-deep, typed}
+use Rattle.checker.specs.Walk.{Holds, Judges, no-local, untyped, too-deep, typed}
+use Rattle.checker.specs.Inner.Kinds.{Compares}
 use Rattle.checker.specs.Inner.Parts.{Headed, Counts, Begins, AtEnd}
+use Rattle.checker.proofs.Held.{becomes-holds}
 use Rattle.checker.proofs.Fronts.{Says-so}
 use Rattle.checker.proofs.Refusals.{refused-breach}
 
@@ -161,41 +162,41 @@ module _ {s : List ℕ} {n r : ℕ} {kinds : List ℕ} {depth at : ℕ} (w : Goi
       here : At s (w .header) at (w .stack) (read s at) (coded .0)
       here = record { reached = w .reached; size = d .len; reads = coded .1 }
 
-      module _ {after : List ℕ} where
-        breaks-of : {code depth′ : ℕ} → Judges (locals (w .header)) (read s at .index) (coded .0) (w .stack) after code depth′ → (code ≡ DONE → ⊥) → Breach s code at
-        breaks-of (no-local names f) z = local here names f
-        breaks-of (untyped declared f) z = operand here not-end declared f
-        breaks-of (too-deep t big) z = deep here t big
-        breaks-of (typed t small g) z = absurd (z refl)
+      breaks-of : {code depth′ : ℕ} {after : List ℕ} → Judges (locals (w .header)) (read s at .index) (coded .0) (w .stack) kinds code depth′ after → (code ≡ DONE → ⊥)
+          → Breach s code at
+      breaks-of (no-local names f) z = local here names f
+      breaks-of (untyped declared f) z = operand here not-end declared f
+      breaks-of (too-deep t big) z = deep here t big
+      breaks-of (typed t small g) z = absurd (z refl)
 
-        goes-of : {code depth′ : ℕ} → Judges (locals (w .header)) (read s at .index) (coded .0) (w .stack) after code depth′ → code ≡ DONE → length after ≡ stackLimit
-            → Going s n r after depth′ (at + d .len)
-        goes-of (no-local names f) z l = absurd (let no : ⊥ = omega arith in no)
-        goes-of (untyped declared f) z l = absurd (let no : ⊥ = omega arith in no)
-        goes-of (too-deep t big) z l = absurd (let no : ⊥ = omega arith in no)
-        goes-of (typed t small g) z l =
-            record {
-              header = w .header;
-              counts = w .counts;
-              stack = _;
-              holds = g;
-              reached = past (w .reached) (coded .1) t small;
-              most = omega (arith, g .many);
-              long = l;
-            }
+      goes-of : {code depth′ : ℕ} {after : List ℕ} → Judges (locals (w .header)) (read s at .index) (coded .0) (w .stack) kinds code depth′ after → code ≡ DONE
+          → length after ≡ stackLimit → Going s n r after depth′ (at + d .len)
+      goes-of (no-local names f) z l = absurd (let no : ⊥ = omega arith in no)
+      goes-of (untyped declared f) z l = absurd (let no : ⊥ = omega arith in no)
+      goes-of (too-deep t big) z l = absurd (let no : ⊥ = omega arith in no)
+      goes-of (typed t small g) z l =
+          record {
+            header = w .header;
+            counts = w .counts;
+            stack = _;
+            holds = becomes-holds g;
+            reached = past (w .reached) (coded .1) t small;
+            most = omega (arith, g .many);
+            long = l;
+          }
 
-        module _ {code depth′ : ℕ}
-            (j : (c : Code) (ls κs : List Kind) → d .entry ≡ entryOf (carried c) → (c ≡ plain End → ⊥) → Holds (drop 8 s) n ls → Holds kinds depth κs → Judges ls (d .index) c κs after code depth′) where
-          judgement : Judges (locals (w .header)) (read s at .index) (coded .0) (w .stack) after code depth′
-          judgement =
-              subst (λ (x : ℕ). Judges (locals (w .header)) x (coded .0) (w .stack) after code depth′) (ap (λ (x : Scanned). x .index) is)
-              (j (coded .0) (locals (w .header)) (w .stack) its-entry not-end (holds-locals (w .counts)) (w .holds))
+      module _ {after : List ℕ} {code depth′ : ℕ}
+          (j : (c : Code) (ls κs : List Kind) → d .entry ≡ entryOf (carried c) → (c ≡ plain End → ⊥) → Holds (drop 8 s) n ls → Holds kinds depth κs → Judges ls (d .index) c κs kinds code depth′ after) where
+        judgement : Judges (locals (w .header)) (read s at .index) (coded .0) (w .stack) kinds code depth′ after
+        judgement =
+            subst (λ (x : ℕ). Judges (locals (w .header)) x (coded .0) (w .stack) kinds code depth′ after) (ap (λ (x : Scanned). x .index) is)
+            (j (coded .0) (locals (w .header)) (w .stack) its-entry not-end (holds-locals (w .counts)) (w .holds))
 
-          pub breaks : (code ≡ DONE → ⊥) → Breach s code at
-          breaks = breaks-of judgement
+        pub breaks : (code ≡ DONE → ⊥) → Breach s code at
+        breaks = breaks-of judgement
 
-          pub goes : code ≡ DONE → length after ≡ stackLimit → Going s n r after depth′ (at + d .len)
-          goes = goes-of judgement
+        pub goes : code ≡ DONE → length after ≡ stackLimit → Going s n r after depth′ (at + d .len)
+        goes = goes-of judgement
 
 -- ---- after `end`
 

@@ -4,6 +4,8 @@ mod header;
 mod stack;
 mod typing;
 
+pub use stack::Judged;
+pub use typing::judge;
 ghost use mathlib.Core.Path.{_≡_};
 ghost use Rattle.checker.specs.Check.{Checked};
 use card::Answer;
