@@ -1,3 +1,4 @@
+pub mod Ascii
 pub mod Kind
 pub mod Table
 pub mod Immediate
