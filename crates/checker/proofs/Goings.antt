@@ -11,14 +11,14 @@ use Rattle.card.specs.declared.Answer.{Answer}
 use Rattle.limits.specs.Limits.{fileLimit, stackLimit}
 use Rattle.leb128.specs.Bytes.{bytes}
 use Rattle.opcode.specs.Kind.{Kind, kindByte}
-use Rattle.opcode.specs.Table.{End, Code, plain, Row, carried, float, unassigned}
+use Rattle.opcode.specs.Table.{End, Code, plain, carried}
 use Rattle.opcode.specs.Entry.{entryOf, groupIn}
 use Rattle.opcode.proofs.Id.{row-of-id}
 use Rattle.opcode.proofs.Entries.{group-in}
 use Rattle.opcode.proofs.Groups.{by-group}
 use Rattle.instr.specs.declared.Instr.{Instr}
 use Rattle.instr.specs.declared.Scanned.{Scanned}
-use Rattle.instr.specs.Layout.{Allowed, rowIn, Stands}
+use Rattle.instr.specs.Layout.{Stands}
 use Rattle.instr.specs.Decode.{decodeAt}
 use Rattle.instr.specs.Scan.{scanOf}
 use Rattle.instr.proofs.Stands.{decoded-stands}
@@ -26,6 +26,7 @@ use Rattle.instr.proofs.Ranges.{stands-some, stands-inside, end-first, end-one}
 use Rattle.rules.specs.Header.{Header, Declares, locals, kinds}
 use Rattle.rules.specs.Strip.{Reads, Reaches, front, past, Valid}
 use Rattle.rules.specs.Breach.{At, Breach, local, operand, deep, result, trailing, Says, breach}
+use Rattle.rules.proofs.Onward.{reads-of}
 use Rattle.checker.specs.Check.{Checked}
 use Rattle.checker.specs.Walk.{Holds, Judges, no-local, untyped, too-deep, typed}
 use Rattle.checker.specs.Inner.Kinds.{Compares}
@@ -111,12 +112,6 @@ starts {s} kinds l b =
       long = l;
     }
 
-row-carried : (w : Row) (i : Instr) → Allowed w i → (c : Code) × (w ≡ carried c)
-unfolding Allowed
-row-carried (carried c) i a = (c, refl)
-row-carried float i a = absurd a
-row-carried unassigned i a = absurd a
-
 -- the instruction at a place
 abbrev read : List ℕ → ℕ → Instr
 read s at = decodeAt s at .instr
@@ -133,7 +128,7 @@ module _ {s : List ℕ} {n r : ℕ} {kinds : List ℕ} {depth at : ℕ} (w : Goi
 
     -- the code that was read
     pub coded : (c : Code) × Reads s at (read s at) c (d .len)
-    coded = let c = row-carried (rowIn (read s at)) (read s at) (stands .allowed) in (c .0, record { stands = stands; does = c .1 })
+    coded = reads-of stands
 
     pub moves : (0 < d .len) × (at + d .len ≤ length s) × (length s ≤ fileLimit)
     moves = (stands-some stands, stands-inside stands, w .counts .declares .sized)
