@@ -1,0 +1,46 @@
+-- Inner: the parts of a line.
+use Prim.Native.Nat.{ℕ, zero, suc, _<_, _≤_}
+use mathlib.Core.Path.{_≡_}
+use mathlib.Core.Bool.{cond}
+use mathlib.Core.List.{List, [], _∷_, _++_}
+use lib.Dec.{eqb}
+use lib.ListN.{length, getD}
+use Rattle.limits.specs.Limits.{stackLimit}
+use Rattle.text.specs.Words.{blank}
+use Rattle.opcode.specs.Kind.{i32, i64, v128, kindByte, kindName}
+use Rattle.opcode.specs.Table.{Code, carried}
+use Rattle.opcode.specs.Number.{idOf, nameOf}
+use Rattle.opcode.specs.Entry.{entryOf}
+use Rattle.instr.specs.declared.Instr.{Instr}
+use Rattle.instr.specs.Layout.{rowIn, Typed}
+use Rattle.listing.specs.Line.{mnemonic}
+use Rattle.listing.specs.Walk.{longest}
+
+-- each word with a blank before it
+unfoldable pub led : List (List ℕ) → List ℕ
+led [] = []
+led (w ∷ ws) = (blank ∷ w) ++ led ws
+
+-- the name of the kind with this byte
+abbrev pub kindText : ℕ → List ℕ
+kindText b = cond (eqb b (kindByte i32)) (kindName i32) (cond (eqb b (kindByte i64)) (kindName i64) (kindName v128))
+
+-- before the k-th kind
+abbrev pub between : ℕ → List ℕ
+between zero = []
+between (suc k) = blank ∷ []
+
+-- no letter is 0, which stands after the last
+abbrev pub Lettered : List ℕ → Type 0
+Lettered xs = (k : ℕ) → k < length xs → 0 < getD xs k 0
+
+-- an instruction that was fetched, as a line shows it
+pub record Shows (kinds : List ℕ) (depth id entry : ℕ) (i : Instr) (room : ℕ) : Type 0 where
+  pub held : depth ≤ length kinds
+  pub most : depth ≤ stackLimit
+  pub typed : Typed i
+  pub code : Code
+  pub row : rowIn i ≡ carried code
+  pub id-is : id ≡ idOf (i .first) (i .number)
+  pub entry-is : entry ≡ entryOf (carried code)
+  pub room : longest ≤ room
