@@ -1,14 +1,20 @@
--- One step of the check's walk, for those who follow it: kinds as the code holds them, a byte each, the bottom first, and what an
+-- The check's walk, for those who follow it: where it begins, and one step: kinds as the code holds them, a byte each, the bottom first, and what an
 -- instruction makes of them, by the card's lines 12, 13 and 14.
-use Prim.Native.Nat.{ℕ, _≤_, _<_}
+use Prim.Native.Nat.{ℕ, _+_, _≤_, _<_}
 use mathlib.Core.Path.{_≡_}
+use mathlib.Core.Bool.{cond}
 use mathlib.Core.List.{List, _++_, map}
-use lib.ListN.{length, drop}
+use lib.Dec.{ltb}
+use lib.ListN.{length, getD, drop}
 use Rattle.card.specs.Card.{DONE, LOCAL, OPERAND, DEEP}
 use Rattle.limits.specs.Limits.{stackLimit}
 use Rattle.opcode.specs.Kind.{Kind, kindByte}
 use Rattle.opcode.specs.Table.{Code}
 use Rattle.rules.specs.Typing.{Local, Types, Names}
+
+-- where the instructions begin: the counts stand after mark and version, a kind byte for each after them; 8 of what has no counts
+unfoldable pub startOf : List ℕ → ℕ
+startOf s = cond (ltb (length s) 8) 8 (8 + getD s 5 0 + getD s 6 0 + getD s 7 0)
 
 -- the bytes begin with these kinds, n of them
 pub record Holds (bytes : List ℕ) (n : ℕ) (κs : List Kind) : Type 0 where

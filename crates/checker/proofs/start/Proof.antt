@@ -1,10 +1,15 @@
 -- Each count is a byte.
 use borrow.Author.Needs.{needs}
-use mathlib.Core.Path.{sym}
+use borrow.Author.Tests.{lt-ltb, le-ltb}
 use native.Mathlib.Omega.{arith}
-use Rattle.rules.proofs.Strips.{header-length}
-use Rattle.rewrite.proofs.header_len.Statement.{statement}
-use Rattle.rewrite.proofs.header_len.Tie as tie
+use lib.ListN.{length}
+use Rattle.checker.specs.Walk.{startOf}
+use Rattle.checker.proofs.start.Statement.{statement}
+use Rattle.checker.proofs.start.Tie as tie
+
+returns : tie.Need-returns
+unfolding startOf
+returns c = rw (lt-ltb (length (c .before .args .strip .now)) 8 (c .if1 .taken))
 
 shared-slice-read-result : tie.Need-shared-slice-read-result
 shared-slice-read-result c = search needs
@@ -33,13 +38,17 @@ cast-result-3 c = omega (arith, c .shared-slice-known3 .given 7 .fits)
 add-result-3 : tie.Need-add-result-3
 add-result-3 c = omega (arith, c .before .before .shared-slice-known .given 5 .fits, c .before .shared-slice-known2 .given 6 .fits, c .shared-slice-known3 .given 7 .fits)
 
-returns : tie.Need-returns
-returns c = λ h d. sym (header-length d)
+returns-2 : tie.Need-returns-2
+unfolding startOf
+returns-2 c =
+    let a = c .before .before .before in
+    rw (le-ltb (length (a .before .args .strip .now)) 8 (a .if1 .left))
 
-pub header-len-spec : {M : Type 1} → statement M
-header-len-spec =
+pub start-spec : {M : Type 1} → statement M
+start-spec =
     tie.close
     (tie.spec
+    returns
     shared-slice-read-result
     cast-result
     add-result
@@ -49,4 +58,4 @@ header-len-spec =
     shared-slice-read-result-3
     cast-result-3
     add-result-3
-    returns)
+    returns-2)
