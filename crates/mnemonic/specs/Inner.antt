@@ -1,0 +1,2 @@
+-- What only contracts inside the crate cite; no promise to a user does.
+pub mod Row
