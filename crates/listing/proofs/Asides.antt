@@ -1,10 +1,9 @@
 -- What is left of a line with its place aside: the words after the place, to the line's end.
 use Prim.Native.Nat.{ℕ}
 use mathlib.Core.Path.{_≡_, refl, ap, _∙_}
-use mathlib.Core.Bool.{true, false, not}
+use mathlib.Core.Bool.{Bool, true, false, not}
 use mathlib.Core.List.{List, [], _∷_, _++_, map, append-assoc}
 use borrow.Author.Tests.{ne-eqb}
-use lib.Dec.{eqb}
 use Rattle.text.specs.Decimal.{decimal, spelled}
 use Rattle.text.specs.Words.{blank, newline, joined, Without}
 use Rattle.opcode.specs.Kind.{Kind}
@@ -18,11 +17,12 @@ unplaced κs i = joined (bracketed κs ∷ mnemonic i ∷ map spelled (immediate
 
 pub place-passed : (xs more : List ℕ) → Without blank xs → asideFrom true (xs ++ blank ∷ more) ≡ asideFrom false more
 place-passed [] more p = refl
-place-passed (x ∷ xs) more p = rw (ne-eqb x blank (p .0)) (place-passed xs more (p .1))
+place-passed (x ∷ xs) more p = ap (λ (t : Bool). asideFrom (not t) (xs ++ blank ∷ more)) (ne-eqb x blank (p .0)) ∙ place-passed xs more (p .1)
 
 pub line-kept : (xs more : List ℕ) → Without newline xs → asideFrom false (xs ++ newline ∷ more) ≡ xs ++ newline ∷ asideFrom true more
 line-kept [] more p = refl
-line-kept (x ∷ xs) more p = rw (ne-eqb x newline (p .0)) (ap (λ (l : List ℕ). x ∷ l) (line-kept xs more (p .1)))
+line-kept (x ∷ xs) more p =
+    ap (λ (t : Bool). x ∷ asideFrom t (xs ++ newline ∷ more)) (ne-eqb x newline (p .0)) ∙ ap (λ (l : List ℕ). x ∷ l) (line-kept xs more (p .1))
 
 module _ (p : ℕ) (κs : List Kind) (i : Instr) (more : List ℕ) where
   parted : line p κs i ++ more ≡ decimal p ++ blank ∷ (unplaced κs i ++ newline ∷ more)

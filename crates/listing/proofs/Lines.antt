@@ -25,10 +25,10 @@ pub lines-once : {s : List ℕ} {h : Header} {p : ℕ} {x y : List ℕ} → Line
 lines-once (no-more e) (no-more f) = refl
 lines-once (no-more e) (one-more r w l) = absurd (no-room e w)
 lines-once (one-more r w l) (no-more e) = absurd (no-room e w)
-lines-once {s} {h} {p} (one-more {n = n} {κs = κs} {i = i} r w l) (one-more {n = m} {κs = λs} {i = j} {text = y} r′ w′ l′) =
+lines-once {s} {h} {p} (one-more {n = n} {κs = κs} {i = i} {text = x} r w l) (one-more {n = m} {κs = λs} {i = j} {text = y} r′ w′ l′) =
     let same = stands-once s p i j n m w w′ in
     let rest = lines-once l (subst (λ (k : ℕ). Lines s h (p + k) y) (sym (same .1)) l′) in
-    ap₂ (λ (ks : List Kind) (a : Instr). line p ks a ++ _) (reached-once r r′) (same .0) ∙ ap (λ (z : List ℕ). line p λs j ++ z) rest
+    ap₂ (λ (ks : List Kind) (a : Instr). line p ks a ++ x) (reached-once r r′) (same .0) ∙ ap (λ (z : List ℕ). line p λs j ++ z) rest
 
 pub listing-once : {s x y : List ℕ} → Listing s x → Listing s y → x ≡ y
 listing-once {s} {y = y} a b =

@@ -7,17 +7,16 @@ ghost use lib.IntN.{pos};
 ghost use lib.ListN.{length};
 ghost use Rattle.text.specs.Decimal.{decimal, spelled};
 ghost use Rattle.text.specs.Words.{blank};
-ghost use Rattle.text.specs.Append.{Appends};
 ghost use Rattle.leb128.specs.Bits.{integer};
 ghost use Rattle.opcode.specs.Number.{classOf};
 ghost use Rattle.instr.specs.Layout.{rowIn};
 ghost use Rattle.listing.specs.Line.{immediates as Line·immediates};
-ghost use Rattle.listing.specs.Inner.Parts.{led};
+ghost use Rattle.listing.specs.Inner.Parts.{led, Adds};
 use instr::Instr;
 
 pub(crate) fn immediates(class: u8, i: Instr, out: &mut [u8], at: usize) -> usize
     requires { ⌜ (class ≡ classOf (rowIn i)) × (at + 336 ≤ length (now out)) ⌝ }
-    ensures { λ r. ⌜ Appends (led (map spelled (Line·immediates i))) (now (out .entry)) at r (now (out .exit)) ⌝ }
+    ensures { λ r. ⌜ Adds 336 (led (map spelled (Line·immediates i))) (now (out .entry)) at r (now (out .exit)) ⌝ }
 {
     match class {
         opcode::INDEX => number(i.index as u64, out, at),
@@ -47,7 +46,7 @@ pub(crate) fn immediates(class: u8, i: Instr, out: &mut [u8], at: usize) -> usiz
 
 fn number(n: u64, out: &mut [u8], at: usize) -> usize
     requires { ⌜ at + 21 ≤ length (now out) ⌝ }
-    ensures { λ r. ⌜ Appends (blank ∷ decimal n) (now (out .entry)) at r (now (out .exit)) ⌝ }
+    ensures { λ r. ⌜ Adds 21 (blank ∷ decimal n) (now (out .entry)) at r (now (out .exit)) ⌝ }
 {
     let to = text::push(b' ', out, at);
     text::decimal(n, out, to)
@@ -56,7 +55,7 @@ fn number(n: u64, out: &mut [u8], at: usize) -> usize
 // The bits of an s32.
 fn word(v: u32, out: &mut [u8], at: usize) -> usize
     requires { ⌜ at + 21 ≤ length (now out) ⌝ }
-    ensures { λ r. ⌜ Appends (blank ∷ spelled (integer true 32 v)) (now (out .entry)) at r (now (out .exit)) ⌝ }
+    ensures { λ r. ⌜ Adds 21 (blank ∷ spelled (integer true 32 v)) (now (out .entry)) at r (now (out .exit)) ⌝ }
 {
     let to = text::push(b' ', out, at);
     let z = scalar::sign::signed32(v);
@@ -66,7 +65,7 @@ fn word(v: u32, out: &mut [u8], at: usize) -> usize
 // Those of an s64.
 fn long(v: u64, out: &mut [u8], at: usize) -> usize
     requires { ⌜ at + 21 ≤ length (now out) ⌝ }
-    ensures { λ r. ⌜ Appends (blank ∷ spelled (integer true 64 v)) (now (out .entry)) at r (now (out .exit)) ⌝ }
+    ensures { λ r. ⌜ Adds 21 (blank ∷ spelled (integer true 64 v)) (now (out .entry)) at r (now (out .exit)) ⌝ }
 {
     let to = text::push(b' ', out, at);
     text::signed(scalar::sign::signed64(v), out, to)
@@ -74,7 +73,7 @@ fn long(v: u64, out: &mut [u8], at: usize) -> usize
 
 fn bytes(b: [u8; 16], out: &mut [u8], at: usize) -> usize
     requires { ⌜ at + 336 ≤ length (now out) ⌝ }
-    ensures { λ r. ⌜ Appends (led (map spelled (map pos b))) (now (out .entry)) at r (now (out .exit)) ⌝ }
+    ensures { λ r. ⌜ Adds 336 (led (map spelled (map pos b))) (now (out .entry)) at r (now (out .exit)) ⌝ }
 {
     let mut to = at;
     let mut k: usize = 0;

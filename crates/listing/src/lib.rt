@@ -6,7 +6,6 @@ mod stack;
 ghost use Prim.Native.Nat.{_≤_};
 ghost use mathlib.Core.Path.{_≡_};
 ghost use lib.ListN.{length};
-ghost use Rattle.rules.specs.Header.{Header, Declares, headerBytes};
 ghost use Rattle.rules.specs.Strip.{Valid};
 ghost use Rattle.listing.specs.Listing.{answer, Lists};
 ghost use Rattle.listing.specs.Walk.{longest, Walks, Walked};
@@ -75,7 +74,7 @@ fn pass(strip: &[u8], out: &mut [u8]) -> usize
     let mut kinds = [0u8; limits::STACK];
     let mut text = [0u8; LONGEST];
     let mut depth = 0;
-    let mut at = first_place(strip);
+    let mut at = checker::start(strip);
     let mut to = 0;
     while at < strip.len() {
         let n = next_line(strip, at, &mut kinds, depth, &mut text);
@@ -86,14 +85,6 @@ fn pass(strip: &[u8], out: &mut [u8]) -> usize
         at = n.at;
     }
     to
-}
-
-// The counts stand after mark and version, a kind byte for each after them. 0 of what is no strip.
-pub fn first_place(strip: &[u8]) -> usize
-    requires { ⌜ 8 ≤ length (now strip) ⌝ }
-    ensures { λ r. ⌜ ((h : Header) → Declares (now (strip .entry)) h → r ≡ length (headerBytes h)) ⌝ }
-{
-    8 + strip[5] as usize + strip[6] as usize + strip[7] as usize
 }
 
 // The line of the instruction at a place that the walk over a strip has reached; then the walk stands after it.

@@ -9,7 +9,7 @@ ghost use Rattle.opcode.specs.Kind.{Kind};
 ghost use Rattle.opcode.specs.Number.{nameOf};
 ghost use Rattle.checker.specs.Walk.{Holds};
 ghost use Rattle.listing.specs.Line.{line as Line·line};
-ghost use Rattle.listing.specs.Inner.Parts.{Lettered, Shows};
+ghost use Rattle.listing.specs.Inner.Parts.{Lettered, Adds, Shows};
 use crate::immediates::immediates;
 use crate::stack::stack;
 use instr::Instr;
@@ -37,7 +37,7 @@ pub(crate) fn line(
 // The place and the blank after it.
 fn place(at: usize, out: &mut [u8]) -> usize
     requires { ⌜ 21 ≤ length (now out) ⌝ }
-    ensures { λ r. ⌜ Appends (decimal at ++ blank ∷ []) (now (out .entry)) 0 r (now (out .exit)) ⌝ }
+    ensures { λ r. ⌜ Adds 21 (decimal at ++ blank ∷ []) (now (out .entry)) 0 r (now (out .exit)) ⌝ }
 {
     let to = text::decimal(at as u64, out, 0);
     text::push(b' ', out, to)
@@ -45,8 +45,8 @@ fn place(at: usize, out: &mut [u8]) -> usize
 
 // Letter by letter: there is none after the last.
 fn name(id: u32, out: &mut [u8], at: usize) -> usize
-    requires { ⌜ Lettered (nameOf id) × (at + length (nameOf id) ≤ length (now out)) ⌝ }
-    ensures { λ r. ⌜ Appends (nameOf id) (now (out .entry)) at r (now (out .exit)) ⌝ }
+    requires { ⌜ Lettered (nameOf id) × (at + 32 ≤ length (now out)) ⌝ }
+    ensures { λ r. ⌜ Adds 32 (nameOf id) (now (out .entry)) at r (now (out .exit)) ⌝ }
 {
     let mut to = at;
     let mut k: usize = 0;

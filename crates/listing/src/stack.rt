@@ -3,16 +3,15 @@ ghost use Prim.Native.Nat.{_+_, _*_, _≤_};
 ghost use mathlib.Core.Path.{_≡_};
 ghost use mathlib.Core.List.{List, _++_};
 ghost use lib.ListN.{length};
-ghost use Rattle.text.specs.Append.{Appends};
 ghost use Rattle.opcode.specs.Kind.{Kind, kindByte, kindName};
 ghost use Rattle.checker.specs.Walk.{Holds};
 ghost use Rattle.listing.specs.Line.{bracketed};
-ghost use Rattle.listing.specs.Inner.Parts.{kindText, between};
+ghost use Rattle.listing.specs.Inner.Parts.{kindText, between, Adds};
 use opcode::kind as kinds_of;
 
 pub(crate) fn stack(kinds: &[u8], depth: usize, out: &mut [u8], at: usize) -> usize
     requires { ⌜ (depth ≤ length (now kinds)) × (at + 5 * depth + 2 ≤ length (now out)) ⌝ }
-    ensures { λ r. ⌜ ((κs : List Kind) → Holds (now (kinds .entry)) depth κs → Appends (bracketed κs) (now (out .entry)) at r (now (out .exit))) ⌝ }
+    ensures { λ r. ⌜ ((κs : List Kind) → Holds (now (kinds .entry)) depth κs → Adds (5 * depth + 2) (bracketed κs) (now (out .entry)) at r (now (out .exit))) ⌝ }
 {
     let mut to = text::push(b'[', out, at);
     let mut k: usize = 0;
@@ -26,7 +25,7 @@ pub(crate) fn stack(kinds: &[u8], depth: usize, out: &mut [u8], at: usize) -> us
 // A kind, after a blank if it is not the first.
 fn next(k: usize, b: u8, out: &mut [u8], at: usize) -> usize
     requires { ⌜ at + 5 ≤ length (now out) ⌝ }
-    ensures { λ r. ⌜ Appends (between k ++ kindText b) (now (out .entry)) at r (now (out .exit)) ⌝ }
+    ensures { λ r. ⌜ Adds 5 (between k ++ kindText b) (now (out .entry)) at r (now (out .exit)) ⌝ }
 {
     if k == 0 {
         return kind(b, out, at);
@@ -37,7 +36,7 @@ fn next(k: usize, b: u8, out: &mut [u8], at: usize) -> usize
 
 fn kind(b: u8, out: &mut [u8], at: usize) -> usize
     requires { ⌜ at + 4 ≤ length (now out) ⌝ }
-    ensures { λ r. ⌜ Appends (kindText b) (now (out .entry)) at r (now (out .exit)) ⌝ }
+    ensures { λ r. ⌜ Adds 4 (kindText b) (now (out .entry)) at r (now (out .exit)) ⌝ }
 {
     if b == kinds_of::I32 {
         return text::put(b"i32", out, at);

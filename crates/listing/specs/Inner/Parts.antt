@@ -7,6 +7,7 @@ use lib.Dec.{eqb}
 use lib.ListN.{length, getD}
 use Rattle.limits.specs.Limits.{stackLimit}
 use Rattle.text.specs.Words.{blank}
+use Rattle.text.specs.Append.{Appends}
 use Rattle.opcode.specs.Kind.{i32, i64, v128, kindByte, kindName}
 use Rattle.opcode.specs.Table.{Code, carried}
 use Rattle.opcode.specs.Number.{idOf, nameOf}
@@ -30,9 +31,15 @@ abbrev pub between : ℕ → List ℕ
 between zero = []
 between (suc k) = blank ∷ []
 
--- no letter is 0, which stands after the last
-abbrev pub Lettered : List ℕ → Type 0
-Lettered xs = (k : ℕ) → k < length xs → 0 < getD xs k 0
+-- a name: at most 32 letters, none of them 0, which stands after the last
+pub record Lettered (xs : List ℕ) : Type 0 where
+  pub few : length xs ≤ 32
+  pub letters : (k : ℕ) → k < length xs → 0 < getD xs k 0
+
+-- a text of at most so many bytes, from a place on
+pub record Adds (most : ℕ) (text out : List ℕ) (at next : ℕ) (out′ : List ℕ) : Type 0 where
+  pub short : length text ≤ most
+  pub appends : Appends text out at next out′
 
 -- an instruction that was fetched, as a line shows it
 pub record Shows (kinds : List ℕ) (depth id entry : ℕ) (i : Instr) (room : ℕ) : Type 0 where
@@ -43,4 +50,4 @@ pub record Shows (kinds : List ℕ) (depth id entry : ℕ) (i : Instr) (room : �
   pub row : rowIn i ≡ carried code
   pub id-is : id ≡ idOf (i .first) (i .number)
   pub entry-is : entry ≡ entryOf (carried code)
-  pub room : longest ≤ room
+  pub enough : longest ≤ room
