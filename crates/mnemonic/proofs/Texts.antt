@@ -16,11 +16,9 @@ use Rattle.opcode.specs.Table.{unassigned, _is_, name, lines, vectorName, plain
 use Rattle.opcode.specs.Number.{nameOf}
 use Rattle.opcode.specs.Lists.{upFrom}
 use Rattle.opcode.proofs.Every.{every, below, below-or-past}
+use Rattle.mnemonic.specs.Inner.Block.{texts}
 use Rattle.mnemonic.specs.Inner.Row.{rowOfName}
 use Rattle.mnemonic.proofs.Letters.{Letters, letters, are-letters}
-
-unfoldable pub texts : List String
-texts = map name lines ++ map (λ l. l .1) plainLines
 
 abbrev pub rowName : ℕ → List ℕ
 rowName r = ascii (getD texts r "")
@@ -31,7 +29,7 @@ abbrev textOf : ℕ → String
 textOf id = cond (ltb id 256) (plainName id) (vectorName (id - 256))
 
 found : T (every (λ id. eqt (getD texts (rowOfName id) "") (textOf id)) (upFrom 0 512))
-unfolding texts rowOfName plainName vectorName
+unfolding rowOfName plainName vectorName
 found = tt
 
 pub vector-nameless : (n : ℕ) → 256 ≤ n → vectorName n ≡ ""
@@ -45,7 +43,7 @@ nameless id h =
     rw (le-ltb id 256 past) (vector-nameless (id - 256) far)
 
 rowless : (id : ℕ) → 512 ≤ id → getD texts (rowOfName id) "" ≡ ""
-unfolding texts rowOfName
+unfolding rowOfName
 rowless id h = let past : 256 ≤ id = omega arith in simp (le-ltb id 256 past, le-ltb id 512 h)
 
 pub name-in-row : (id : ℕ) → rowName (rowOfName id) ≡ nameOf id
@@ -67,7 +65,6 @@ all [] = true
 all (t ∷ ts) = named t && all ts
 
 all-named : T (all texts)
-unfolding texts
 all-named = tt
 
 one-named : (ts : List String) → T (all ts) → (r : ℕ) → T (named (getD ts r ""))
