@@ -71,16 +71,20 @@ module _ {s : List ℕ} {n r : ℕ} {h : Header} (k : Counts s n r h) where
       }
 
 -- the counts stand in the header
-opening : {s : List ℕ} {h : Header} → Declares s h → Begins s (8 + (getD s 5 0 + getD s 6 0) + getD s 7 0) (getD s 5 0 + getD s 6 0) (getD s 7 0)
-opening {s} {h} d =
+pub counted : {s : List ℕ} {h : Header} → Declares s h → Counts s (getD s 5 0 + getD s 6 0) (getD s 7 0) h
+counted {s} {h} d =
     let p : getD s 5 0 ≡ length (h .parameters) = ap (λ (x : List ℕ). getD x 5 0) (d .bytes) in
     let l : getD s 6 0 ≡ length (h .further) = ap (λ (x : List ℕ). getD x 6 0) (d .bytes) in
     let r : getD s 7 0 ≡ length (h .results) = ap (λ (x : List ℕ). getD x 7 0) (d .bytes) in
-    let ls = length-append (h .parameters) (h .further) in
+    record { declares = d; locals-are = omega (arith, length-append (h .parameters) (h .further)); results-are = sym r }
+
+opening : {s : List ℕ} {h : Header} → Declares s h → Begins s (8 + (getD s 5 0 + getD s 6 0) + getD s 7 0) (getD s 5 0 + getD s 6 0) (getD s 7 0)
+opening {h = h} d =
+    let k = counted d in
     record {
       header = h;
-      counts = record { declares = d; locals-are = omega arith; results-are = sym r };
-      start-is = omega (arith, length-map (kinds h) kindByte, length-append (locals h) (h .results));
+      counts = k;
+      start-is = omega (arith, length-map (kinds h) kindByte, length-append (locals h) (h .results), k .locals-are, k .results-are);
     }
 
 pub headed-opens : {s : List ℕ} {r : Answer} → Headed s r → r .code ≡ DONE → Begins s (8 + (getD s 5 0 + getD s 6 0) + getD s 7 0) (getD s 5 0 + getD s 6 0) (getD s 7 0)

@@ -3,3 +3,5 @@ pub mod Asides
 pub mod Fields
 pub mod Parts
 pub mod Shown
+pub mod Chain
+pub mod Walking

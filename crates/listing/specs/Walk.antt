@@ -16,7 +16,7 @@ use Rattle.listing.specs.declared.Next.{Next}
 
 -- no line is longer
 abbrev pub longest : ℕ
-longest = 5 * stackLimit + 394
+longest = 5 * stackLimit + 393
 
 -- the walk over a strip that keeps every rule stands at p: the array holds the kinds that are on the stack there
 pub record Walks (s : List ℕ) (p : ℕ) (kinds : List ℕ) (depth : ℕ) : Type 0 where

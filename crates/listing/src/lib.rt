@@ -26,7 +26,7 @@ pub struct Next {
 
 // Room for any line: 20 digits of the place, the kinds in their brackets, 32 bytes of name, sixteen numbers of 21 bytes with the blanks before
 // them, two blanks more and the line's end.
-pub const LONGEST: usize = 5 * limits::STACK + 394;
+pub const LONGEST: usize = 5 * limits::STACK + 393;
 
 pub fn list(strip: &[u8], out: &mut [u8]) -> Listed
     ensures { λ r. ⌜ Lists (now (strip .entry)) (now (out .entry)) r (now (out .exit)) ⌝ }

@@ -8,13 +8,13 @@ use lib.ListN.{length, getD}
 use Rattle.limits.specs.Limits.{stackLimit}
 use Rattle.text.specs.Words.{blank}
 use Rattle.text.specs.Append.{Appends}
-use Rattle.opcode.specs.Kind.{i32, i64, v128, kindByte, kindName}
+use Rattle.opcode.specs.Kind.{Kind, i32, i64, v128, kindByte, kindName}
 use Rattle.opcode.specs.Table.{Code, carried}
-use Rattle.opcode.specs.Number.{idOf, nameOf}
+use Rattle.opcode.specs.Number.{idOf}
 use Rattle.opcode.specs.Entry.{entryOf}
 use Rattle.instr.specs.declared.Instr.{Instr}
 use Rattle.instr.specs.Layout.{rowIn, Typed}
-use Rattle.listing.specs.Line.{mnemonic}
+use Rattle.checker.specs.Walk.{Holds}
 use Rattle.listing.specs.Walk.{longest}
 
 -- each word with a blank before it
@@ -43,7 +43,8 @@ pub record Adds (most : ℕ) (text out : List ℕ) (at next : ℕ) (out′ : Lis
 
 -- an instruction that was fetched, as a line shows it
 pub record Shows (kinds : List ℕ) (depth id entry : ℕ) (i : Instr) (room : ℕ) : Type 0 where
-  pub held : depth ≤ length kinds
+  pub stack : List Kind
+  pub holds : Holds kinds depth stack
   pub most : depth ≤ stackLimit
   pub typed : Typed i
   pub code : Code

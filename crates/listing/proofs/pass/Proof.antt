@@ -1,0 +1,85 @@
+use Rattle.listing.proofs.pass.Statement.{statement}
+use Rattle.listing.proofs.pass.Tie as tie
+use Rattle.listing.proofs.pass.Reads as reads
+use Rattle.listing.proofs.pass.Lts as lts
+use Rattle.checker.proofs.start.Reads as start-reads
+use Rattle.listing.proofs.next_line.Reads as next-line-reads
+use Rattle.text.proofs.put.Reads as put-reads
+
+abbrev Inv-loop : tie.InvT-loop
+Inv-loop strip out₀ kinds₀ text₀ depth₀ at₀ to₀ out kinds text depth at to = ?
+
+abbrev μ-loop : tie.MeasureT-loop
+μ-loop strip out₀ kinds₀ text₀ depth₀ at₀ to₀ out kinds text depth at to = ?
+
+-- src/lib.rt:77:9
+start-requires : tie.Need-start-requires Inv-loop μ-loop
+start-requires c κs = ?
+
+-- src/lib.rt:79:5
+loop-holds : tie.Need-loop-holds Inv-loop μ-loop
+loop-holds c = ?
+
+-- src/lib.rt:80:38
+slice-aggregate-next-line : tie.Need-slice-aggregate-next-line Inv-loop μ-loop
+slice-aggregate-next-line c = ?
+
+-- src/lib.rt:80:57
+slice-aggregate-next-line-2 : tie.Need-slice-aggregate-next-line-2 Inv-loop μ-loop
+slice-aggregate-next-line-2 c = ?
+
+-- src/lib.rt:80:13
+next-line-requires : tie.Need-next-line-requires Inv-loop μ-loop
+next-line-requires c κs = ?
+
+-- src/lib.rt:82:19
+array-share-prefix-text : tie.Need-array-share-prefix-text Inv-loop μ-loop
+array-share-prefix-text c = ?
+
+-- src/lib.rt:82:19
+slice-aggregate-put : tie.Need-slice-aggregate-put Inv-loop μ-loop
+slice-aggregate-put c = ?
+
+-- src/lib.rt:82:9
+put-requires : tie.Need-put-requires Inv-loop μ-loop
+put-requires c κs = ?
+
+-- src/lib.rt:83:9
+add-to : tie.Need-add-to Inv-loop μ-loop
+add-to c = ?
+
+-- src/lib.rt:79:5
+loop-less : tie.Need-loop-less Inv-loop μ-loop
+loop-less c = ?
+
+-- src/lib.rt:79:5
+loop-again : tie.Need-loop-again Inv-loop μ-loop
+loop-again c = ?
+
+-- src/lib.rt:70:1
+same-length : tie.Need-same-length Inv-loop μ-loop
+same-length c = ?
+
+-- src/lib.rt:70:1
+returns : tie.Need-returns Inv-loop μ-loop
+returns c = ?
+
+pub pass-spec : {M : Type 1} → statement M
+pass-spec =
+    tie.close
+    (tie.spec
+    Inv-loop
+    μ-loop
+    start-requires
+    loop-holds
+    slice-aggregate-next-line
+    slice-aggregate-next-line-2
+    next-line-requires
+    array-share-prefix-text
+    slice-aggregate-put
+    put-requires
+    add-to
+    loop-less
+    loop-again
+    same-length
+    returns)
