@@ -101,7 +101,7 @@ pub decimal-within : (n j : ℕ) → 1 ≤ j → n < 10 ^ j → length (decimal 
 decimal-within n j l h = omega (arith, decimal-length n, no-more (decimal-is n .fewest) l h)
 
 pub decimal-short : (n : ℕ) → n < 2 ^ 64 → length (decimal n) ≤ 20
-decimal-short n h = decimal-within n 20 (omega arith) (omega arith)
+decimal-short n h = omega (arith, decimal-length n, twenty-digits (decimal-is n .fewest) h)
 
 pub decimal-some : (n : ℕ) → 1 ≤ length (decimal n)
 decimal-some n = omega (arith, decimal-length n, decimal-is n .fewest .0)
