@@ -1,7 +1,7 @@
 -- Laws of `Appends`, for callers.
 use Prim.Native.Nat.{ℕ, suc, _+_, _≤_, _<_}
 use mathlib.Core.Path.{_≡_, refl, ap, sym, _∙_, subst}
-use mathlib.Core.List.{List, [], _∷_, _++_, append-nil}
+use mathlib.Core.List.{List, [], _∷_, _++_}
 use native.Mathlib.Omega.{arith}
 use native.Mathlib.Numerals.{add-one}
 use lib.ListN.{length, take, drop, getD, set, length-append}
@@ -48,10 +48,14 @@ pub text-grows : {xs out out′ : List ℕ} {at n : ℕ} → Appends xs out at n
 text-grows {xs} {out} {at = at} (fits h) room = take-sets out at xs h
 text-grows (no-room h) room = absurd (let none : ⊥ = omega arith in none)
 
+pub room-left : {xs out out′ : List ℕ} {at n : ℕ} (k : ℕ) → Appends xs out at n out′ → at + (length xs + k) ≤ length out → n + k ≤ length out′
+room-left {xs} {out} {at = at} k (fits h) room = omega (arith, length-sets out at xs)
+room-left k (no-room h) room = absurd (let none : ⊥ = omega arith in none)
+
 pub none-appended : (out : List ℕ) (at : ℕ) → at ≤ length out → Appends [] out at at out
 none-appended out at h = with-room (omega arith) (omega arith) refl
 
-pub both-appended : {xs ys out out′ out″ : List ℕ} {at m n : ℕ} → Appends xs out at m out′ → Appends ys out′ m n out″ → at + length xs + length ys ≤ length out
+pub both-appended : {xs ys out out′ out″ : List ℕ} {at m n : ℕ} → Appends xs out at m out′ → Appends ys out′ m n out″ → at + (length xs + length ys) ≤ length out
     → Appends (xs ++ ys) out at n out″
 both-appended {xs} {ys} {out} {at = at} (fits h) (fits k) room =
     with-room (omega (arith, length-append xs ys)) (omega (arith, length-append xs ys)) (sets-append xs ys out at)

@@ -1,16 +1,18 @@
 -- A number in decimal: the function and the relation agree, a text is of one number, and each byte of it is a digit.
 use Prim.Native.Nat.{ℕ, zero, suc, _+_, _*_, _-_, _/_, _%_, _^_, _≤_, _<_}
 use mathlib.Core.Path.{_≡_, refl, ap, ap₂, sym, _∙_, subst}
+use mathlib.Core.Bool.{cond}
 use mathlib.Core.List.{List, [], _∷_, _++_}
 use mathlib.Core.Logic.{_⊎_, inl, inr, ⊎-elim}
 use native.Mathlib.Decide.{decLt}
 use native.Mathlib.Nat.{pow-suc, pow-le-pow-right}
 use native.Mathlib.Omega.{arith}
 use borrow.Author.Tests.{lt-ltb, le-ltb}
+use lib.Dec.{ltb}
 use lib.ListN.{length, length-append}
 use lib.IntN.{ℤ, pos, negsuc}
 use Rattle.io.specs.Digits.{digits, glyph, Fewest}
-use Rattle.text.specs.Decimal.{decimalIn, decimal, Decimal, minus, spelled}
+use Rattle.text.specs.Decimal.{leading, decimal, Decimal, minus, spelled}
 use Rattle.text.specs.Words.{Every, Without}
 use Rattle.text.proofs.Words.{every-append, every-map}
 
@@ -19,20 +21,35 @@ use Rattle.text.proofs.Words.{every-append, every-map}
 digit : (d : ℕ) → d < 10 → 48 + d ≡ glyph d
 digit d h = rw (lt-ltb d 10 h)
 
+leading-none : (k : ℕ) → leading k 0 ≡ []
+unfolding leading
+leading-none zero = refl
+leading-none (suc k) = refl
+
+leading-more : (k n : ℕ) → 1 ≤ n → leading (suc k) n ≡ leading k (n / 10) ++ glyph (n % 10) ∷ []
+unfolding leading
+leading-more k zero h = absurd (let none : ⊥ = omega arith in none)
+leading-more k (suc n) h = refl
+
 module _ (P : ℕ → List ℕ → Type 0) (one : (n : ℕ) → n < 10 → P n ((48 + n) ∷ []))
     (more : (n : ℕ) (text : List ℕ) → 10 ≤ n → P (n / 10) text → P n (text ++ (48 + n % 10) ∷ [])) where
-  by-measure : (k n : ℕ) → n < k → P n (decimalIn k n)
-  unfolding decimalIn
-  by-measure zero n h = absurd (let none : ⊥ = omega arith in none)
+  alone : (k n : ℕ) → n < 10 → P n (leading k (n / 10) ++ glyph (n % 10) ∷ [])
+  alone k n h =
+      let none : n / 10 ≡ 0 = omega arith in
+      let last : n % 10 ≡ n = omega arith in
+      rw (none, last, lt-ltb n 10 h, leading-none k) (one n h)
+
+  by-measure : (k n : ℕ) → n / 10 ≤ k → P n (leading k (n / 10) ++ glyph (n % 10) ∷ [])
+  by-measure zero n h = alone zero n (omega arith)
   by-measure (suc k) n h =
       elim (decLt n 10) [
-        | yes small ↦ rw (lt-ltb n 10 small) (one n small)
-        | no large ↦ rw (le-ltb n 10 (omega arith), lt-ltb (n % 10) 10 (omega arith)) (more n (decimalIn k (n / 10)) (omega arith) (by-measure k (n / 10) (omega arith)))
+        | yes small ↦ alone (suc k) n small
+        | no large ↦ rw (leading-more k (n / 10) (omega arith), lt-ltb (n % 10) 10 (omega arith)) (more n (leading k (n / 10 / 10) ++ glyph (n / 10 % 10) ∷ []) (omega arith) (by-measure k (n / 10) (omega arith)))
       ]
 
   by-digits : (n : ℕ) → P n (decimal n)
   unfolding decimal
-  by-digits n = by-measure (suc n) n (omega arith)
+  by-digits n = by-measure n n (omega arith)
 
 -- ---- in the fewest digits
 
@@ -84,7 +101,7 @@ pub decimal-within : (n j : ℕ) → 1 ≤ j → n < 10 ^ j → length (decimal 
 decimal-within n j l h = omega (arith, decimal-length n, no-more (decimal-is n .fewest) l h)
 
 pub decimal-short : (n : ℕ) → n < 2 ^ 64 → length (decimal n) ≤ 20
-decimal-short n h = decimal-within n 20 (omega arith) (omega arith)
+decimal-short n h = omega (arith, decimal-length n, twenty-digits (decimal-is n .fewest) h)
 
 pub decimal-some : (n : ℕ) → 1 ≤ length (decimal n)
 decimal-some n = omega (arith, decimal-length n, decimal-is n .fewest .0)
@@ -155,3 +172,13 @@ pub spelled-short : (x : ℤ) → Word x → length (spelled x) ≤ 20
 unfolding spelled
 spelled-short (pos n) h = decimal-short n h
 spelled-short (negsuc n) h = omega (arith, decimal-within (suc n) 19 (omega arith) (omega arith))
+
+-- the integer of at most 64 bits in two's complement
+pub signed-word : (N v : ℕ) → N ≤ 64 → Word (cond (ltb v (2 ^ (N - 1))) (pos v) (negsuc (2 ^ N - suc v)))
+signed-word N v l =
+    let whole : 2 ^ N ≤ 2 ^ suc (N - 1) = pow-le-pow-right {n = 2} (omega arith) {i = N} {j = suc (N - 1)} (omega arith) in
+    let half : 2 ^ (N - 1) ≤ 2 ^ 63 = pow-le-pow-right {n = 2} (omega arith) {i = N - 1} {j = 63} (omega arith) in
+    elim (decLt v (2 ^ (N - 1))) [
+      | yes low ↦ rw (lt-ltb v (2 ^ (N - 1)) low) (omega arith)
+      | no high ↦ rw (le-ltb v (2 ^ (N - 1)) (omega arith)) (omega (arith, pow-suc 2 (N - 1)))
+    ]

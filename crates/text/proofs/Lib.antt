@@ -3,3 +3,4 @@ pub mod Words
 pub mod Decimals
 pub mod Signs
 pub mod Unique
+pub mod Examples

@@ -1,19 +1,18 @@
 -- Numbers in decimal, in ASCII.
 use Prim.Native.Nat.{ℕ, zero, suc, _/_, _%_}
 use mathlib.Core.Path.{_≡_}
-use mathlib.Core.Bool.{cond}
 use mathlib.Core.List.{List, [], _∷_, _++_}
-use lib.Dec.{ltb}
 use lib.IntN.{ℤ, pos, negsuc}
 use Rattle.io.specs.Digits.{digits, glyph, Fewest}
 
--- the digits, the most significant first; k is a measure, and any above n gives the same
-unfoldable pub decimalIn : ℕ → ℕ → List ℕ
-decimalIn zero n = []
-decimalIn (suc k) n = cond (ltb n 10) (glyph n ∷ []) (decimalIn k (n / 10) ++ glyph (n % 10) ∷ [])
+-- the digits, the most significant first, and none of zero; k is a measure, and any from n on gives the same
+unfoldable pub leading : ℕ → ℕ → List ℕ
+leading zero n = []
+leading (suc k) zero = []
+leading (suc k) (suc n) = leading k (suc n / 10) ++ glyph (suc n % 10) ∷ []
 
 unfoldable pub decimal : ℕ → List ℕ
-decimal n = decimalIn (suc n) n
+decimal n = leading n (n / 10) ++ glyph (n % 10) ∷ []
 
 -- the same said apart from any computation: in the fewest digits
 pub record Decimal (n : ℕ) (text : List ℕ) : Type 0 where

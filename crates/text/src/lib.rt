@@ -8,11 +8,11 @@ ghost use Rattle.text.specs.Decimal.{decimal as Decimal·decimal};
 pub fn push(b: u8, out: &mut [u8], at: usize) -> usize
     ensures { λ r. ⌜ Appends (b ∷ []) (now (out .entry)) at r (now (out .exit)) ⌝ }
 {
-    if out.len() <= at {
-        return at;
+    if at < out.len() {
+        out[at] = b;
+        return at + 1;
     }
-    out[at] = b;
-    at + 1
+    at
 }
 
 pub fn put(bytes: &[u8], out: &mut [u8], at: usize) -> usize

@@ -2,19 +2,20 @@
 use Prim.Native.Nat.{_+_, _*_, _-_}
 use native.Mathlib.Omega.{arith}
 use lib.ListN.{drop, length-take}
+use Rattle.text.proofs.Appending.{length-kept, room-left, Growing, begins, goes-on, ends}
 use Rattle.gevurlat.specs.Text.{lines}
-use Rattle.gevurlat.proofs.Appending.{Growing, begins, goes-on, ends, lines-none, lines-more, lines-length}
-use Rattle.gevurlat.proofs.text.lines.Statement.{statement}
-use Rattle.gevurlat.proofs.text.lines.Tie as tie
+use Rattle.gevurlat.proofs.Lines.{lines-none, lines-more, lines-length}
+use Rattle.gevurlat.proofs.ascii.lines.Statement.{statement}
+use Rattle.gevurlat.proofs.ascii.lines.Tie as tie
 
 abbrev Inv-loop : tie.InvT-loop
-Inv-loop results out₀ at count to₀ n₀ out to n = Growing (lines results) count out₀ out at to n
+Inv-loop results out₀ at count to₀ n₀ out to n = Growing (lines results) count out₀ at to out n
 
 abbrev μ-loop : tie.MeasureT-loop
 μ-loop results out₀ at count to₀ n₀ out to n = count - n
 
 loop-holds : tie.Need-loop-holds Inv-loop μ-loop
-loop-holds c = begins _ _ _ _ (lines-none _)
+loop-holds c = begins _ _ _ _ (lines-none _) (omega arith)
 
 mul-start : tie.Need-mul-start Inv-loop μ-loop
 mul-start c = omega arith
@@ -36,7 +37,8 @@ line-requires c κs =
     let l = c .before .before .before .loop in
     let a = c .before .before .before .before .before .before in
     let xs = a .args .results .now in
-    omega (arith, length-take (16 * l .n + 16 - 16 * l .n) (drop (16 * l .n) xs), lines-length xs (l .n) (omega (arith, c .before .before .loop-test .taken)), l .inv .made .place, l .inv .made .kept, a .pre, c .before .before .loop-test .taken)
+    let h = c .before .before .loop-test .taken in
+    omega (arith, room-left 33 (l .inv .made) (omega (arith, lines-length xs (l .n) (omega (arith, h)), a .pre, h)), length-take (16 * l .n + 16 - 16 * l .n) (drop (16 * l .n) xs))
 
 add-n : tie.Need-add-n Inv-loop μ-loop
 add-n c = omega arith
@@ -48,10 +50,13 @@ loop-again : tie.Need-loop-again Inv-loop μ-loop
 loop-again c =
     let t = c .before .before .before .before .before in
     let l = t .before .loop in
-    goes-on (l .inv) (t .loop-test .taken) (lines-more _ (l .n) (16 * l .n + 16 - 16 * l .n) (omega arith)) (c .before .before .line .ensures)
+    let a = t .before .before .before .before in
+    let h = t .loop-test .taken in
+    goes-on (l .inv) h (lines-more _ (l .n) (16 * l .n + 16 - 16 * l .n) (omega arith))
+    (omega (arith, lines-length (a .args .results .now) (l .n + 1) (omega (arith, h)), a .pre, h)) (c .before .before .line .ensures)
 
 same-length : tie.Need-same-length Inv-loop μ-loop
-same-length c = c .before .loop .inv .made .kept
+same-length c = length-kept (c .before .loop .inv .made)
 
 returns : tie.Need-returns Inv-loop μ-loop
 returns c = ends (c .before .loop .inv) (c .loop-test .left)

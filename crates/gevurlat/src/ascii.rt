@@ -1,4 +1,4 @@
-// An answer and its results in ASCII. Each function writes after the first `at` bytes of `out` and answers the place after what it wrote.
+// An answer and its results in ASCII, each piece as crate text appends.
 ghost use Prim.Native.Nat.{_+_, _*_, _/_, _≤_, _<_};
 ghost use mathlib.Core.Path.{_≡_};
 ghost use mathlib.Core.List.{[], _∷_, _++_};
@@ -6,9 +6,12 @@ ghost use lib.ListN.{length, take};
 ghost use Rattle.io.specs.Counts.{Counts};
 ghost use Rattle.io.specs.Digits.{glyph};
 ghost use Rattle.limits.specs.Limits.{slot};
-ghost use Rattle.gevurlat.specs.Text.{newline, hexadecimal, lines as Text·lines, Shown};
-ghost use Rattle.gevurlat.specs.Inner.Appending.{Appended, NumberAppended};
+ghost use Rattle.text.specs.Append.{Appends};
+ghost use Rattle.text.specs.Decimal.{decimal};
+ghost use Rattle.text.specs.Words.{newline};
+ghost use Rattle.gevurlat.specs.Text.{hexadecimal, lines as Text·lines, Shown};
 use card::Answer;
+use text::push;
 
 pub(crate) fn show(a: Answer, results: &[u8], out: &mut [u8]) -> usize
     requires { ⌜ 63 + 3 * length (now results) ≤ length (now out) ⌝ }
@@ -27,31 +30,16 @@ pub(crate) fn show(a: Answer, results: &[u8], out: &mut [u8]) -> usize
 // In decimal, and one byte after it.
 fn number(n: u64, last: u8, out: &mut [u8], at: usize) -> usize
     requires { ⌜ at + 21 ≤ length (now out) ⌝ }
-    ensures { λ r. ⌜ NumberAppended n last (now (out .entry)) (now (out .exit)) at r ⌝ }
+    ensures { λ r. ⌜ Appends (decimal n ++ last ∷ []) (now (out .entry)) at r (now (out .exit)) ⌝ }
 {
-    let mut digits = [0u8; 20];
-    let k = io::decimal(n, &mut digits);
-    let to = put(&digits[..k], out, at);
+    let to = text::decimal(n, out, at);
     push(last, out, to)
-}
-
-fn put(bytes: &[u8], out: &mut [u8], at: usize) -> usize
-    requires { ⌜ at + length (now bytes) ≤ length (now out) ⌝ }
-    ensures { λ r. ⌜ Appended (now (bytes .entry)) (now (out .entry)) (now (out .exit)) at r ⌝ }
-{
-    let mut to = at;
-    let mut i: usize = 0;
-    while i < bytes.len() {
-        to = push(bytes[i], out, to);
-        i = i + 1;
-    }
-    to
 }
 
 // A line for each result.
 fn lines(results: &[u8], out: &mut [u8], at: usize) -> usize
     requires { ⌜ at + 3 * length (now results) ≤ length (now out) ⌝ }
-    ensures { λ r. ⌜ Appended (Text·lines (now (results .entry)) (length (now (results .entry)) / slot)) (now (out .entry)) (now (out .exit)) at r ⌝ }
+    ensures { λ r. ⌜ Appends (Text·lines (now (results .entry)) (length (now (results .entry)) / slot)) (now (out .entry)) at r (now (out .exit)) ⌝ }
 {
     let count = results.len() / limits::SLOT;
     let mut to = at;
@@ -68,7 +56,7 @@ fn lines(results: &[u8], out: &mut [u8], at: usize) -> usize
 // Two digits a byte, byte 0 first.
 fn line(bytes: &[u8], out: &mut [u8], at: usize) -> usize
     requires { ⌜ at + 2 * length (now bytes) < length (now out) ⌝ }
-    ensures { λ r. ⌜ Appended (hexadecimal (now (bytes .entry)) ++ newline ∷ []) (now (out .entry)) (now (out .exit)) at r ⌝ }
+    ensures { λ r. ⌜ Appends (hexadecimal (now (bytes .entry)) ++ newline ∷ []) (now (out .entry)) at r (now (out .exit)) ⌝ }
 {
     let mut to = at;
     let mut i: usize = 0;
@@ -86,12 +74,4 @@ fn digit(d: u8) -> u8
     ensures { λ r. ⌜ r ≡ glyph d ⌝ }
 {
     if d < 10 { b'0' + d } else { b'a' - 10 + d }
-}
-
-fn push(b: u8, out: &mut [u8], at: usize) -> usize
-    requires { ⌜ at < length (now out) ⌝ }
-    ensures { λ r. ⌜ Appended (b ∷ []) (now (out .entry)) (now (out .exit)) at r ⌝ }
-{
-    out[at] = b;
-    at + 1
 }

@@ -1,8 +1,8 @@
 -- `0` to `9`, then `a` to `f`.
 use borrow.Author.Needs.{needs}
 use borrow.Author.Tests.{lt-ltb, le-ltb}
-use Rattle.gevurlat.proofs.text.digit.Statement.{statement}
-use Rattle.gevurlat.proofs.text.digit.Tie as tie
+use Rattle.gevurlat.proofs.ascii.digit.Statement.{statement}
+use Rattle.gevurlat.proofs.ascii.digit.Tie as tie
 
 add-result : tie.Need-add-result
 add-result c = search needs
