@@ -1,7 +1,15 @@
+-- For those who call: what is listed, one answer.
+pub mod Exact
+pub mod Unique
 pub mod Lines
-pub mod Asides
+-- What these and the functions' proofs lean on.
 pub mod Fields
+pub mod Spellings
+pub mod Asides
+pub mod Words
 pub mod Parts
 pub mod Shown
 pub mod Chain
 pub mod Walking
+pub mod Passing
+pub mod Answers

@@ -27,7 +27,7 @@ use Rattle.rules.specs.Typing.{Types}
 use Rattle.rules.specs.Strip.{Reads, Reaches, front, past, Valid}
 use Rattle.rules.proofs.Typings.{types-once}
 use Rattle.rules.proofs.Events.{end-untyped, declared-local}
-use Rattle.rules.proofs.Onward.{Onward, here, next, from-front, declared, reads-once, compare}
+use Rattle.rules.proofs.Onward.{Onward, here, next, from-front, declared, reads-once, only, compare}
 use Rattle.checker.specs.Walk.{Holds, Becomes, Judges, no-local, untyped, too-deep, typed}
 use Rattle.checker.proofs.Goings.{counted, counts-inside, holds-locals}
 use Rattle.listing.specs.Line.{line}
@@ -150,7 +150,7 @@ module _ {s : List ℕ} {p : ℕ} {kinds : List ℕ} {depth : ℕ} (w : Walks s 
         → Goes s h (p + f .decoded .len) kinds depth d kinds′
     judged (stops r q) z j = absurd (z (reads-once reads r .1))
     judged (goes {κs′ = κs′} r f′ t l) z j =
-        by j (subst (λ (c : Code). Types (locals h) (i .index) c (w .stack) κs′) (sym (reads-once reads r .1)) (subst (λ (x : Instr). Types (locals h) (x .index) _ (w .stack) κs′) (sym (reads-once reads r .0)) t))
+        by j (only (λ x y. Types (locals h) (x .index) y (w .stack) κs′) r t i (its .1) (f .decoded .len) reads)
       where
         by : {code d : ℕ} {kinds′ : List ℕ} → Judges (locals h) (i .index) (its .1) (w .stack) kinds code d kinds′ → Types (locals h) (i .index) (its .1) (w .stack) κs′
             → Goes s h (p + f .decoded .len) kinds depth d kinds′

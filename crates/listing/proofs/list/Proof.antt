@@ -1,3 +1,5 @@
+use Rattle.rules.proofs.Strips.{says-valid, says-breach}
+use Rattle.listing.proofs.Answers.{is-refused}
 use borrow.Author.Needs.{needs}
 use Rattle.listing.proofs.list.Statement.{statement}
 use Rattle.listing.proofs.list.Tie as tie
@@ -17,11 +19,11 @@ refused-requires c κs = search needs
 
 -- src/lib.rt:36:9
 returns : tie.Need-returns
-returns c = ?
+returns c = is-refused (says-breach (c .before .before .before .check .ensures .says) (c .before .if1 .taken)) (c .refused .ensures)
 
 -- src/lib.rt:38:5
 whole-requires : tie.Need-whole-requires
-whole-requires c κs = ?
+whole-requires c κs = says-valid (c .before .before .before .check .ensures .says) (c .before .if1 .left)
 
 -- src/lib.rt:31:1
 same-length : tie.Need-same-length

@@ -1,3 +1,11 @@
+use mathlib.Core.Path.{sym}
+use lib.Seq.{length-take-le}
+use Prim.Native.Nat.{_-_, _≤_}
+use mathlib.Core.Path.{_≡_, refl, _∙_}
+use borrow.Author.Needs.{needs}
+use native.Mathlib.Omega.{arith}
+use lib.ListN.{length}
+use Rattle.listing.proofs.Passing.{Passing, begins, passes, walking, line-fits, no-longer, onward, adds, goes-on}
 use Rattle.listing.proofs.pass.Statement.{statement}
 use Rattle.listing.proofs.pass.Tie as tie
 use Rattle.listing.proofs.pass.Reads as reads
@@ -7,62 +15,62 @@ use Rattle.listing.proofs.next_line.Reads as next-line-reads
 use Rattle.text.proofs.put.Reads as put-reads
 
 abbrev Inv-loop : tie.InvT-loop
-Inv-loop strip out₀ kinds₀ text₀ depth₀ at₀ to₀ out kinds text depth at to = ?
+Inv-loop strip out₀ kinds₀ text₀ depth₀ at₀ to₀ out kinds text depth at to = Passing strip out₀ out kinds text depth at to
 
 abbrev μ-loop : tie.MeasureT-loop
-μ-loop strip out₀ kinds₀ text₀ depth₀ at₀ to₀ out kinds text depth at to = ?
+μ-loop strip out₀ kinds₀ text₀ depth₀ at₀ to₀ out kinds text depth at to = length strip - at
 
 -- src/lib.rt:77:9
 start-requires : tie.Need-start-requires Inv-loop μ-loop
-start-requires c κs = ?
+start-requires c κs = search needs
 
 -- src/lib.rt:79:5
 loop-holds : tie.Need-loop-holds Inv-loop μ-loop
-loop-holds c = ?
+loop-holds c = begins (c .before .before .before .pre) _ _ _ (c .start .ensures) refl refl
 
 -- src/lib.rt:80:38
 slice-aggregate-next-line : tie.Need-slice-aggregate-next-line Inv-loop μ-loop
-slice-aggregate-next-line c = ?
+slice-aggregate-next-line c = search needs
 
 -- src/lib.rt:80:57
 slice-aggregate-next-line-2 : tie.Need-slice-aggregate-next-line-2 Inv-loop μ-loop
-slice-aggregate-next-line-2 c = ?
+slice-aggregate-next-line-2 c = search needs
 
 -- src/lib.rt:80:13
 next-line-requires : tie.Need-next-line-requires Inv-loop μ-loop
-next-line-requires c κs = ?
+next-line-requires c κs = let p = c .before .before .before .loop .inv in (walking p (c .before .before .loop-test .taken), omega (arith, p .room))
 
 -- src/lib.rt:82:19
 array-share-prefix-text : tie.Need-array-share-prefix-text Inv-loop μ-loop
-array-share-prefix-text c = ?
+array-share-prefix-text c = let p = c .before .before .before .before .before .before .loop .inv in let w = c .before .before .next-line in line-fits p (c .before .before .before .before .before .loop-test .taken) (w .ensures) (w .kept .1 .1 .1 .1 .0)
 
 -- src/lib.rt:82:19
 slice-aggregate-put : tie.Need-slice-aggregate-put Inv-loop μ-loop
-slice-aggregate-put c = ?
+slice-aggregate-put c = let p = c .before .before .before .before .before .before .before .loop .inv in let w = c .before .before .before .next-line in sym (length-take-le _ _ (line-fits p (c .before .before .before .before .before .before .loop-test .taken) (w .ensures) (w .kept .1 .1 .1 .1 .0)))
 
 -- src/lib.rt:82:9
 put-requires : tie.Need-put-requires Inv-loop μ-loop
-put-requires c κs = ?
+put-requires c κs = search needs
 
 -- src/lib.rt:83:9
 add-to : tie.Need-add-to Inv-loop μ-loop
-add-to c = ?
+add-to c = let p = c .before .before .before .before .before .before .before .before .before .before .before .loop .inv in let w = c .before .before .before .before .before .before .before .next-line in omega (arith, adds p (c .before .before .before .before .before .before .before .before .before .before .loop-test .taken) (w .ensures) (w .kept .1 .1 .1 .1 .0))
 
 -- src/lib.rt:79:5
 loop-less : tie.Need-loop-less Inv-loop μ-loop
-loop-less c = ?
+loop-less c = let p = c .before .before .before .before .before .before .before .before .before .before .before .loop .inv in let w = c .before .before .before .before .before .before .before .next-line in omega (arith, onward p (c .before .before .before .before .before .before .before .before .before .before .loop-test .taken) (w .ensures) (w .kept .1 .1 .1 .1 .0), c .before .before .before .before .before .before .before .before .before .before .loop-test .taken)
 
 -- src/lib.rt:79:5
 loop-again : tie.Need-loop-again Inv-loop μ-loop
-loop-again c = ?
+loop-again c = let p = c .before .before .before .before .before .before .before .before .before .before .before .loop .inv in let w = c .before .before .before .before .before .before .before .next-line in goes-on p (c .before .before .before .before .before .before .before .before .before .before .loop-test .taken) (w .ensures) (w .kept .1 .1 .1 .1 .0) (w .kept .1 .1 .0 ∙ p .array) (c .before .before .put .ensures)
 
 -- src/lib.rt:70:1
 same-length : tie.Need-same-length Inv-loop μ-loop
-same-length c = ?
+same-length c = c .before .loop .inv .long
 
 -- src/lib.rt:70:1
 returns : tie.Need-returns Inv-loop μ-loop
-returns c = ?
+returns c = passes (c .before .loop .inv) (c .loop-test .left)
 
 pub pass-spec : {M : Type 1} → statement M
 pass-spec =

@@ -1,3 +1,4 @@
+use Rattle.listing.proofs.Answers.{too-small, all-written}
 use borrow.Author.Needs.{needs}
 use Rattle.listing.proofs.whole.Statement.{statement}
 use Rattle.listing.proofs.whole.Tie as tie
@@ -20,7 +21,7 @@ refused-requires c κs = search needs
 
 -- src/lib.rt:49:9
 returns : tie.Need-returns
-returns c = ?
+returns c = too-small (c .before .before .before .pass .ensures) (c .before .if1 .taken) (c .refused .ensures)
 
 -- src/lib.rt:51:5
 pass-requires-2 : tie.Need-pass-requires-2
@@ -32,7 +33,7 @@ same-length c = search needs
 
 -- src/lib.rt:42:1
 returns-2 : tie.Need-returns-2
-returns-2 c = ?
+returns-2 c = all-written (c .before .before .before .before .before .before .pass .ensures) (c .before .before .before .before .if1 .left) (c .before .before .pass2 .ensures)
 
 pub whole-spec : {M : Type 1} → statement M
 whole-spec =
