@@ -7,7 +7,7 @@
 
 enum code {
     DONE, LONG, SHORT, MARK, VERSION, COUNT, KIND, OPCODE, FLOAT, NUMBER, LANE, ALIGN, LOCAL, OPERAND, DEEP, RESULT, TRAILING,
-    ROOM = 20, ARGS, OUT, FORM,
+    ROOM = 20, ARGS, OUT, FORM, SMALL,
     TRAP = 30, BUDGET
 };
 
@@ -25,7 +25,10 @@ uint64_t plain_check(const uint8_t *strip, size_t strip_len);
 uint64_t plain_run(const uint8_t *strip, size_t strip_len, const uint8_t *args, size_t args_len, uint8_t *memory, size_t memory_len,
                    uint8_t *results, size_t results_len, uint32_t budget);
 
-/* The proved ones. */
+/* The listing of request C-11; its length is where a run has its steps. */
+uint64_t plain_list(const uint8_t *strip, size_t strip_len, uint8_t *out, size_t out_len);
+
+/* The proved ones. The proved lister is a program. */
 uint64_t gevurlat_check(const uint8_t *strip, size_t strip_len);
 uint64_t gevurlat_run(const uint8_t *strip, size_t strip_len, const uint8_t *args, size_t args_len, uint8_t *memory, size_t memory_len,
                       uint8_t *results, size_t results_len, uint32_t budget);
