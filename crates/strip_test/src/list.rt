@@ -12,7 +12,7 @@ use libc::STDOUT_FILENO;
 // Every listing that is to be printed has room here.
 const LISTING: usize = 32768;
 
-// list NAME STRIP OUTPUT
+// list NAME STRIP OUTPUT: the line ends with `touched` if a byte beyond the listing is not as it was; then the listing's own lines.
 pub(crate) fn list(line: &[u8]) {
     let mut strip = [0u8; crate::ROOM];
     let n = bytes_in(line, 2, &mut strip);
@@ -33,7 +33,7 @@ fn list_in(strip: &[u8], out: &mut [u8]) {
     io::write_all(STDOUT_FILENO, &out[..n]);
 }
 
-// rooms NAME STRIP LAST: listed with every room from 0 bytes to the last.
+// rooms NAME STRIP LAST: listed with every room from 0 bytes to the last, a line each.
 pub(crate) fn rooms(line: &[u8]) {
     let last = number_in(line, 3);
     let mut k = 0;
@@ -62,7 +62,7 @@ fn room_in(strip: &[u8], out: &mut [u8], whole: &[u8]) {
     end_line();
 }
 
-// What the output holds: all as it was, or the listing and beyond it all as it was.
+// What the output holds: `kept` is all as it was, `whole` the listing and beyond it all as it was.
 fn left(out: &[u8], whole: &[u8], len: usize) {
     let n = within(len, out);
     let m = within(len, whole);
