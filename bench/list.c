@@ -1,4 +1,5 @@
 /* The listing of a strip that the check passes (request C-11): a line an instruction, with the kinds on the stack before it. */
+#include <stdio.h>
 #include <string.h>
 
 #include "decode.h"
@@ -149,4 +150,12 @@ uint64_t plain_list(const uint8_t *s, size_t len, uint8_t *out, size_t out_len)
         return answer(SMALL, 0, 0);
     written(s, len, out);
     return answer(DONE, 0, n);
+}
+
+size_t plain_listing(const uint8_t *s, size_t len, uint8_t *out)
+{
+    const uint64_t a = plain_list(s, len, out, LISTING_MOST);
+    if (a & 0xFF)
+        return sprintf((char *)out, "%u %u\n", (unsigned)(a & 0xFF), (unsigned)(a >> 8 & 0xFFFFFF));
+    return a >> 32;
 }
