@@ -152,7 +152,7 @@ uint64_t plain_list(const uint8_t *s, size_t len, uint8_t *out, size_t out_len)
     return answer(DONE, 0, n);
 }
 
-size_t plain_listing(const uint8_t *s, size_t len, uint8_t *out)
+size_t plain_listing(const uint8_t *s, size_t len, uint8_t out[LISTING_MOST])
 {
     const uint64_t a = plain_list(s, len, out, LISTING_MOST);
     if (a & 0xFF)
