@@ -1,4 +1,5 @@
 pub mod Letters
+pub mod Ids
 pub mod Texts
 pub mod Table
 pub mod Names

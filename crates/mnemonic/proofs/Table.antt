@@ -12,10 +12,11 @@ use Rattle.opcode.specs.Ascii.{ascii}
 use Rattle.opcode.specs.Number.{nameOf}
 use Rattle.opcode.specs.Lists.{upFrom}
 use Rattle.opcode.proofs.Every.{below-or-past}
-use Rattle.mnemonic.proofs.Letters.{Letters, letters-at}
 use Rattle.mnemonic.specs.Inner.Block.{BLANK, texts, padded, joined, block}
 use Rattle.mnemonic.specs.Inner.Row.{rowOfName}
-use Rattle.mnemonic.proofs.Texts.{rowName, name-in-row, short, all-letters}
+use Rattle.mnemonic.proofs.Letters.{Letters, letters-at}
+use Rattle.mnemonic.proofs.Ids.{short, all-letters}
+use Rattle.mnemonic.proofs.Texts.{rowName, name-in-row}
 
 length-padded : (n : List ℕ) → length (padded n) ≡ 32
 length-padded n = simp (length-take, length-append, length-replicate) (omega arith)

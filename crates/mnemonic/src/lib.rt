@@ -9,8 +9,11 @@ ghost use Rattle.mnemonic.specs.Inner.Row.{rowOfName};
 // The bytes of a row, a name and blanks.
 const WIDTH: usize = 32;
 
-// The first row without a name after the last with one.
-const BLANK: u32 = 265;
+// The rows of a block.
+const ROWS: u32 = 16;
+
+// A row without a name.
+const NAMELESS: u32 = 265;
 
 // The row that has the name of the instruction with this id.
 fn row(id: u32) -> u32
@@ -27,11 +30,11 @@ fn row(id: u32) -> u32
         0x6A => 263,
         0x6B => 264,
         _ => if id < 256 {
-            BLANK
+            NAMELESS
         } else if id < 512 {
             id - 256
         } else {
-            BLANK
+            NAMELESS
         },
     }
 }
@@ -44,6 +47,6 @@ pub fn letter(id: u32, k: usize) -> u8
         return 0;
     }
     let r = row(id);
-    let b = rows::in_block(r / 16, (r % 16) as usize * WIDTH + k);
+    let b = rows::in_block(r / ROWS, (r % ROWS) as usize * WIDTH + k);
     if b == b' ' { 0 } else { b }
 }

@@ -4,7 +4,7 @@ use native.Mathlib.Omega.{arith}
 use borrow.Author.Needs.{needs}
 use lib.ListN.{List·getD-eq-default}
 use Rattle.opcode.specs.Number.{nameOf}
-use Rattle.mnemonic.proofs.Texts.{short}
+use Rattle.mnemonic.proofs.Ids.{short}
 use Rattle.mnemonic.proofs.Table.{read-blank, read-letter}
 use Rattle.mnemonic.proofs.letter.Statement.{statement}
 use Rattle.mnemonic.proofs.letter.Tie as tie

@@ -11,6 +11,6 @@ abbrev pub seek : ℕ → ℕ → List (ℕ × String × Plain) → ℕ
 seek b n [] = n
 seek b n (l ∷ ls) = cond (eqb b (l .0)) n (seek b (suc n) ls)
 
--- 265, past the last row, where there is no name
+-- 265, past the last of them, where there is no name
 unfoldable pub rowOfName : ℕ → ℕ
 rowOfName id = cond (ltb id 256) (seek id 256 plainLines) (cond (ltb id 512) (id - 256) 265)
