@@ -1,5 +1,4 @@
 pub mod Lines
 pub mod Showing
-pub mod Reading
 pub mod Zeros
 pub mod Unique

@@ -1,6 +1,7 @@
--- For those who call: what is listed, one answer.
+-- For those who call: what is listed, one answer, a loop over the lines.
 pub mod Exact
 pub mod Unique
+pub mod Following
 pub mod Lines
 -- What these and the functions' proofs lean on.
 pub mod Fields

@@ -1,11 +1,10 @@
 -- A pass over all lines: what has been told, before what is still to be told.
 use Prim.Native.Nat.{ℕ, _+_, _*_, _≤_, _<_}
 use mathlib.Core.Path.{_≡_, refl, sym, ap, ap₂, subst, _∙_}
-use mathlib.Core.List.{List, [], _∷_, _++_, append-nil}
-use mathlib.Core.Logic.{_⊎_, inl, inr}
+use mathlib.Core.List.{List, [], _++_}
 use native.Mathlib.Omega.{arith}
-use lib.ListN.{length, take, drop, length-append, length-drop}
-use lib.Seq.{sets, take-at}
+use lib.ListN.{length, take, length-append}
+use lib.Seq.{sets}
 use Rattle.limits.specs.Limits.{fileLimit, stackLimit}
 use Rattle.text.specs.Append.{Appends}
 use Rattle.text.proofs.Appending.{appended, length-kept, sets-append}
@@ -15,44 +14,30 @@ use Rattle.instr.specs.Layout.{Stands}
 use Rattle.instr.proofs.Stands.{stands-once}
 use Rattle.instr.proofs.Ranges.{stands-some, stands-inside}
 use Rattle.rules.specs.Header.{Header, headerBytes}
-use Rattle.rules.specs.Strip.{Reaches, front, Valid}
+use Rattle.rules.specs.Strip.{Reaches, Valid}
 use Rattle.rules.proofs.Headers.{declares-once}
 use Rattle.rules.proofs.Onward.{declared, reached-once}
 use Rattle.checker.specs.Walk.{startOf}
-use Rattle.checker.proofs.Held.{becomes-holds}
 use Rattle.checker.proofs.Starts.{starts-at}
 use Rattle.listing.specs.Line.{line}
 use Rattle.listing.specs.Listing.{Lines, no-more, one-more, Listing}
-use Rattle.listing.specs.Walk.{longest, Walks, Goes, over, on, Walked}
+use Rattle.listing.specs.Walk.{longest, Walked}
 use Rattle.listing.specs.declared.Next.{Next}
 use Rattle.listing.specs.Inner.Pass.{Passed}
 use Rattle.listing.proofs.Lines.{listed}
+use Rattle.listing.proofs.Following.{Follows, follow-begins, shown, no-longer, line-is, onward, follow-on}
 
 pub record Passing (s out₀ out kinds text : List ℕ) (depth at to : ℕ) : Type 0 where
   pub all : List ℕ
   pub left : List ℕ
   pub listing : Listing s all
   pub here : Lines s (listing .valid .header) at left
-  pub walk : (at ≡ length s) ⊎ Walks s at kinds depth
+  pub follows : Follows s kinds text depth at
   pub ends : to + length left ≡ length all
   pub same : length all ≤ length out₀ → sets out to left ≡ sets out₀ 0 all
   pub long : length out ≡ length out₀
-  pub array : length kinds ≡ stackLimit
-  pub room : length text ≡ longest
   pub few : to ≤ longest * at
   pub inside : (at ≤ length s) × (length s ≤ fileLimit)
-
--- the walk at the first instruction, with nothing on the stack
-pub walk-begins : {s : List ℕ} (v : Valid s) {at : ℕ} (kinds : List ℕ) → at ≡ startOf s → length kinds ≡ stackLimit → Walks s at kinds 0
-walk-begins {s} v {at} kinds e long =
-    let d = declared (v .reached) in
-    record {
-      valid = v;
-      stack = [];
-      reached = subst (λ (p : ℕ). Reaches s (v .header) p []) (sym (starts-at e (v .header) d)) (front d);
-      holds = record { many = refl; rest = kinds; here = refl };
-      long = long;
-    }
 
 pub begins : {s : List ℕ} (v : Valid s) {at : ℕ} (out kinds text : List ℕ) → at ≡ startOf s → length kinds ≡ stackLimit → length text ≡ longest → Passing s out out kinds text 0 at 0
 begins {s} v {at} out kinds text e long room =
@@ -65,12 +50,10 @@ begins {s} v {at} out kinds text e long room =
       left = l .0;
       listing = l .1;
       here = subst (λ (p : ℕ). Lines s h p (l .0)) (sym start) (l .1 .lines);
-      walk = inr (walk-begins v kinds e long);
+      follows = follow-begins v kinds text e long room;
       ends = omega arith;
       same = λ h. refl;
       long = refl;
-      array = long;
-      room = room;
       few = omega arith;
       inside = (omega (arith, start, ap length (d .bytes), length-append (headerBytes h) (d .body)), d .sized);
     }
@@ -94,11 +77,6 @@ none-left : {s : List ℕ} {h : Header} {at : ℕ} {left : List ℕ} → Lines s
 none-left (no-more e) l = refl
 none-left (one-more r w m) l = absurd (let z : ⊥ = omega (arith, stands-some w, stands-inside w) in z)
 
-walk-on : {s : List ℕ} (v : Valid s) {kinds kinds′ : List ℕ} {depth q d : ℕ} → Goes s (v .header) q kinds depth d kinds′ → length kinds′ ≡ stackLimit
-    → (q ≡ length s) ⊎ Walks s q kinds′ d
-walk-on v (over e) long = inl e
-walk-on v (on {κs = κs} reached b) long = inr (record { valid = v; stack = κs; reached = reached; holds = becomes-holds b; long = long })
-
 module _ {s out₀ out kinds text : List ℕ} {depth at to : ℕ} (p : Passing s out₀ out kinds text depth at to) where
   pub passes : length s ≤ at → Passed s out₀ to out
   passes l =
@@ -110,16 +88,9 @@ module _ {s out₀ out kinds text : List ℕ} {depth at to : ℕ} (p : Passing s
         written = λ h. ap (sets out to) (sym none) ∙ p .same h;
       }
 
-  pub walking : at < length s → Walks s at kinds depth
-  walking l = by (p .walk)
-    where
-      by : (at ≡ length s) ⊎ Walks s at kinds depth → Walks s at kinds depth
-      by (inl e) = absurd (let z : ⊥ = omega (arith, e) in z)
-      by (inr w) = w
-
   module _ (l : at < length s) {r : Next} {kinds′ text′ : List ℕ} (w : Walked s at kinds depth text r kinds′ text′) (kept : length text′ ≡ length text) where
-    abbrev shown : List ℕ
-    shown = line at (w .before .stack) (w .instr)
+    abbrev told : List ℕ
+    told = shown (p .follows) l w kept
 
     head : Front s (p .listing .valid .header) at (p .left)
     head = first (p .here) l
@@ -134,48 +105,33 @@ module _ {s out₀ out kinds text : List ℕ} {depth at to : ℕ} (p : Passing s
     same-instr : (head .instr ≡ w .instr) × (head .size ≡ w .size)
     same-instr = stands-once s at (head .instr) (w .instr) (head .size) (w .size) (head .stands) (w .stands)
 
-    left-is : p .left ≡ shown ++ head .rest
+    left-is : p .left ≡ told ++ head .rest
     left-is = head .text ∙ ap₂ (λ (ks : List Kind) (i : Instr). line at ks i ++ head .rest) same-stack (same-instr .0)
 
-    -- the line is in the text, from its front on
-    pub line-fits : r .len ≤ length text′
-    line-fits = omega (arith, ap length (w .bytes), length-append shown (drop (r .len) text), w .len)
-
-    pub no-longer : r .len ≤ longest
-    no-longer = omega (arith, line-fits, kept, p .room)
-
-    line-is : take (r .len) text′ ≡ shown
-    line-is = ap (take (r .len)) (w .bytes) ∙ take-at shown (drop (r .len) text) (r .len) (sym (w .len))
-
-    pub onward : at < r .at
-    onward = omega (arith, w .at, stands-some (w .stands))
-
-    ahead : (r .at ≤ length s) × (to + r .len ≤ longest * r .at)
-    ahead = (omega (arith, w .at, stands-inside (w .stands)), omega (arith, p .few, no-longer, onward))
+    ahead : to + r .len ≤ longest * r .at
+    ahead = omega (arith, p .few, no-longer (p .follows) l w kept, onward (p .follows) l w kept)
 
     pub adds : to + r .len ≤ longest * fileLimit
-    adds = omega (arith, ahead, p .inside)
+    adds = omega (arith, ahead, onward (p .follows) l w kept, p .inside)
 
-    pub goes-on : length kinds′ ≡ stackLimit → {out′ : List ℕ} {n : ℕ} → Appends (take (r .len) text′) out to n out′ → Passing s out₀ out′ kinds′ text′ (r .depth) (r .at) (to + r .len)
-    goes-on long {out′} {n} q =
-        let a : Appends shown out to n out′ = subst (λ (x : List ℕ). Appends x out to n out′) line-is q in
-        let sum : length (p .left) ≡ length shown + length (head .rest) = ap length left-is ∙ length-append shown (head .rest) in
+    pub goes-on : length kinds′ ≡ length kinds → {out′ : List ℕ} {n : ℕ} → Appends (take (r .len) text′) out to n out′ → Passing s out₀ out′ kinds′ text′ (r .depth) (r .at) (to + r .len)
+    goes-on same {out′} {n} q =
+        let a : Appends told out to n out′ = subst (λ (x : List ℕ). Appends x out to n out′) (line-is (p .follows) l w kept) q in
+        let sum : length (p .left) ≡ length told + length (head .rest) = ap length left-is ∙ length-append told (head .rest) in
         record {
           all = p .all;
           left = head .rest;
           listing = p .listing;
           here = subst (λ (k : ℕ). Lines s (p .listing .valid .header) k (head .rest)) (ap (λ (k : ℕ). at + k) (same-instr .1) ∙ sym (w .at)) (head .after);
-          walk = walk-on (w .before .valid) (w .goes) long;
+          follows = follow-on (p .follows) l w kept same;
           ends = omega (arith, p .ends, w .len, sum);
           same = λ h.
               let put = appended a (omega (arith, p .ends, p .long, sum)) in
               ap₂ (λ (x : List ℕ) (k : ℕ). sets x (to + k) (head .rest)) (put .1) (w .len)
-              ∙ sets-append shown (head .rest) out to
+              ∙ sets-append told (head .rest) out to
               ∙ ap (sets out to) (sym left-is)
               ∙ p .same h;
           long = length-kept a ∙ p .long;
-          array = long;
-          room = kept ∙ p .room;
-          few = ahead .1;
-          inside = (ahead .0, p .inside .1);
+          few = ahead;
+          inside = (onward (p .follows) l w kept .1, p .inside .1);
         }

@@ -1,3 +1,5 @@
+use Rattle.listing.proofs.Following.{follow-walks, line-fits, onward}
+use Rattle.listing.proofs.Passing.{Passing, begins, passes, adds, goes-on}
 use mathlib.Core.Path.{sym}
 use lib.Seq.{length-take-le}
 use Prim.Native.Nat.{_-_, _≤_}
@@ -5,7 +7,6 @@ use mathlib.Core.Path.{_≡_, refl, _∙_}
 use borrow.Author.Needs.{needs}
 use native.Mathlib.Omega.{arith}
 use lib.ListN.{length}
-use Rattle.listing.proofs.Passing.{Passing, begins, passes, walking, line-fits, no-longer, onward, adds, goes-on}
 use Rattle.listing.proofs.pass.Statement.{statement}
 use Rattle.listing.proofs.pass.Tie as tie
 use Rattle.listing.proofs.pass.Reads as reads
@@ -30,23 +31,23 @@ loop-holds c = begins (c .before .before .before .pre) _ _ _ (c .start .ensures)
 
 -- src/lib.rt:80:38
 slice-aggregate-next-line : tie.Need-slice-aggregate-next-line Inv-loop μ-loop
-slice-aggregate-next-line c = search needs
+slice-aggregate-next-line c = let f = c .before .before .loop .inv .follows in search needs
 
 -- src/lib.rt:80:57
 slice-aggregate-next-line-2 : tie.Need-slice-aggregate-next-line-2 Inv-loop μ-loop
-slice-aggregate-next-line-2 c = search needs
+slice-aggregate-next-line-2 c = let f = c .before .before .before .loop .inv .follows in search needs
 
 -- src/lib.rt:80:13
 next-line-requires : tie.Need-next-line-requires Inv-loop μ-loop
-next-line-requires c κs = let p = c .before .before .before .loop .inv in (walking p (c .before .before .loop-test .taken), omega (arith, p .room))
+next-line-requires c κs = let p = c .before .before .before .loop .inv .follows in (follow-walks p (c .before .before .loop-test .taken), omega (arith, p .room))
 
 -- src/lib.rt:82:19
 array-share-prefix-text : tie.Need-array-share-prefix-text Inv-loop μ-loop
-array-share-prefix-text c = let p = c .before .before .before .before .before .before .loop .inv in let w = c .before .before .next-line in line-fits p (c .before .before .before .before .before .loop-test .taken) (w .ensures) (w .kept .1 .1 .1 .1 .0)
+array-share-prefix-text c = let w = c .before .before .next-line in line-fits (c .before .before .before .before .before .before .loop .inv .follows) (c .before .before .before .before .before .loop-test .taken) (w .ensures) (w .kept .1 .1 .1 .1 .0)
 
 -- src/lib.rt:82:19
 slice-aggregate-put : tie.Need-slice-aggregate-put Inv-loop μ-loop
-slice-aggregate-put c = let p = c .before .before .before .before .before .before .before .loop .inv in let w = c .before .before .before .next-line in sym (length-take-le _ _ (line-fits p (c .before .before .before .before .before .before .loop-test .taken) (w .ensures) (w .kept .1 .1 .1 .1 .0)))
+slice-aggregate-put c = let w = c .before .before .before .next-line in sym (length-take-le _ _ (line-fits (c .before .before .before .before .before .before .before .loop .inv .follows) (c .before .before .before .before .before .before .loop-test .taken) (w .ensures) (w .kept .1 .1 .1 .1 .0)))
 
 -- src/lib.rt:82:9
 put-requires : tie.Need-put-requires Inv-loop μ-loop
@@ -58,11 +59,11 @@ add-to c = let p = c .before .before .before .before .before .before .before .be
 
 -- src/lib.rt:79:5
 loop-less : tie.Need-loop-less Inv-loop μ-loop
-loop-less c = let p = c .before .before .before .before .before .before .before .before .before .before .before .loop .inv in let w = c .before .before .before .before .before .before .before .next-line in omega (arith, onward p (c .before .before .before .before .before .before .before .before .before .before .loop-test .taken) (w .ensures) (w .kept .1 .1 .1 .1 .0), c .before .before .before .before .before .before .before .before .before .before .loop-test .taken)
+loop-less c = let w = c .before .before .before .before .before .before .before .next-line in omega (arith, onward (c .before .before .before .before .before .before .before .before .before .before .before .loop .inv .follows) (c .before .before .before .before .before .before .before .before .before .before .loop-test .taken) (w .ensures) (w .kept .1 .1 .1 .1 .0), c .before .before .before .before .before .before .before .before .before .before .loop-test .taken)
 
 -- src/lib.rt:79:5
 loop-again : tie.Need-loop-again Inv-loop μ-loop
-loop-again c = let p = c .before .before .before .before .before .before .before .before .before .before .before .loop .inv in let w = c .before .before .before .before .before .before .before .next-line in goes-on p (c .before .before .before .before .before .before .before .before .before .before .loop-test .taken) (w .ensures) (w .kept .1 .1 .1 .1 .0) (w .kept .1 .1 .0 ∙ p .array) (c .before .before .put .ensures)
+loop-again c = let w = c .before .before .before .before .before .before .before .next-line in goes-on (c .before .before .before .before .before .before .before .before .before .before .before .loop .inv) (c .before .before .before .before .before .before .before .before .before .before .loop-test .taken) (w .ensures) (w .kept .1 .1 .1 .1 .0) (w .kept .1 .1 .0) (c .before .before .put .ensures)
 
 -- src/lib.rt:70:1
 same-length : tie.Need-same-length Inv-loop μ-loop

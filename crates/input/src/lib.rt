@@ -2,19 +2,19 @@
 ghost use Prim.Native.Nat.{_-_, _≤_};
 ghost use mathlib.Core.Path.{_≡_};
 ghost use lib.ListN.{length, take};
-ghost use Rattle.gevurlat.specs.Inner.Reading.{Inside};
+ghost use Rattle.input.specs.Reading.{Inside};
 use libc::STDIN_FILENO;
 
 // A byte past the limit tells that a file is too long.
-pub(crate) const ENOUGH: usize = limits::FILE + 1;
+pub const ENOUGH: usize = limits::FILE + 1;
 
-pub(crate) enum Input {
+pub enum Input {
     Bytes(usize),
     Failed,
 }
 
 // A read may bring fewer bytes than there is room for: only one that brings none is the end.
-pub(crate) fn read_all(buf: &mut [u8]) -> Input
+pub fn read_all(buf: &mut [u8]) -> Input
     ensures { λ r. ⌜ Inside r (length (now (buf .exit))) ⌝ }
 {
     let mut n: usize = 0;

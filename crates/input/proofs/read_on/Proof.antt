@@ -4,8 +4,8 @@ use native.Mathlib.Omega.{arith}
 use Prim.Native.Nat.{_-_}
 use lib.ListN.{length, length-take, length-drop}
 use borrow.Rule.Slice.PartMut.{take-put}
-use Rattle.gevurlat.proofs.input.read_on.Statement.{statement}
-use Rattle.gevurlat.proofs.input.read_on.Tie as tie
+use Rattle.input.proofs.read_on.Statement.{statement}
+use Rattle.input.proofs.read_on.Tie as tie
 
 sub-read : tie.Need-sub-read
 sub-read c = search needs

@@ -4,9 +4,9 @@ use mathlib.Core.Path.{_≡_, refl, _∙_}
 use native.Mathlib.Omega.{arith}
 use lib.ListN.{length}
 use borrow.Author.Needs.{needs}
-use Rattle.gevurlat.proofs.Reading.{inside-bytes}
-use Rattle.gevurlat.proofs.input.read_all.Statement.{statement}
-use Rattle.gevurlat.proofs.input.read_all.Tie as tie
+use Rattle.input.proofs.Reading.{inside-bytes}
+use Rattle.input.proofs.read_all.Statement.{statement}
+use Rattle.input.proofs.read_all.Tie as tie
 
 abbrev Inv-loop : tie.InvT-loop
 Inv-loop buf₀ n₀ buf n = (n ≤ length buf) × (length buf ≡ length buf₀)

@@ -1,2 +1,0 @@
--- What only contracts inside this crate cite; no promise to a caller does.
-pub mod Reading

@@ -1,0 +1,24 @@
+// The inspector's program: a strip from standard input; its listing on standard output, line by line, in room for one line (02, C-11).
+mod lines;
+mod refusal;
+
+use input::Input;
+
+// Rattle gives a program no status of its own: what fails is said on standard error, and the command makes a status of it.
+fn main() {
+    let mut strip = [0u8; input::ENOUGH];
+    let got = input::read_all(&mut strip);
+    match got {
+        Input::Bytes(n) => print(&strip[..n]),
+        Input::Failed => os::fail(b"listing: cannot read standard input"),
+    }
+}
+
+fn print(strip: &[u8]) {
+    let a = checker::check(strip);
+    if a.code == card::DONE {
+        lines::print(strip);
+    } else {
+        refusal::print(a.code, a.place);
+    }
+}
