@@ -1,6 +1,5 @@
 // The listing of a strip that keeps every rule.
 ghost use Rattle.rules.specs.Strip.{Valid};
-use libc::STDOUT_FILENO;
 
 pub(crate) fn print(strip: &[u8])
     requires { ⌜ Valid (now strip) ⌝ }
@@ -12,8 +11,7 @@ pub(crate) fn print(strip: &[u8])
     while at < strip.len() {
         let n = listing::next_line(strip, at, &mut kinds, depth, &mut text);
         let len = n.len;
-        if !io::write_all(STDOUT_FILENO, &text[..len]) {
-            os::fail(b"listing: cannot write standard output");
+        if !crate::wrote(&text[..len]) {
             return;
         }
         depth = n.depth;

@@ -3,6 +3,7 @@ mod lines;
 mod refusal;
 
 use input::Input;
+use libc::STDOUT_FILENO;
 
 // Rattle gives a program no status of its own: what fails is said on standard error, and the command makes a status of it.
 fn main() {
@@ -21,4 +22,13 @@ fn print(strip: &[u8]) {
     } else {
         refusal::print(a.code, a.place);
     }
+}
+
+// Whether it was written.
+pub(crate) fn wrote(text: &[u8]) -> bool {
+    if io::write_all(STDOUT_FILENO, text) {
+        return true;
+    }
+    os::fail(b"listing: cannot write standard output");
+    false
 }

@@ -3,21 +3,19 @@ ghost use Prim.Native.Nat.{_≤_};
 ghost use lib.ListN.{length};
 ghost use Rattle.text.specs.Append.{Appends};
 ghost use Rattle.lister.specs.Refusal.{refusal};
-use libc::STDOUT_FILENO;
 
 // Two numbers of at most twenty digits and a byte after each.
 const LONGEST: usize = 42;
 
 pub(crate) fn print(code: u8, place: usize) {
     let mut out = [0u8; LONGEST];
-    let n = text(code, place, &mut out);
-    if !io::write_all(STDOUT_FILENO, &out[..n]) {
-        os::fail(b"listing: cannot write standard output");
-    }
+    let n = line(code, place, &mut out);
+    crate::wrote(&out[..n]);
 }
 
-fn text(code: u8, place: usize, out: &mut [u8]) -> usize
+fn line(code: u8, place: usize, out: &mut [u8]) -> usize
     requires { ⌜ 42 ≤ length (now out) ⌝ }
+    ensures { λ r. ⌜ r ≤ 42 ⌝ }
     ensures { λ r. ⌜ Appends (refusal code place) (now (out .entry)) 0 r (now (out .exit)) ⌝ }
 {
     let after_code = text::decimal(code as u64, out, 0);
