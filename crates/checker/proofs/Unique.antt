@@ -28,7 +28,7 @@ one-check κs a e e′ r r′ p q = one-answer p q
 
 -- ---- one step
 
-becomes-once : {kinds after after′ : List ℕ} {d d′ : ℕ} {λs μs : List Kind} → λs ≡ μs → Becomes kinds after d λs → Becomes kinds after′ d′ μs → (d ≡ d′) × (after ≡ after′)
+pub becomes-once : {kinds after after′ : List ℕ} {d d′ : ℕ} {λs μs : List Kind} → λs ≡ μs → Becomes kinds after d λs → Becomes kinds after′ d′ μs → (d ≡ d′) × (after ≡ after′)
 becomes-once {kinds} {d = d} {d′ = d′} e a b =
     let same : d ≡ d′ = sym (a .many) ∙ ap length e ∙ b .many in
     (same, a .here ∙ ap₂ (λ (x : List Kind) (k : ℕ). map kindByte x ++ drop k kinds) e same ∙ sym (b .here))

@@ -65,6 +65,9 @@ ahead-read : {s : List ℕ} {h : Header} {p : ℕ} {κs : List Kind} → Ahead s
 ahead-read (stops {i} {n} r e) = (i, plain End, n, r)
 ahead-read (goes {i} {c} {n} r f t l) = (i, c, n, r)
 
+pub reached-inside : {s : List ℕ} (v : Valid s) {p : ℕ} {κs : List Kind} → Reaches s (v .header) p κs → p < length s
+reached-inside v a = let it = ahead-read (ahead v a) in omega (arith, stands-some (it .3 .stands), stands-inside (it .3 .stands))
+
 module _ {s : List ℕ} {p : ℕ} {kinds : List ℕ} {depth : ℕ} (w : Walks s p kinds depth) where
   abbrev h : Header
   h = w .valid .header
