@@ -74,11 +74,11 @@ at-id : (id : ℕ) {c : Code} → rowOf id ≡ carried c → T (eqb (idOfName (n
 at-id id {c} e =
     ⊎-elim
     (λ l. and-yes (eqb (idOfName (nameOf id)) id) (ltb 0 (length (nameOf id))) (subst (λ (r : Row). T (back id r (nameOf id))) e (below (λ k. back k (rowOf k) (nameOf k)) 512 all-back id l)))
-    (λ h. absurd (cc-absurd h))
+    (λ h. absurd (past h))
     (below-or-past 512 id)
   where
-    cc-absurd : 512 ≤ id → ⊥
-    cc-absurd h = let z : _≡_ {A = ℕ} 0 1 = cc (row-beyond id h) in omega arith
+    past : 512 ≤ id → ⊥
+    past h = let z : _≡_ {A = ℕ} 0 1 = cc (row-beyond id h) in omega arith
 
 name-back : (id : ℕ) {c : Code} → rowOf id ≡ carried c → idOfName (nameOf id) ≡ id
 name-back id e = eqb→eq (idOfName (nameOf id)) id (at-id id e .0)

@@ -1,4 +1,4 @@
--- The code's table: rows of 32 bytes, each a name and blanks. A byte of a row is a byte of the name, and a blank is none.
+-- The code's blocks: rows of 32 bytes, each a name and blanks. A byte of a row is a byte of the name, and a blank is none.
 use Prim.Native.Nat.{ℕ, zero, suc, _+_, _-_, _*_, _/_, _%_, _≤_, _<_}
 use Prim.Native.String.{String}
 use mathlib.Core.Path.{_≡_, refl, sym, ap, _∙_}
@@ -6,7 +6,7 @@ use mathlib.Core.List.{List, [], _∷_, _++_, map}
 use mathlib.Core.Logic.{⊎-elim}
 use native.Mathlib.Omega.{arith}
 use lib.Dec.{lit≤}
-use lib.ListN.{length, getD, take, replicate, length-append, length-take, length-replicate, getD-replicate, List·getD-append, List·getD-eq-default}
+use lib.ListN.{length, getD, replicate, length-append, length-take, length-replicate, getD-replicate, List·getD-append, List·getD-eq-default}
 use lib.Seq.{getD-append-add, getD-take}
 use Rattle.opcode.specs.Ascii.{ascii}
 use Rattle.opcode.specs.Number.{nameOf}
@@ -21,7 +21,7 @@ use Rattle.mnemonic.proofs.Texts.{rowName, name-in-row}
 length-padded : (n : List ℕ) → length (padded n) ≡ 32
 length-padded n = simp (length-take, length-append, length-replicate) (omega arith)
 
-pub joined-at : (ts : List String) (r k : ℕ) {i : ℕ} → r < length ts → k < 32 → i ≡ r * 32 + k → getD (joined ts) i 0 ≡ getD (padded (ascii (getD ts r ""))) k 0
+joined-at : (ts : List String) (r k : ℕ) {i : ℕ} → r < length ts → k < 32 → i ≡ r * 32 + k → getD (joined ts) i 0 ≡ getD (padded (ascii (getD ts r ""))) k 0
 joined-at [] r k h l e = let none : ⊥ = omega arith in absurd none
 joined-at (t ∷ ts) zero k h l e =
     ap (λ (j : ℕ). getD (padded (ascii t) ++ joined ts) j 0) (omega (arith, e)) ∙ List·getD-append (padded (ascii t)) (joined ts) 0 k (omega (arith, length-padded (ascii t)))
@@ -43,14 +43,14 @@ module _ (n : List ℕ) (letters : Letters n) (short : length n ≤ 32) (k : ℕ
       ∙ getD-append-add n (replicate 32 BLANK) (k - length n) 0
       ∙ getD-replicate 32 (k - length n) BLANK 0 (omega arith)
 
-  pub blank : getD (padded n) k 0 ≡ BLANK → 0 ≡ getD n k 0
+  blank : getD (padded n) k 0 ≡ BLANK → 0 ≡ getD n k 0
   blank e =
       ⊎-elim
       (λ h. let b = letters-at n letters k h in absurd (omega (arith, inside h)))
       (λ h. sym (List·getD-eq-default n 0 h))
       (below-or-past (length n) k)
 
-  pub printed : (getD (padded n) k 0 ≡ BLANK → ⊥) → getD (padded n) k 0 ≡ getD n k 0
+  printed : (getD (padded n) k 0 ≡ BLANK → ⊥) → getD (padded n) k 0 ≡ getD n k 0
   printed d = ⊎-elim inside (λ h. absurd (d (outside h))) (below-or-past (length n) k)
 
 -- ---- a byte of a block

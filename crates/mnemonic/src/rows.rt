@@ -1,5 +1,5 @@
-// The names (document 002, and Core 6.5 for the nine outside the prefix), a row of 32 bytes each, filled with blanks, and sixteen rows a
-// function. A constant array is laid on the stack where it is read, so that one of 265 rows would cost as many at each letter.
+// The names (document 002, and Core 6.5 for the nine outside the prefix), a row of 32 bytes each, filled with blanks. Sixteen rows a
+// function: an array is written to the stack where it is read, and all the rows in one would be 8,480 bytes for each letter.
 ghost use mathlib.Core.Path.{_≡_};
 ghost use Prim.Native.Nat.{_<_};
 ghost use lib.ListN.{getD};

@@ -1,5 +1,5 @@
--- The kinds of values (01, "The strip file", "Values and shapes"): a kind's byte, and how many of a value's sixteen bytes it uses, and
--- its name.
+-- The kinds of values (01, "The strip file", "Values and shapes"): a kind's byte, how many of a value's sixteen bytes it uses, and its
+-- name (Core 6.4).
 use Prim.Native.Nat.{ℕ}
 use mathlib.Core.List.{List}
 use Rattle.opcode.specs.Ascii.{ascii}
