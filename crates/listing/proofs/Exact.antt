@@ -9,9 +9,9 @@ use mathlib.Core.Bool.{true}
 use Rattle.text.specs.Words.{newline}
 use Rattle.text.proofs.Words.{cut-once}
 use Rattle.opcode.specs.Kind.{Kind}
-use Rattle.opcode.specs.Table.{Code, carried}
+use Rattle.opcode.specs.Table.{Code}
 use Rattle.instr.specs.declared.Instr.{Instr}
-use Rattle.instr.specs.Layout.{Stands, rowIn}
+use Rattle.instr.specs.Layout.{Stands}
 use Rattle.rules.specs.Header.{Header, headerBytes, locals}
 use Rattle.rules.specs.Typing.{Types}
 use Rattle.rules.specs.Strip.{Reaches, front}

@@ -1,8 +1,8 @@
 -- A line tells its instruction: names are different, and the numbers shown after a name tell its immediates.
-use Prim.Native.Nat.{ℕ, _<_}
-use mathlib.Core.Path.{_≡_, refl, sym, ap, ap₂, subst, _∙_}
+use Prim.Native.Nat.{ℕ}
+use mathlib.Core.Path.{_≡_, refl, sym, ap, ap₂, _∙_}
 use mathlib.Core.Bool.{Bool, true, false, cond}
-use mathlib.Core.List.{List, [], _∷_, _++_, map}
+use mathlib.Core.List.{List, [], _∷_, map}
 use native.Mathlib.Omega.{arith}
 use borrow.Author.Tests.{eqb-true}
 use lib.Dec.{eqb}
@@ -13,7 +13,7 @@ use Rattle.opcode.specs.Table.{Code, Row, carried, PREFIX, rowAt}
 use Rattle.opcode.specs.Immediate as Immediate
 use Rattle.mnemonic.proofs.Names.{name-once}
 use Rattle.instr.specs.declared.Instr.{Instr}
-use Rattle.instr.specs.Layout.{Field, immediateFields, fieldsOf, rowIn, Head, head, headOf, kept, keptOf, bare, Typed, Stands}
+use Rattle.instr.specs.Layout.{immediateFields, fieldsOf, rowIn, Head, head, headOf, kept, keptOf, bare}
 use Rattle.rules.specs.Strip.{Reads}
 use Rattle.listing.specs.Line.{mnemonic, numbers, immediates}
 use Rattle.listing.proofs.Fields.{fields-once, class-alike, kept-once}

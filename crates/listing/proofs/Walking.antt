@@ -1,12 +1,11 @@
 -- A walk over a strip that keeps every rule: at a place that is reached an instruction stands, and it is the last, or the next place is reached.
 use Prim.Native.Nat.{ℕ, _+_, _≤_, _<_}
 use mathlib.Core.Path.{_≡_, refl, sym, ap, subst, _∙_}
-use mathlib.Core.List.{List, [], _∷_, _++_}
+use mathlib.Core.List.{List, _++_}
 use mathlib.Core.Logic.{_⊎_, inl, inr}
 use native.Mathlib.Omega.{arith}
 use lib.ListN.{length, drop, getD}
-use lib.Seq.{sets, sets-eq}
-use Rattle.card.specs.Card.{DONE}
+use lib.Seq.{sets-eq}
 use Rattle.limits.specs.Limits.{fileLimit, stackLimit}
 use Rattle.opcode.specs.Kind.{Kind}
 use Rattle.opcode.specs.Table.{End, Code, plain, carried}
@@ -17,7 +16,7 @@ use Rattle.opcode.proofs.Entries.{group-in}
 use Rattle.opcode.proofs.Groups.{by-group}
 use Rattle.instr.specs.declared.Instr.{Instr}
 use Rattle.instr.specs.declared.Fetched.{Fetched}
-use Rattle.instr.specs.Layout.{Stands, rowIn, found}
+use Rattle.instr.specs.Layout.{Stands, found}
 use Rattle.instr.specs.Decode.{decodeAt}
 use Rattle.instr.specs.Fetch.{fetchOf}
 use Rattle.instr.proofs.Decodes.{stands-decodes}
@@ -28,11 +27,10 @@ use Rattle.rules.specs.Strip.{Reads, Reaches, front, past, Valid}
 use Rattle.rules.proofs.Typings.{types-once}
 use Rattle.rules.proofs.Events.{end-untyped, declared-local}
 use Rattle.rules.proofs.Onward.{Onward, here, next, from-front, declared, reads-once, only, compare}
-use Rattle.checker.specs.Walk.{Holds, Becomes, Judges, no-local, untyped, too-deep, typed}
+use Rattle.checker.specs.Walk.{Holds, Judges, no-local, untyped, too-deep, typed}
 use Rattle.checker.proofs.Goings.{counted, counts-inside, holds-locals}
 use Rattle.listing.specs.Line.{line}
 use Rattle.listing.specs.Walk.{longest, Walks, Goes, over, on, Walked}
-use Rattle.listing.specs.declared.Next.{Next}
 use Rattle.listing.specs.Inner.Parts.{Adds, Shows}
 use Rattle.text.proofs.Appending.{appended}
 

@@ -1,9 +1,8 @@
 // The kinds on the stack in their brackets.
 ghost use Prim.Native.Nat.{_+_, _*_, _≤_};
-ghost use mathlib.Core.Path.{_≡_};
 ghost use mathlib.Core.List.{List, _++_};
 ghost use lib.ListN.{length};
-ghost use Rattle.opcode.specs.Kind.{Kind, kindByte, kindName};
+ghost use Rattle.opcode.specs.Kind.{Kind};
 ghost use Rattle.checker.specs.Walk.{Holds};
 ghost use Rattle.listing.specs.Line.{bracketed};
 ghost use Rattle.listing.specs.Inner.Parts.{kindText, between, Adds};

@@ -1,3 +1,4 @@
+-- A turn prints one line; what is printed lies in the array.
 use Prim.Native.Nat.{_-_}
 use mathlib.Core.Path.{refl, sym}
 use borrow.Author.Needs.{needs}
@@ -7,11 +8,6 @@ use lib.Seq.{length-take-le}
 use Rattle.listing.proofs.Following.{Follows, follow-begins, follow-walks, line-fits, onward, follow-on}
 use Rattle.lister.proofs.lines.print.Statement.{statement}
 use Rattle.lister.proofs.lines.print.Tie as tie
-use Rattle.lister.proofs.lines.print.Reads as reads
-use Rattle.lister.proofs.lines.print.Lts as lts
-use Rattle.checker.proofs.start.Reads as start-reads
-use Rattle.lister.proofs.wrote.Reads as wrote-reads
-use Rattle.listing.proofs.next_line.Reads as next-line-reads
 
 abbrev Inv-loop : tie.InvT-loop
 Inv-loop strip kinds₀ text₀ depth₀ at₀ kinds text depth at = Follows strip kinds text depth at
@@ -19,51 +15,39 @@ Inv-loop strip kinds₀ text₀ depth₀ at₀ kinds text depth at = Follows str
 abbrev μ-loop : tie.MeasureT-loop
 μ-loop strip kinds₀ text₀ depth₀ at₀ kinds text depth at = length strip - at
 
--- src/lines.rt:10:9
 start-requires : tie.Need-start-requires Inv-loop μ-loop
 start-requires c κs = search needs
 
--- src/lines.rt:11:5
 loop-holds : tie.Need-loop-holds Inv-loop μ-loop
 loop-holds c = follow-begins (c .before .before .pre) _ _ (c .start .ensures) refl refl
 
--- src/lines.rt:12:47
 slice-aggregate-next-line : tie.Need-slice-aggregate-next-line Inv-loop μ-loop
 slice-aggregate-next-line c = let f = c .before .before .loop .inv in search needs
 
--- src/lines.rt:12:66
 slice-aggregate-next-line-2 : tie.Need-slice-aggregate-next-line-2 Inv-loop μ-loop
 slice-aggregate-next-line-2 c = let f = c .before .before .before .loop .inv in search needs
 
--- src/lines.rt:12:13
 next-line-requires : tie.Need-next-line-requires Inv-loop μ-loop
 next-line-requires c κs = let p = c .before .before .before .loop .inv in (follow-walks p (c .before .before .loop-test .taken), omega (arith, p .room))
 
--- src/lines.rt:14:26
 array-share-prefix-text : tie.Need-array-share-prefix-text Inv-loop μ-loop
 array-share-prefix-text c = let w = c .before .before .next-line in line-fits (c .before .before .before .before .before .before .loop .inv) (c .before .before .before .before .before .loop-test .taken) (w .ensures) (w .kept .1 .1 .1 .1 .0)
 
--- src/lines.rt:14:26
 slice-aggregate-wrote : tie.Need-slice-aggregate-wrote Inv-loop μ-loop
 slice-aggregate-wrote c = let w = c .before .before .before .next-line in sym (length-take-le _ _ (line-fits (c .before .before .before .before .before .before .before .loop .inv) (c .before .before .before .before .before .before .loop-test .taken) (w .ensures) (w .kept .1 .1 .1 .1 .0)))
 
--- src/lines.rt:14:13
 wrote-requires : tie.Need-wrote-requires Inv-loop μ-loop
 wrote-requires c κs = search needs
 
--- src/lines.rt:15:13
 returns : tie.Need-returns Inv-loop μ-loop
 returns c = search needs
 
--- src/lines.rt:11:5
 loop-less : tie.Need-loop-less Inv-loop μ-loop
 loop-less c = let w = c .before .before .before .before .before .next-line in omega (arith, onward (c .before .before .before .before .before .before .before .before .before .loop .inv) (c .before .before .before .before .before .before .before .before .loop-test .taken) (w .ensures) (w .kept .1 .1 .1 .1 .0), c .before .before .before .before .before .before .before .before .loop-test .taken)
 
--- src/lines.rt:11:5
 loop-again : tie.Need-loop-again Inv-loop μ-loop
 loop-again c = let w = c .before .before .before .before .before .next-line in follow-on (c .before .before .before .before .before .before .before .before .before .loop .inv) (c .before .before .before .before .before .before .before .before .loop-test .taken) (w .ensures) (w .kept .1 .1 .1 .1 .0) (w .kept .1 .1 .0)
 
--- src/lines.rt:4:1
 returns-2 : tie.Need-returns-2 Inv-loop μ-loop
 returns-2 c = search needs
 

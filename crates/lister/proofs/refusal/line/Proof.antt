@@ -1,34 +1,25 @@
+-- Code, a blank, place, a line's end.
 use native.Mathlib.Omega.{arith}
 use Rattle.lister.proofs.Refusals.{refused}
 use borrow.Author.Needs.{needs}
 use Rattle.lister.proofs.refusal.line.Statement.{statement}
 use Rattle.lister.proofs.refusal.line.Tie as tie
-use Rattle.lister.proofs.refusal.line.Reads as reads
-use Rattle.lister.proofs.refusal.line.Lts as lts
-use Rattle.text.proofs.decimal.Reads as decimal-reads
-use Rattle.text.proofs.push.Reads as push-reads
 
--- src/refusal.rt:21:9
 decimal-requires : tie.Need-decimal-requires
 decimal-requires c κs = search needs
 
--- src/refusal.rt:22:9
 push-requires : tie.Need-push-requires
 push-requires c κs = search needs
 
--- src/refusal.rt:23:9
 decimal-requires-2 : tie.Need-decimal-requires-2
 decimal-requires-2 c κs = search needs
 
--- src/refusal.rt:24:5
 push-requires-2 : tie.Need-push-requires-2
 push-requires-2 c κs = search needs
 
--- src/refusal.rt:16:1
 same-length : tie.Need-same-length
 same-length c = search needs
 
--- src/refusal.rt:16:1
 returns : tie.Need-returns
 returns c = refused (omega (arith, c .before .before .before .before .before .before .before .before .before .before .before .before .before .before .before .before .before .fits .code .fits)) (c .before .before .before .before .before .before .before .before .before .before .before .before .before .before .before .before .before .fits .place .fits) (c .before .before .before .before .before .before .before .before .before .before .before .before .before .before .before .before .before .pre) (c .before .before .before .before .before .before .before .before .before .before .before .before .before .before .decimal .ensures) (c .before .before .before .before .before .before .before .before .before .before .push .ensures) (c .before .before .before .before .before .before .decimal2 .ensures) (c .before .before .push2 .ensures)
 

@@ -1,3 +1,4 @@
+-- The numbers, class by class.
 use mathlib.Core.Logic.{inl, inr}
 use mathlib.Core.Path.{sym, subst, _∙_}
 use native.Mathlib.Omega.{arith}
@@ -8,150 +9,109 @@ use Rattle.listing.proofs.Shown.{shown-index, shown-word, shown-long, s
 use borrow.Author.Needs.{needs}
 use Rattle.listing.proofs.immediates.immediates.Statement.{statement}
 use Rattle.listing.proofs.immediates.immediates.Tie as tie
-use Rattle.listing.proofs.immediates.immediates.Reads as reads
-use Rattle.listing.proofs.immediates.immediates.Lts as lts
-use Rattle.listing.proofs.immediates.bytes.Reads as bytes-reads
-use Rattle.listing.proofs.immediates.long.Reads as long-reads
-use Rattle.listing.proofs.immediates.number.Reads as number-reads
-use Rattle.listing.proofs.immediates.word.Reads as word-reads
 
--- src/immediates.rt:22:33
 cast-number : tie.Need-cast-number
 cast-number c = search needs
 
--- src/immediates.rt:22:26
 number-requires : tie.Need-number-requires
 number-requires c κs = search needs
 
--- src/immediates.rt:23:25
 word-requires : tie.Need-word-requires
 word-requires c κs = search needs
 
--- src/immediates.rt:24:25
 long-requires : tie.Need-long-requires
 long-requires c κs = search needs
 
--- src/immediates.rt:26:28
 cast-number-2 : tie.Need-cast-number-2
 cast-number-2 c = search needs
 
--- src/immediates.rt:26:17
 number-requires-2 : tie.Need-number-requires-2
 number-requires-2 c κs = search needs
 
--- src/immediates.rt:27:20
 cast-number-3 : tie.Need-cast-number-3
 cast-number-3 c = search needs
 
--- src/immediates.rt:27:13
 number-requires-3 : tie.Need-number-requires-3
 number-requires-3 c κs = omega (arith, adds-ends (c .before .before .before .before .number2 .ensures) (omega (arith, c .before .before .before .before .before .before .before .before .before .pre .1)), c .before .before .before .before .before .before .before .before .before .pre .1)
 
--- src/immediates.rt:30:28
 cast-number-4 : tie.Need-cast-number-4
 cast-number-4 c = search needs
 
--- src/immediates.rt:30:17
 number-requires-4 : tie.Need-number-requires-4
 number-requires-4 c κs = search needs
 
--- src/immediates.rt:31:28
 cast-number-5 : tie.Need-cast-number-5
 cast-number-5 c = search needs
 
--- src/immediates.rt:31:17
 number-requires-5 : tie.Need-number-requires-5
 number-requires-5 c κs = omega (arith, adds-ends (c .before .before .before .before .number4 .ensures) (omega (arith, c .before .before .before .before .before .before .before .before .before .pre .1)), c .before .before .before .before .before .before .before .before .before .pre .1)
 
--- src/immediates.rt:32:20
 cast-number-6 : tie.Need-cast-number-6
 cast-number-6 c = search needs
 
--- src/immediates.rt:32:13
 number-requires-6 : tie.Need-number-requires-6
 number-requires-6 c κs = let p = adds-ends (c .before .before .before .before .before .before .before .before .before .number4 .ensures) (omega (arith, c .before .before .before .before .before .before .before .before .before .before .before .before .before .before .pre .1)) in let q = adds-ends (c .before .before .before .before .number5 .ensures) (omega (arith, p, c .before .before .before .before .before .before .before .before .before .before .before .before .before .before .pre .1)) in omega (arith, p, q, c .before .before .before .before .before .before .before .before .before .before .before .before .before .before .pre .1)
 
--- src/immediates.rt:34:32
 cast-number-7 : tie.Need-cast-number-7
 cast-number-7 c = search needs
 
--- src/immediates.rt:34:25
 number-requires-7 : tie.Need-number-requires-7
 number-requires-7 c κs = search needs
 
--- src/immediates.rt:37:13
 bytes-requires : tie.Need-bytes-requires
 bytes-requires c κs = search needs
 
--- src/immediates.rt:41:13
 bytes-requires-2 : tie.Need-bytes-requires-2
 bytes-requires-2 c κs = search needs
 
--- src/immediates.rt:17:1
 same-length : tie.Need-same-length
 same-length c = search needs
 
--- src/immediates.rt:17:1
 returns : tie.Need-returns
 returns c = adds-most (omega arith) (adds-same (shown-index (c .before .before .before .before .before .before .before .args .i) (sym (c .before .before .before .before .before .before .before .pre .0) ∙ c .before .before .before .before .before .match .keys1)) (c .before .before .number .ensures))
 
--- src/immediates.rt:17:1
 same-length-2 : tie.Need-same-length-2
 same-length-2 c = search needs
 
--- src/immediates.rt:17:1
 returns-2 : tie.Need-returns-2
 returns-2 c = adds-most (omega arith) (adds-same (shown-word (c .before .before .before .before .before .before .args .i) (sym (c .before .before .before .before .before .before .pre .0) ∙ c .before .before .before .before .match .keys2)) (c .before .before .word .ensures))
 
--- src/immediates.rt:17:1
 same-length-3 : tie.Need-same-length-3
 same-length-3 c = search needs
 
--- src/immediates.rt:17:1
 returns-3 : tie.Need-returns-3
 returns-3 c = adds-most (omega arith) (adds-same (shown-long (c .before .before .before .before .before .before .args .i) (sym (c .before .before .before .before .before .before .pre .0) ∙ c .before .before .before .before .match .keys3)) (c .before .before .long .ensures))
 
--- src/immediates.rt:17:1
 same-length-4 : tie.Need-same-length-4
 same-length-4 c = search needs
 
--- src/immediates.rt:17:1
 returns-4 : tie.Need-returns-4
 returns-4 c = adds-most (omega arith) (adds-same (shown-memory (c .before .before .before .before .before .before .before .before .before .before .before .before .args .i) (sym (c .before .before .before .before .before .before .before .before .before .before .before .before .pre .0) ∙ c .before .before .before .before .before .before .before .before .before .before .match .keys4)) (adds-both (c .before .before .before .before .before .before .before .number2 .ensures) (c .before .before .number3 .ensures) (omega (arith, c .before .before .before .before .before .before .before .before .before .before .before .before .pre .1))))
 
--- src/immediates.rt:17:1
 same-length-5 : tie.Need-same-length-5
 same-length-5 c = search needs
 
--- src/immediates.rt:17:1
 returns-5 : tie.Need-returns-5
 returns-5 c = let p = adds-ends (c .before .before .before .before .before .before .before .before .before .before .before .before .number4 .ensures) (omega (arith, c .before .before .before .before .before .before .before .before .before .before .before .before .before .before .before .before .before .pre .1)) in adds-most (omega arith) (adds-same (shown-memory-lane (c .before .before .before .before .before .before .before .before .before .before .before .before .before .before .before .before .before .args .i) (sym (c .before .before .before .before .before .before .before .before .before .before .before .before .before .before .before .before .before .pre .0) ∙ c .before .before .before .before .before .before .before .before .before .before .before .before .before .before .before .match .keys5)) (adds-both (c .before .before .before .before .before .before .before .before .before .before .before .before .number4 .ensures) (adds-both (c .before .before .before .before .before .before .before .number5 .ensures) (c .before .before .number6 .ensures) (omega (arith, p, c .before .before .before .before .before .before .before .before .before .before .before .before .before .before .before .before .before .pre .1))) (omega (arith, c .before .before .before .before .before .before .before .before .before .before .before .before .before .before .before .before .before .pre .1))))
 
--- src/immediates.rt:17:1
 same-length-6 : tie.Need-same-length-6
 same-length-6 c = search needs
 
--- src/immediates.rt:17:1
 returns-6 : tie.Need-returns-6
 returns-6 c = adds-most (omega arith) (adds-same (shown-lane (c .before .before .before .before .before .before .before .args .i) (sym (c .before .before .before .before .before .before .before .pre .0) ∙ c .before .before .before .before .before .match .keys6)) (c .before .before .number7 .ensures))
 
--- src/immediates.rt:17:1
 same-length-7 : tie.Need-same-length-7
 same-length-7 c = search needs
 
--- src/immediates.rt:17:1
 returns-7 : tie.Need-returns-7
 returns-7 c = adds-same (shown-sixteen (c .before .before .before .before .before .before .before .args .i) (inl (sym (c .before .before .before .before .before .before .before .pre .0) ∙ c .before .before .before .before .before .match .keys7))) (c .before .before .bytes .ensures)
 
--- src/immediates.rt:17:1
 same-length-8 : tie.Need-same-length-8
 same-length-8 c = search needs
 
--- src/immediates.rt:17:1
 returns-8 : tie.Need-returns-8
 returns-8 c = adds-same (shown-sixteen (c .before .before .before .before .before .before .before .args .i) (inr (sym (c .before .before .before .before .before .before .before .pre .0) ∙ c .before .before .before .before .before .match .keys8))) (c .before .before .bytes2 .ensures)
 
--- src/immediates.rt:17:1
 returns-9 : tie.Need-returns-9
 returns-9 c = adds-most (omega arith) (adds-same (shown-none (c .before .before .args .i) (fields-other (rowIn (c .before .before .args .i)) (subst (AllBut carrying) (c .before .before .pre .0) (c .match .rest)) (c .before .before .args .i))) (adds-none _ _ (omega (arith, c .before .before .pre .1))))
 

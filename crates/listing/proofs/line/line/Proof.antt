@@ -1,3 +1,4 @@
+-- The parts, one after the other.
 use native.Mathlib.Omega.{arith}
 use Rattle.listing.proofs.Chain.{lettered, class-is, kinds-long, after-place, after-stack, after-gap, after-name, is-line}
 use borrow.Author.Needs.{needs}

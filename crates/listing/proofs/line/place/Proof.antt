@@ -1,3 +1,4 @@
+-- The digits, and a blank.
 use native.Mathlib.Omega.{arith}
 use Rattle.text.proofs.Decimals.{decimal-short}
 use Rattle.listing.proofs.Parts.{one-byte, adds-both}
