@@ -18,6 +18,22 @@ use Rattle.rules.proofs.Onward.{Onward, here, next, from-front, declared, reach
 use Rattle.listing.specs.Line.{line}
 use Rattle.listing.specs.Listing.{Lines, no-more, one-more, Listing}
 
+-- ---- a valid strip has one
+
+lines-between : {s : List ℕ} {h : Header} {p q : ℕ} {κs λs : List Kind} {rest : List ℕ} → Reaches s h p κs → Onward s h p κs q λs → (Reaches s h q λs → Lines s h q rest)
+    → (text : List ℕ) × Lines s h p text
+lines-between {rest = rest} a here f = (rest, f a)
+lines-between {p = p} {κs = κs} a (next {i = i} r t l o) f =
+    let more = lines-between (past a r t l) o f in
+    (line p κs i ++ more .0, one-more a (r .stands) (more .1))
+
+pub listed : {s : List ℕ} (v : Valid s) → (text : List ℕ) × Listing s text
+listed v =
+    let all = lines-between (front (declared (v .reached))) (from-front (v .reached)) (λ a. one-more a (v .ends .stands) (no-more (v .last))) in
+    (all .0, record { valid = v; lines = all .1 })
+
+-- ---- and no other
+
 no-room : {s : List ℕ} {p n : ℕ} {i : Instr} → p ≡ length s → Stands s p i n → ⊥
 no-room e w = omega (arith, e, stands-some w, stands-inside w)
 
@@ -34,20 +50,6 @@ pub listing-once : {s x y : List ℕ} → Listing s x → Listing s y → x ≡ 
 listing-once {s} {y = y} a b =
     let h = declares-once s (b .valid .header) (a .valid .header) (declared (b .valid .reached)) (declared (a .valid .reached)) in
     lines-once (a .lines) (subst (λ (x : Header). Lines s x (length (headerBytes x)) y) h (b .lines))
-
--- ---- a valid strip has one
-
-lines-between : {s : List ℕ} {h : Header} {p q : ℕ} {κs λs : List Kind} {rest : List ℕ} → Reaches s h p κs → Onward s h p κs q λs → (Reaches s h q λs → Lines s h q rest)
-    → (text : List ℕ) × Lines s h p text
-lines-between {rest = rest} a here f = (rest, f a)
-lines-between {p = p} {κs = κs} a (next {i = i} r t l o) f =
-    let more = lines-between (past a r t l) o f in
-    (line p κs i ++ more .0, one-more a (r .stands) (more .1))
-
-pub listed : {s : List ℕ} (v : Valid s) → (text : List ℕ) × Listing s text
-listed v =
-    let all = lines-between (front (declared (v .reached))) (from-front (v .reached)) (λ a. one-more a (v .ends .stands) (no-more (v .last))) in
-    (all .0, record { valid = v; lines = all .1 })
 
 -- ---- the instructions of a listing
 
