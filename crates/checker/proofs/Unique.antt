@@ -13,6 +13,13 @@ use Rattle.rules.proofs.Verdicts.{says-once}
 use Rattle.checker.specs.Check.{Checked}
 use Rattle.checker.specs.Walk.{Becomes, Judges, no-local, untyped, too-deep, typed}
 use Rattle.checker.proofs.check.Reads as check
+use Rattle.checker.proofs.start.Reads as start
+use Rattle.checker.proofs.typing.judge.Reads as judge
+use Rattle.checker.specs.declared.stack.Judged.{Judged}
+use Rattle.opcode.specs.Table.{End, plain, carried}
+use Rattle.opcode.specs.Entry.{entryOf}
+use Rattle.checker.specs.Walk.{Holds}
+use denote.Ref.{now}
 
 abbrev answer : ℕ → ℕ → ℕ → Answer
 answer c p n = record { code = c; place = p; steps = n }
@@ -52,3 +59,11 @@ module _ {ls : List Kind} {n : ℕ} {c : Code} {κs : List Kind} {kinds : List �
   judges-once (typed t small b) (untyped g f) = absurd (f _ t)
   judges-once (typed t small b) (too-deep t′ big) = absurd (let z : ⊥ = omega (arith, ap length (types-once t t′)) in z)
   judges-once (typed t small b) (typed t′ small′ b′) = let same = becomes-once (types-once t t′) b b′ in (refl, same .0, same .1)
+
+pub one-start : (κs : _) (a : _) (e e′ : _) (r r′ : ℕ) → start.Post κs a r e → start.Post κs a r′ e′ → r ≡ r′
+one-start κs a e e′ r r′ p q = p ∙ sym q
+
+-- of `judge`, where the entry is that of an instruction and the bytes are kinds
+pub one-judge : (κs : _) (a : _) (e e′ : _) (r r′ : Judged) → judge.Post κs a r e → judge.Post κs a r′ e′ → (c : Code) (ls ks : List Kind) → a .1 .1 .0 ≡ entryOf (carried c) → (c ≡ plain End → ⊥)
+    → Holds (drop 8 (now (a .0))) (a .1 .0) ls → Holds (now (a .1 .1 .1 .1 .0)) (a .1 .1 .1 .1 .1 .0) ks → (r .code ≡ r′ .code) × (r .depth ≡ r′ .depth) × (now (e .1 .1 .1 .1 .0) ≡ now (e′ .1 .1 .1 .1 .0))
+one-judge κs a e e′ r r′ p q c ls ks x y h k = judges-once (p c ls ks x y h k) (q c ls ks x y h k)

@@ -14,3 +14,4 @@ pub mod Chain
 pub mod Walking
 pub mod Passing
 pub mod Answers
+pub mod Examples
