@@ -16,11 +16,12 @@ fn main() {
 }
 
 fn print(strip: &[u8]) {
-    let a = checker::check(strip);
-    if a.code == card::DONE {
+    let mut out = [0u8; refusal::LONGEST];
+    let n = refusal::refusal(strip, &mut out);
+    if n == 0 {
         lines::print(strip);
     } else {
-        refusal::print(a.code, a.place);
+        wrote(&out[..n]);
     }
 }
 

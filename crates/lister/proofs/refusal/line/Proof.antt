@@ -1,6 +1,6 @@
 -- Code, a blank, place, a line's end.
 use native.Mathlib.Omega.{arith}
-use Rattle.lister.proofs.Refusals.{refused}
+use Rattle.lister.proofs.Refusals.{line-told}
 use borrow.Author.Needs.{needs}
 use Rattle.lister.proofs.refusal.line.Statement.{statement}
 use Rattle.lister.proofs.refusal.line.Tie as tie
@@ -21,7 +21,7 @@ same-length : tie.Need-same-length
 same-length c = search needs
 
 returns : tie.Need-returns
-returns c = refused (omega (arith, c .before .before .before .before .before .before .before .before .before .before .before .before .before .before .before .before .before .fits .code .fits)) (c .before .before .before .before .before .before .before .before .before .before .before .before .before .before .before .before .before .fits .place .fits) (c .before .before .before .before .before .before .before .before .before .before .before .before .before .before .before .before .before .pre) (c .before .before .before .before .before .before .before .before .before .before .before .before .before .before .decimal .ensures) (c .before .before .before .before .before .before .before .before .before .before .push .ensures) (c .before .before .before .before .before .before .decimal2 .ensures) (c .before .before .push2 .ensures)
+returns c = let t = line-told (omega (arith, c .before .before .before .before .before .before .before .before .before .before .before .before .before .before .before .before .before .fits .code .fits)) (c .before .before .before .before .before .before .before .before .before .before .before .before .before .before .before .before .before .fits .place .fits) (c .before .before .before .before .before .before .before .before .before .before .before .before .before .before .before .before .before .pre) (c .before .before .before .before .before .before .before .before .before .before .before .before .before .before .decimal .ensures) (c .before .before .before .before .before .before .before .before .before .before .push .ensures) (c .before .before .before .before .before .before .decimal2 .ensures) (c .before .before .push2 .ensures) in ((t .0, t .1), t .2)
 
 pub line-spec : {M : Type 1} → statement M
 line-spec =
