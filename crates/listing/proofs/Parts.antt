@@ -1,19 +1,22 @@
 -- The parts of a line, as loops write them.
 use Prim.Native.Nat.{ℕ, zero, suc, _+_, _*_, _≤_, _<_}
-use mathlib.Core.Path.{_≡_, refl, sym, ap, subst, _∙_}
-use mathlib.Core.Bool.{Bool, true, false, cond}
+use mathlib.Core.Path.{_≡_, refl, sym, ap, ap₂, subst, _∙_}
+use mathlib.Core.Bool.{Bool, true, false, not, cond}
 use mathlib.Core.List.{List, [], _∷_, _++_, map, map-append, append-assoc, append-nil}
 use native.Mathlib.Decide.{decLt}
 use native.Mathlib.Omega.{arith}
 use lib.Dec.{eqb}
+use borrow.Author.Tests.{eqb-true, eqb-false, not-true, not-false}
 use lib.IntN.{pos}
-use lib.ListN.{length, take, getD, length-map, length-append, List·getD-eq-default}
+use lib.ListN.{length, take, getD, length-map, length-append}
 use lib.Seq.{take-at, take-all, length-take-le}
 use Rattle.text.specs.Decimal.{decimal, spelled}
 use Rattle.text.specs.Words.{blank, joined}
 use Rattle.text.specs.Append.{Appends}
-use Rattle.text.proofs.Appending.{appended, length-kept, none-appended, both-appended, Growing, goes-on, take-more}
+use Rattle.text.proofs.Appending.{appended, length-kept, none-appended, both-appended, take-more}
 use Rattle.opcode.specs.Kind.{Kind, i32, i64, v128, kindByte, kindName}
+use Rattle.mnemonic.specs.Padded.{padded}
+use Rattle.mnemonic.proofs.Padding.{padded-front, padded-inside, padded-outside}
 use Rattle.checker.specs.Walk.{Holds}
 use Rattle.listing.specs.Line.{bracketed}
 use Rattle.listing.specs.Inner.Parts.{led, kindText, between, Lettered, Adds}
@@ -182,28 +185,28 @@ module _ {bs out₀ out : List ℕ} {at to k : ℕ} (m : Telling bs out₀ at to
 
 -- ---- the loop over the letters of a name
 
-module _ {name out₀ out : List ℕ} {at to k : ℕ} (g : Growing (λ j. take j name) (length name) out₀ at to out k) where
-  so-far : length (take k name) ≡ k
-  so-far = length-take-le k name (g .most)
+module _ {name row : List ℕ} (w : Lettered name) (is : row ≡ padded name) where
+  module _ {k : ℕ} (l : k < 32) where
+    there : getD row k 0 ≡ getD (padded name) k 0
+    there = ap (λ (r : List ℕ). getD r k 0) is
 
-  pub name-room : length name ≤ 32 → at + 32 ≤ length out₀ → (to ≤ at + k) × (length out ≡ length out₀)
-  name-room few room = adds-ends (record { short = omega (arith, so-far); appends = g .made }) (omega (arith, g .most))
-
-  module _ {b : ℕ} (e : b ≡ getD name k 0) where
-    -- a letter is read before the end only
-    pub name-goes : (b ≡ 0 → ⊥) → k < length name
-    name-goes f = elim (decLt k (length name)) [ yes h ↦ h | no h ↦ absurd (f (e ∙ List·getD-eq-default name 0 (omega arith))) ]
-
-    pub name-more : (b ≡ 0 → ⊥) → length name ≤ 32 → at + 32 ≤ length out₀ → {n : ℕ} {out′ : List ℕ} → Appends (b ∷ []) out to n out′
-        → Growing (λ j. take j name) (length name) out₀ at n out′ (k + 1)
-    name-more f few room q =
-        let h = name-goes f in
-        let more : take k name ++ b ∷ [] ≡ take (k + 1) name = ap (λ (x : ℕ). take k name ++ x ∷ []) e ∙ take-more name k h in
-        goes-on g h more (omega (arith, length-take-le (k + 1) name (omega arith))) q
-
-    pub name-ends : Lettered name → b ≡ 0 → Adds 32 name out₀ at to out
-    name-ends w z =
+    pub name-goes : not (eqb (getD row k 0) blank) ≡ true → k < length name
+    name-goes t =
         elim (decLt k (length name)) [
-          | yes h ↦ absurd (let no : ⊥ = omega (arith, w .letters k h, e) in no)
-          | no h ↦ adds-most (w .few) (adds-same {most = length name} (take-all k name (omega arith)) (record { short = omega (arith, so-far, g .most); appends = g .made }))
+          | yes h ↦ h
+          | no h ↦ absurd (eqb-false (getD row k 0) blank (not-true (eqb (getD row k 0) blank) t) (there ∙ padded-outside name k l (omega arith)))
         ]
+
+    pub name-stops : not (eqb (getD row k 0) blank) ≡ false → length name ≤ k
+    name-stops t =
+        let e = eqb-true (getD row k 0) blank (not-false (eqb (getD row k 0) blank) t) in
+        elim (decLt k (length name)) [
+          | yes h ↦ absurd (let no : ⊥ = omega (arith, w .letters k h, padded-inside name k l h, there) in no)
+          | no h ↦ omega arith
+        ]
+
+  pub name-adds : {out out′ : List ℕ} {at k n : ℕ} → k ≤ length name → length name ≤ k → Appends (take k row) out at n out′ → Adds 32 name out at n out′
+  name-adds {out} {out′} {at} {k} {n} l h q =
+      let whole : k ≡ length name = omega arith in
+      let front : take k row ≡ name = ap₂ (λ (i : ℕ) (r : List ℕ). take i r) whole is ∙ padded-front name (w .few) in
+      record { short = w .few; appends = subst (λ (x : List ℕ). Appends x out at n out′) front q }

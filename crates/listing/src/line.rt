@@ -43,19 +43,15 @@ fn place(at: usize, out: &mut [u8]) -> usize
     text::push(b' ', out, to)
 }
 
-// Letter by letter: there is none after the last.
+// The letters before the first blank.
 fn name(id: u32, out: &mut [u8], at: usize) -> usize
     requires { ⌜ Lettered (nameOf id) × (at + 32 ≤ length (now out)) ⌝ }
     ensures { λ r. ⌜ Adds 32 (nameOf id) (now (out .entry)) at r (now (out .exit)) ⌝ }
 {
-    let mut to = at;
+    let letters = mnemonic::name(id);
     let mut k: usize = 0;
-    loop {
-        let b = mnemonic::letter(id, k);
-        if b == 0 {
-            return to;
-        }
-        to = text::push(b, out, to);
+    while k < 32 && letters[k] != b' ' {
         k += 1;
     }
+    text::put(&letters[..k], out, at)
 }

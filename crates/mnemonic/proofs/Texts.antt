@@ -6,7 +6,7 @@ use mathlib.Core.Bool.{cond}
 use mathlib.Core.List.{List, []}
 use mathlib.Core.Logic.{⊎-elim}
 use native.Mathlib.Omega.{arith}
-use lib.Dec.{T, ltb}
+use lib.Dec.{T, leb, ltb, leb→le}
 use lib.ListN.{getD}
 use lib.Text.{eqt, eqt→eq}
 use borrow.Author.Tests.{le-ltb}
@@ -32,7 +32,7 @@ all-found : T (every (λ id. eqt (textIn (rowOfName id)) (textOf id)) (upFrom 0 
 unfolding rowOfName plainName vectorName
 all-found = tt
 
-rowless : (id : ℕ) → 512 ≤ id → rowName (rowOfName id) ≡ []
+rowless : (id : ℕ) → 512 ≤ id → rowOfName id ≡ 265
 unfolding rowOfName
 rowless id h = let past : 256 ≤ id = omega arith in simp (le-ltb id 256 past, le-ltb id 512 h)
 
@@ -41,5 +41,17 @@ unfolding nameOf
 name-in-row id =
     ⊎-elim
     (λ l. ap ascii (eqt→eq (textIn (rowOfName id)) (textOf id) (below (λ k. eqt (textIn (rowOfName k)) (textOf k)) 512 all-found id l)))
-    (λ h. rowless id h ∙ sym (nameless id h))
+    (λ h. ap rowName (rowless id h) ∙ sym (nameless id h))
+    (below-or-past 512 id)
+
+-- every row is in one of the blocks
+all-inside : T (every (λ id. leb (rowOfName id) 265) (upFrom 0 512))
+unfolding rowOfName
+all-inside = tt
+
+pub row-inside : (id : ℕ) → rowOfName id ≤ 265
+row-inside id =
+    ⊎-elim
+    (λ l. leb→le (rowOfName id) 265 (below (λ k. leb (rowOfName k) 265) 512 all-inside id l))
+    (λ h. omega (arith, rowless id h))
     (below-or-past 512 id)

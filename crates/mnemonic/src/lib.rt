@@ -1,13 +1,10 @@
-// The instructions' names, a letter at a time.
+// The instructions' names.
 mod rows;
 
 ghost use mathlib.Core.Path.{_≡_};
-ghost use lib.ListN.{getD};
 ghost use Rattle.opcode.specs.Number.{nameOf};
+ghost use Rattle.mnemonic.specs.Padded.{padded};
 ghost use Rattle.mnemonic.specs.Inner.Row.{rowOfName};
-
-// The bytes of a row, a name and blanks.
-const WIDTH: usize = 32;
 
 // The rows of a block.
 const ROWS: u32 = 16;
@@ -39,14 +36,12 @@ fn row(id: u32) -> u32
     }
 }
 
-// Byte k of the name of the instruction with this id, 0 past its end and where there is none.
-pub fn letter(id: u32, k: usize) -> u8
-    ensures { λ r. ⌜ r ≡ getD (nameOf id) k 0 ⌝ }
+// The name of the instruction with this id, and blanks after it; all blanks where there is none.
+pub fn name(id: u32) -> [u8; 32]
+    ensures { λ r. ⌜ r ≡ padded (nameOf id) ⌝ }
 {
-    if k >= WIDTH {
-        return 0;
-    }
     let r = row(id);
-    let b = rows::in_block(r / ROWS, (r % ROWS) as usize * WIDTH + k);
-    if b == b' ' { 0 } else { b }
+    let mut out = [b' '; 32];
+    rows::in_block(r / ROWS, (r % ROWS) as usize, &mut out);
+    out
 }

@@ -1,14 +1,27 @@
 // The names (document 002, and Core 6.5 for the nine outside the prefix), a row of 32 bytes each, filled with blanks. Sixteen rows a
-// function: an array is written to the stack where it is read, and all the rows in one would be 8,480 bytes for each letter.
+// function: an array is written to the stack where it is read, and all the rows in one would be 8,480 bytes for each name.
 ghost use mathlib.Core.Path.{_≡_};
-ghost use Prim.Native.Nat.{_<_};
-ghost use lib.ListN.{getD};
-ghost use Rattle.mnemonic.specs.Inner.Block.{block, BLOCK};
+ghost use Prim.Native.Nat.{_≤_};
+ghost use lib.ListN.{length};
+ghost use Rattle.mnemonic.specs.Inner.Block.{BLOCK, block, row, Fits};
+
+// Row n of a block.
+fn copy(names: &[u8], n: usize, out: &mut [u8; 32])
+    requires { ⌜ (length (now names) ≡ BLOCK) × Fits n (now out) ⌝ }
+    ensures { λ r. ⌜ now (out .exit) ≡ row n (now (names .entry)) ⌝ }
+{
+    let from = n * 32;
+    let mut k: usize = 0;
+    while k < 32 {
+        out[k] = names[from + k];
+        k += 1;
+    }
+}
 
 // FD's numbers from 00 on, from 10 on, and so forth.
-fn from_00(i: usize) -> u8
-    requires { ⌜ i < BLOCK ⌝ }
-    ensures { λ r. ⌜ r ≡ getD (block 0x0) i 0 ⌝ }
+fn from_00(n: usize, out: &mut [u8; 32])
+    requires { ⌜ Fits n (now out) ⌝ }
+    ensures { λ r. ⌜ now (out .exit) ≡ row n (block 0x0) ⌝ }
 {
     let names = *b"\
         v128.load                       \
@@ -28,12 +41,12 @@ fn from_00(i: usize) -> u8
         i8x16.swizzle                   \
         i8x16.splat                     \
     ";
-    names[i]
+    copy(&names, n, out);
 }
 
-fn from_10(i: usize) -> u8
-    requires { ⌜ i < BLOCK ⌝ }
-    ensures { λ r. ⌜ r ≡ getD (block 0x1) i 0 ⌝ }
+fn from_10(n: usize, out: &mut [u8; 32])
+    requires { ⌜ Fits n (now out) ⌝ }
+    ensures { λ r. ⌜ now (out .exit) ≡ row n (block 0x1) ⌝ }
 {
     let names = *b"\
         i16x8.splat                     \
@@ -53,12 +66,12 @@ fn from_10(i: usize) -> u8
         i64x2.replace_lane              \
         f32x4.extract_lane              \
     ";
-    names[i]
+    copy(&names, n, out);
 }
 
-fn from_20(i: usize) -> u8
-    requires { ⌜ i < BLOCK ⌝ }
-    ensures { λ r. ⌜ r ≡ getD (block 0x2) i 0 ⌝ }
+fn from_20(n: usize, out: &mut [u8; 32])
+    requires { ⌜ Fits n (now out) ⌝ }
+    ensures { λ r. ⌜ now (out .exit) ≡ row n (block 0x2) ⌝ }
 {
     let names = *b"\
         f32x4.replace_lane              \
@@ -78,12 +91,12 @@ fn from_20(i: usize) -> u8
         i16x8.ne                        \
         i16x8.lt_s                      \
     ";
-    names[i]
+    copy(&names, n, out);
 }
 
-fn from_30(i: usize) -> u8
-    requires { ⌜ i < BLOCK ⌝ }
-    ensures { λ r. ⌜ r ≡ getD (block 0x3) i 0 ⌝ }
+fn from_30(n: usize, out: &mut [u8; 32])
+    requires { ⌜ Fits n (now out) ⌝ }
+    ensures { λ r. ⌜ now (out .exit) ≡ row n (block 0x3) ⌝ }
 {
     let names = *b"\
         i16x8.lt_u                      \
@@ -103,12 +116,12 @@ fn from_30(i: usize) -> u8
         i32x4.le_u                      \
         i32x4.ge_s                      \
     ";
-    names[i]
+    copy(&names, n, out);
 }
 
-fn from_40(i: usize) -> u8
-    requires { ⌜ i < BLOCK ⌝ }
-    ensures { λ r. ⌜ r ≡ getD (block 0x4) i 0 ⌝ }
+fn from_40(n: usize, out: &mut [u8; 32])
+    requires { ⌜ Fits n (now out) ⌝ }
+    ensures { λ r. ⌜ now (out .exit) ≡ row n (block 0x4) ⌝ }
 {
     let names = *b"\
         i32x4.ge_u                      \
@@ -128,12 +141,12 @@ fn from_40(i: usize) -> u8
         v128.and                        \
         v128.andnot                     \
     ";
-    names[i]
+    copy(&names, n, out);
 }
 
-fn from_50(i: usize) -> u8
-    requires { ⌜ i < BLOCK ⌝ }
-    ensures { λ r. ⌜ r ≡ getD (block 0x5) i 0 ⌝ }
+fn from_50(n: usize, out: &mut [u8; 32])
+    requires { ⌜ Fits n (now out) ⌝ }
+    ensures { λ r. ⌜ now (out .exit) ≡ row n (block 0x5) ⌝ }
 {
     let names = *b"\
         v128.or                         \
@@ -153,12 +166,12 @@ fn from_50(i: usize) -> u8
         f32x4.demote_f64x2_zero         \
         f64x2.promote_low_f32x4         \
     ";
-    names[i]
+    copy(&names, n, out);
 }
 
-fn from_60(i: usize) -> u8
-    requires { ⌜ i < BLOCK ⌝ }
-    ensures { λ r. ⌜ r ≡ getD (block 0x6) i 0 ⌝ }
+fn from_60(n: usize, out: &mut [u8; 32])
+    requires { ⌜ Fits n (now out) ⌝ }
+    ensures { λ r. ⌜ now (out .exit) ≡ row n (block 0x6) ⌝ }
 {
     let names = *b"\
         i8x16.abs                       \
@@ -178,12 +191,12 @@ fn from_60(i: usize) -> u8
         i8x16.add                       \
         i8x16.add_sat_s                 \
     ";
-    names[i]
+    copy(&names, n, out);
 }
 
-fn from_70(i: usize) -> u8
-    requires { ⌜ i < BLOCK ⌝ }
-    ensures { λ r. ⌜ r ≡ getD (block 0x7) i 0 ⌝ }
+fn from_70(n: usize, out: &mut [u8; 32])
+    requires { ⌜ Fits n (now out) ⌝ }
+    ensures { λ r. ⌜ now (out .exit) ≡ row n (block 0x7) ⌝ }
 {
     let names = *b"\
         i8x16.add_sat_u                 \
@@ -203,12 +216,12 @@ fn from_70(i: usize) -> u8
         i32x4.extadd_pairwise_i16x8_s   \
         i32x4.extadd_pairwise_i16x8_u   \
     ";
-    names[i]
+    copy(&names, n, out);
 }
 
-fn from_80(i: usize) -> u8
-    requires { ⌜ i < BLOCK ⌝ }
-    ensures { λ r. ⌜ r ≡ getD (block 0x8) i 0 ⌝ }
+fn from_80(n: usize, out: &mut [u8; 32])
+    requires { ⌜ Fits n (now out) ⌝ }
+    ensures { λ r. ⌜ now (out .exit) ≡ row n (block 0x8) ⌝ }
 {
     let names = *b"\
         i16x8.abs                       \
@@ -228,12 +241,12 @@ fn from_80(i: usize) -> u8
         i16x8.add                       \
         i16x8.add_sat_s                 \
     ";
-    names[i]
+    copy(&names, n, out);
 }
 
-fn from_90(i: usize) -> u8
-    requires { ⌜ i < BLOCK ⌝ }
-    ensures { λ r. ⌜ r ≡ getD (block 0x9) i 0 ⌝ }
+fn from_90(n: usize, out: &mut [u8; 32])
+    requires { ⌜ Fits n (now out) ⌝ }
+    ensures { λ r. ⌜ now (out .exit) ≡ row n (block 0x9) ⌝ }
 {
     let names = *b"\
         i16x8.add_sat_u                 \
@@ -253,12 +266,12 @@ fn from_90(i: usize) -> u8
         i16x8.extmul_low_i8x16_u        \
         i16x8.extmul_high_i8x16_u       \
     ";
-    names[i]
+    copy(&names, n, out);
 }
 
-fn from_a0(i: usize) -> u8
-    requires { ⌜ i < BLOCK ⌝ }
-    ensures { λ r. ⌜ r ≡ getD (block 0xA) i 0 ⌝ }
+fn from_a0(n: usize, out: &mut [u8; 32])
+    requires { ⌜ Fits n (now out) ⌝ }
+    ensures { λ r. ⌜ now (out .exit) ≡ row n (block 0xA) ⌝ }
 {
     let names = *b"\
         i32x4.abs                       \
@@ -278,12 +291,12 @@ fn from_a0(i: usize) -> u8
         i32x4.add                       \
         \x20                               \
     ";
-    names[i]
+    copy(&names, n, out);
 }
 
-fn from_b0(i: usize) -> u8
-    requires { ⌜ i < BLOCK ⌝ }
-    ensures { λ r. ⌜ r ≡ getD (block 0xB) i 0 ⌝ }
+fn from_b0(n: usize, out: &mut [u8; 32])
+    requires { ⌜ Fits n (now out) ⌝ }
+    ensures { λ r. ⌜ now (out .exit) ≡ row n (block 0xB) ⌝ }
 {
     let names = *b"\
         \x20                               \
@@ -303,12 +316,12 @@ fn from_b0(i: usize) -> u8
         i32x4.extmul_low_i16x8_u        \
         i32x4.extmul_high_i16x8_u       \
     ";
-    names[i]
+    copy(&names, n, out);
 }
 
-fn from_c0(i: usize) -> u8
-    requires { ⌜ i < BLOCK ⌝ }
-    ensures { λ r. ⌜ r ≡ getD (block 0xC) i 0 ⌝ }
+fn from_c0(n: usize, out: &mut [u8; 32])
+    requires { ⌜ Fits n (now out) ⌝ }
+    ensures { λ r. ⌜ now (out .exit) ≡ row n (block 0xC) ⌝ }
 {
     let names = *b"\
         i64x2.abs                       \
@@ -328,12 +341,12 @@ fn from_c0(i: usize) -> u8
         i64x2.add                       \
         \x20                               \
     ";
-    names[i]
+    copy(&names, n, out);
 }
 
-fn from_d0(i: usize) -> u8
-    requires { ⌜ i < BLOCK ⌝ }
-    ensures { λ r. ⌜ r ≡ getD (block 0xD) i 0 ⌝ }
+fn from_d0(n: usize, out: &mut [u8; 32])
+    requires { ⌜ Fits n (now out) ⌝ }
+    ensures { λ r. ⌜ now (out .exit) ≡ row n (block 0xD) ⌝ }
 {
     let names = *b"\
         \x20                               \
@@ -353,12 +366,12 @@ fn from_d0(i: usize) -> u8
         i64x2.extmul_low_i32x4_u        \
         i64x2.extmul_high_i32x4_u       \
     ";
-    names[i]
+    copy(&names, n, out);
 }
 
-fn from_e0(i: usize) -> u8
-    requires { ⌜ i < BLOCK ⌝ }
-    ensures { λ r. ⌜ r ≡ getD (block 0xE) i 0 ⌝ }
+fn from_e0(n: usize, out: &mut [u8; 32])
+    requires { ⌜ Fits n (now out) ⌝ }
+    ensures { λ r. ⌜ now (out .exit) ≡ row n (block 0xE) ⌝ }
 {
     let names = *b"\
         f32x4.abs                       \
@@ -378,12 +391,12 @@ fn from_e0(i: usize) -> u8
         \x20                               \
         f64x2.sqrt                      \
     ";
-    names[i]
+    copy(&names, n, out);
 }
 
-fn from_f0(i: usize) -> u8
-    requires { ⌜ i < BLOCK ⌝ }
-    ensures { λ r. ⌜ r ≡ getD (block 0xF) i 0 ⌝ }
+fn from_f0(n: usize, out: &mut [u8; 32])
+    requires { ⌜ Fits n (now out) ⌝ }
+    ensures { λ r. ⌜ now (out .exit) ≡ row n (block 0xF) ⌝ }
 {
     let names = *b"\
         f64x2.add                       \
@@ -403,13 +416,13 @@ fn from_f0(i: usize) -> u8
         f64x2.convert_low_i32x4_s       \
         f64x2.convert_low_i32x4_u       \
     ";
-    names[i]
+    copy(&names, n, out);
 }
 
 // The nine outside the prefix.
-fn plain(i: usize) -> u8
-    requires { ⌜ i < BLOCK ⌝ }
-    ensures { λ r. ⌜ r ≡ getD (block 0x10) i 0 ⌝ }
+fn plain(n: usize, out: &mut [u8; 32])
+    requires { ⌜ Fits n (now out) ⌝ }
+    ensures { λ r. ⌜ now (out .exit) ≡ row n (block 0x10) ⌝ }
 {
     let names = *b"\
         end                             \
@@ -429,32 +442,31 @@ fn plain(i: usize) -> u8
         \x20                               \
         \x20                               \
     ";
-    names[i]
+    copy(&names, n, out);
 }
 
-// Byte i of a block.
-pub fn in_block(b: u32, i: usize) -> u8
-    requires { ⌜ i < BLOCK ⌝ }
-    ensures { λ r. ⌜ r ≡ getD (block b) i 0 ⌝ }
+// Row n of block b.
+pub fn in_block(b: u32, n: usize, out: &mut [u8; 32])
+    requires { ⌜ (b ≤ 0x10) × Fits n (now out) ⌝ }
+    ensures { λ r. ⌜ now (out .exit) ≡ row n (block b) ⌝ }
 {
     match b {
-        0x0 => from_00(i),
-        0x1 => from_10(i),
-        0x2 => from_20(i),
-        0x3 => from_30(i),
-        0x4 => from_40(i),
-        0x5 => from_50(i),
-        0x6 => from_60(i),
-        0x7 => from_70(i),
-        0x8 => from_80(i),
-        0x9 => from_90(i),
-        0xA => from_a0(i),
-        0xB => from_b0(i),
-        0xC => from_c0(i),
-        0xD => from_d0(i),
-        0xE => from_e0(i),
-        0xF => from_f0(i),
-        0x10 => plain(i),
-        _ => b' ',
+        0x0 => from_00(n, out),
+        0x1 => from_10(n, out),
+        0x2 => from_20(n, out),
+        0x3 => from_30(n, out),
+        0x4 => from_40(n, out),
+        0x5 => from_50(n, out),
+        0x6 => from_60(n, out),
+        0x7 => from_70(n, out),
+        0x8 => from_80(n, out),
+        0x9 => from_90(n, out),
+        0xA => from_a0(n, out),
+        0xB => from_b0(n, out),
+        0xC => from_c0(n, out),
+        0xD => from_d0(n, out),
+        0xE => from_e0(n, out),
+        0xF => from_f0(n, out),
+        _ => plain(n, out),
     }
 }

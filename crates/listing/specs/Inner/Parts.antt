@@ -31,10 +31,10 @@ abbrev pub between : ℕ → List ℕ
 between zero = []
 between (suc k) = blank ∷ []
 
--- a name: at most 32 letters, none of them 0, which stands after the last
+-- a name: at most 32 letters, none of them a blank, which stands after the last
 pub record Lettered (xs : List ℕ) : Type 0 where
   pub few : length xs ≤ 32
-  pub letters : (k : ℕ) → k < length xs → 0 < getD xs k 0
+  pub letters : (k : ℕ) → k < length xs → blank < getD xs k 0
 
 -- a text of at most so many bytes, from a place on
 pub record Adds (most : ℕ) (text out : List ℕ) (at next : ℕ) (out′ : List ℕ) : Type 0 where

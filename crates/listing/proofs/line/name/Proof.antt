@@ -1,55 +1,70 @@
-use Prim.Native.Nat.{_-_}
-use borrow.Author.Needs.{needs}
+-- The letters passed: none of them is a blank.
+use Prim.Native.Nat.{_-_, _<_, _≤_}
+use mathlib.Core.Path.{_≡_, ap, sym, _∙_}
+use mathlib.Core.Logic.{⊎-elim}
 use native.Mathlib.Omega.{arith}
-use mathlib.Core.Path.{refl}
-use lib.ListN.{length, take}
+use borrow.Author.Needs.{needs}
+use lib.ListN.{length}
+use lib.Seq.{length-take-le}
 use Rattle.opcode.specs.Number.{nameOf}
-use Rattle.text.proofs.Appending.{Growing, begins}
-use Rattle.listing.proofs.Parts.{name-room, name-goes, name-more, name-ends}
+use Rattle.mnemonic.proofs.Padding.{length-padded}
+use Rattle.listing.proofs.Parts.{name-goes, name-stops, name-adds}
 use Rattle.listing.proofs.line.name.Statement.{statement}
 use Rattle.listing.proofs.line.name.Tie as tie
 use Rattle.listing.proofs.line.name.Reads as reads
 use Rattle.listing.proofs.line.name.Lts as lts
-use Rattle.mnemonic.proofs.letter.Reads as letter-reads
-use Rattle.text.proofs.push.Reads as push-reads
+use Rattle.mnemonic.proofs.name.Reads as name-reads
+use Rattle.text.proofs.put.Reads as put-reads
 
 abbrev Inv-loop : tie.InvT-loop
-Inv-loop id out₀ at to₀ k₀ out to k = Growing (λ k. take k (nameOf id)) (length (nameOf id)) out₀ at to out k
+Inv-loop id out at letters k₀ k = (k ≤ 32) × (k ≤ length (nameOf id))
 
 abbrev μ-loop : tie.MeasureT-loop
-μ-loop id out₀ at to₀ k₀ out to k = length (nameOf id) - k
+μ-loop id out at letters k₀ k = length (nameOf id) - k
 
--- src/line.rt:53:5
+name-requires : tie.Need-name-requires Inv-loop μ-loop
+name-requires c κs = search needs
+
 loop-holds : tie.Need-loop-holds Inv-loop μ-loop
-loop-holds c = begins _ _ _ _ refl (omega (arith, c .before .pre .1))
+loop-holds c = (omega arith, omega arith)
 
--- src/line.rt:54:13
-letter-requires : tie.Need-letter-requires Inv-loop μ-loop
-letter-requires c κs = search needs
+array-read-if1 : tie.Need-array-read-if1 Inv-loop μ-loop
+array-read-if1 c = search needs
 
--- src/line.rt:56:13
-same-length : tie.Need-same-length Inv-loop μ-loop
-same-length c = name-room (c .before .before .loop .inv) (c .before .before .before .before .pre .0 .few) (c .before .before .before .before .pre .1) .1
-
--- src/line.rt:56:13
-returns : tie.Need-returns Inv-loop μ-loop
-returns c = name-ends (c .before .before .loop .inv) (c .before .letter .ensures) (c .before .before .before .before .pre .0) (c .if1 .taken)
-
--- src/line.rt:58:9
-push-requires : tie.Need-push-requires Inv-loop μ-loop
-push-requires c κs = search needs
-
--- src/line.rt:59:9
 add-k : tie.Need-add-k Inv-loop μ-loop
-add-k c = omega (arith, name-goes (c .before .before .before .before .before .before .loop .inv) (c .before .before .before .before .before .letter .ensures) (c .before .before .before .before .if1 .left), c .before .before .before .before .before .before .before .before .pre .0 .few)
+add-k c = search needs
 
--- src/line.rt:53:5
+module _ (c : lts.Then1 (name-reads.Asked, name-reads.Learnt, put-reads.Asked, put-reads.Learnt) reads.Pre reads.Post Inv-loop μ-loop) where
+  goes : c .before .before .loop .k < length (nameOf (c .before .before .before .before .before .args .id))
+  goes = name-goes (c .before .before .before .before .before .pre .0) (c .before .before .before .name .ensures) (c .before .loop-test .taken) (c .if1 .taken)
+
 loop-less : tie.Need-loop-less Inv-loop μ-loop
-loop-less c = omega (arith, name-goes (c .before .before .before .before .before .before .loop .inv) (c .before .before .before .before .before .letter .ensures) (c .before .before .before .before .if1 .left))
+loop-less c = omega (arith, goes c)
 
--- src/line.rt:53:5
 loop-again : tie.Need-loop-again Inv-loop μ-loop
-loop-again c = name-more (c .before .before .before .before .before .before .loop .inv) (c .before .before .before .before .before .letter .ensures) (c .before .before .before .before .if1 .left) (c .before .before .before .before .before .before .before .before .pre .0 .few) (c .before .before .before .before .before .before .before .before .pre .1) (c .before .before .push .ensures)
+loop-again c = let h = goes c in (omega arith, omega arith)
+
+array-share-prefix-letters : tie.Need-array-share-prefix-letters Inv-loop μ-loop
+array-share-prefix-letters c = search needs
+
+slice-aggregate-put : tie.Need-slice-aggregate-put Inv-loop μ-loop
+slice-aggregate-put c =
+    let n = c .before .before .before .name in
+    let long : length (n .result) ≡ 32 = ap length (n .ensures) ∙ length-padded (nameOf (c .before .before .before .before .before .args .id)) in
+    sym (length-take-le _ _ (omega arith))
+
+put-requires : tie.Need-put-requires Inv-loop μ-loop
+put-requires c κs = search needs
+
+same-length : tie.Need-same-length Inv-loop μ-loop
+same-length c = search needs
+
+returns : tie.Need-returns Inv-loop μ-loop
+returns c =
+    let left = c .before .before .before .before .before in
+    let w = left .before .before .before .before .pre .0 in
+    let is = left .before .before .name .ensures in
+    name-adds w is (left .before .loop .inv .1) (⊎-elim (λ h. name-stops w is (h .0 .taken) (h .1 .left)) (λ h. omega (arith, w .few)) (left .loop-test .came)) (c .before .before .put .ensures)
 
 pub name-spec : {M : Type 1} → statement M
 name-spec =
@@ -57,11 +72,14 @@ name-spec =
     (tie.spec
     Inv-loop
     μ-loop
+    name-requires
     loop-holds
-    letter-requires
-    same-length
-    returns
-    push-requires
+    array-read-if1
     add-k
     loop-less
-    loop-again)
+    loop-again
+    array-share-prefix-letters
+    slice-aggregate-put
+    put-requires
+    same-length
+    returns)
