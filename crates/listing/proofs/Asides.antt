@@ -1,19 +1,19 @@
--- What is left of a line with its place aside: the words after the place, to the line's end.
+-- What is left of a line with its place aside is all of it but the place and the blank after it.
 use Prim.Native.Nat.{ℕ}
 use mathlib.Core.Path.{_≡_, refl, ap, _∙_}
 use mathlib.Core.Bool.{Bool, true, false, not}
-use mathlib.Core.List.{List, [], _∷_, _++_, map, append-assoc}
+use mathlib.Core.List.{List, [], _∷_, _++_, append-assoc}
 use borrow.Author.Tests.{ne-eqb}
-use Rattle.text.specs.Decimal.{decimal, spelled}
+use Rattle.text.specs.Decimal.{decimal}
 use Rattle.text.specs.Words.{blank, newline, joined, Without}
 use Rattle.opcode.specs.Kind.{Kind}
 use Rattle.instr.specs.declared.Instr.{Instr}
-use Rattle.listing.specs.Line.{bracketed, mnemonic, immediates, line}
+use Rattle.listing.specs.Line.{words, line}
 use Rattle.listing.specs.Aside.{asideFrom}
 
 -- the line without its place
 abbrev pub unplaced : List Kind → Instr → List ℕ
-unplaced κs i = joined (bracketed κs ∷ mnemonic i ∷ map spelled (immediates i))
+unplaced κs i = joined (words κs i)
 
 pub place-passed : (xs more : List ℕ) → Without blank xs → asideFrom true (xs ++ blank ∷ more) ≡ asideFrom false more
 place-passed [] more p = refl

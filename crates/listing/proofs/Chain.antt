@@ -4,13 +4,12 @@ use mathlib.Core.Path.{_≡_, sym, ap, subst, _∙_}
 use mathlib.Core.List.{List, [], _∷_, _++_, map, append-assoc}
 use native.Mathlib.Omega.{arith}
 use lib.ListN.{length}
-use Rattle.limits.specs.Limits.{stackLimit}
 use Rattle.text.specs.Decimal.{decimal, spelled}
 use Rattle.text.specs.Words.{blank, newline, joined}
 use Rattle.text.specs.Append.{Appends}
 use Rattle.opcode.specs.Kind.{Kind}
 use Rattle.opcode.specs.Table.{carried}
-use Rattle.opcode.specs.Number.{classOf, idOf, nameOf}
+use Rattle.opcode.specs.Number.{classOf, nameOf}
 use Rattle.opcode.specs.Entry.{classIn}
 use Rattle.opcode.proofs.Entries.{class-in}
 use Rattle.mnemonic.proofs.Letters.{letters-at}

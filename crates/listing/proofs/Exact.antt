@@ -28,8 +28,8 @@ use Rattle.listing.proofs.Asides.{unplaced, line-aside}
 use Rattle.listing.proofs.Words.{place-without, no-newline, told-once}
 use Rattle.listing.proofs.Spellings.{one-instr}
 
--- the first line with its place aside
-first-aside : {s : List ℕ} {p n : ℕ} {i : Instr} (κs : List Kind) (more : List ℕ) → Stands s p i n → asideFrom true (line p κs i ++ more) ≡ unplaced κs i ++ newline ∷ asideFrom true more
+-- PLACES ASIDE leaves all of a line but its place and the blank after it
+pub first-aside : {s : List ℕ} {p n : ℕ} {i : Instr} (κs : List Kind) (more : List ℕ) → Stands s p i n → asideFrom true (line p κs i ++ more) ≡ unplaced κs i ++ newline ∷ asideFrom true more
 first-aside {p = p} {i = i} κs more w = line-aside p κs i more (place-without p) (no-newline (reads-of w .1) κs)
 
 not-none : (xs ys : List ℕ) (b : ℕ) → [] ≡ xs ++ b ∷ ys → ⊥

@@ -10,18 +10,18 @@ use Rattle.instr.specs.Layout.{immediateFields, fieldsOf, head, instr, zeros}
 use Rattle.listing.specs.Line.{bracketed, immediates, line}
 use Rattle.listing.specs.Aside.{placesAside}
 
-whole : line 27 (v128 ∷ []) (instr (head 0x0B 0) 0 0 0 0 0 0 zeros) ≡ ascii "27 [v128] end" ++ newline ∷ []
+pub whole : line 27 (v128 ∷ []) (instr (head 0x0B 0) 0 0 0 0 0 0 zeros) ≡ ascii "27 [v128] end" ++ newline ∷ []
 unfolding leading decimal spelled joined plainAt plainName vectors vectorAt vectorName immediateFields fieldsOf bracketed immediates line
 whole = refl
 
-lowest : line 9 [] (instr (head 0x41 0) 0 2147483648 0 0 0 0 zeros) ≡ ascii "9 [] i32.const -2147483648" ++ newline ∷ []
+pub lowest : line 9 [] (instr (head 0x41 0) 0 2147483648 0 0 0 0 zeros) ≡ ascii "9 [] i32.const -2147483648" ++ newline ∷ []
 unfolding leading decimal spelled joined plainAt plainName vectors vectorAt vectorName immediateFields fieldsOf bracketed immediates line
 lowest = refl
 
-lane : line 120 (i32 ∷ v128 ∷ []) (instr (head 0xFD 0x58) 0 0 0 0 1000 15 zeros) ≡ ascii "120 [i32 v128] v128.store8_lane 0 1000 15" ++ newline ∷ []
+pub lane : line 120 (i32 ∷ v128 ∷ []) (instr (head 0xFD 0x58) 0 0 0 0 1000 15 zeros) ≡ ascii "120 [i32 v128] v128.store8_lane 0 1000 15" ++ newline ∷ []
 unfolding leading decimal spelled joined plainAt plainName vectors vectorAt vectorName immediateFields fieldsOf bracketed immediates line
 lane = refl
 
-aside : placesAside (ascii "9 [] i32.const -1" ++ newline ∷ (ascii "27 [i32 v128] end" ++ newline ∷ [])) ≡ ascii "[] i32.const -1" ++ newline ∷ (ascii "[i32 v128] end" ++ newline ∷ [])
+pub aside : placesAside (ascii "9 [] i32.const -1" ++ newline ∷ (ascii "27 [i32 v128] end" ++ newline ∷ [])) ≡ ascii "[] i32.const -1" ++ newline ∷ (ascii "[i32 v128] end" ++ newline ∷ [])
 unfolding placesAside
 aside = refl

@@ -1,4 +1,5 @@
--- For those who call: what is listed, one answer, a loop over the lines.
+-- For those who call: worked lines, what is listed, one answer, a loop over the lines.
+pub mod Examples
 pub mod Exact
 pub mod Unique
 pub mod Following
@@ -14,4 +15,3 @@ pub mod Chain
 pub mod Walking
 pub mod Passing
 pub mod Answers
-pub mod Examples

@@ -28,5 +28,9 @@ numbers (raw bs ∷ fs) = map pos bs ++ numbers fs
 unfoldable pub immediates : Instr → List ℤ
 immediates i = numbers (fieldsOf (rowIn i) i)
 
+-- what is told of the instruction, after its place
+abbrev pub words : List Kind → Instr → List (List ℕ)
+words κs i = bracketed κs ∷ mnemonic i ∷ map spelled (immediates i)
+
 unfoldable pub line : ℕ → List Kind → Instr → List ℕ
-line p κs i = joined (decimal p ∷ bracketed κs ∷ mnemonic i ∷ map spelled (immediates i)) ++ newline ∷ []
+line p κs i = joined (decimal p ∷ words κs i) ++ newline ∷ []

@@ -1,51 +1,34 @@
 -- The parts, one after the other.
 use native.Mathlib.Omega.{arith}
-use Rattle.listing.proofs.Chain.{lettered, class-is, kinds-long, after-place, after-stack, after-gap, after-name, is-line}
+use Rattle.listing.proofs.Chain.{lettered, class-is, kinds-long, after-place, after-gap, after-name, is-line}
 use borrow.Author.Needs.{needs}
 use Rattle.listing.proofs.line.line.Statement.{statement}
 use Rattle.listing.proofs.line.line.Tie as tie
-use Rattle.listing.proofs.line.line.Reads as reads
-use Rattle.listing.proofs.line.line.Lts as lts
-use Rattle.listing.proofs.immediates.immediates.Reads as immediates-immediates-reads
-use Rattle.listing.proofs.line.name.Reads as name-reads
-use Rattle.listing.proofs.line.place.Reads as place-reads
-use Rattle.listing.proofs.stack.stack.Reads as stack-reads
-use Rattle.opcode.proofs.immediates.Reads as immediates-reads
-use Rattle.text.proofs.push.Reads as push-reads
 
--- src/line.rt:29:9
 place-requires : tie.Need-place-requires
 place-requires c κs = search needs
 
--- src/line.rt:30:9
 stack-requires : tie.Need-stack-requires
 stack-requires c κs = (kinds-long (c .before .before .before .before .before .before .before .pre), omega (arith, after-place (c .before .before .before .before .before .before .before .args .at) (c .before .before .before .before .before .before .before .pre) (c .before .before .before .place .ensures), c .before .before .before .before .before .before .before .pre .most, c .before .before .before .before .before .before .before .pre .enough))
 
--- src/line.rt:31:9
 push-requires : tie.Need-push-requires
 push-requires c κs = search needs
 
--- src/line.rt:32:9
 name-requires : tie.Need-name-requires
 name-requires c κs = (lettered (c .before .before .before .before .before .before .before .before .before .before .before .before .before .before .before .pre), omega (arith, after-gap (c .before .before .before .before .before .before .before .before .before .before .before .before .before .before .before .args .at) (c .before .before .before .before .before .before .before .before .before .before .before .before .before .before .before .pre) (c .before .before .before .before .before .before .before .before .before .before .before .place .ensures) (c .before .before .before .before .before .before .before .stack .ensures) (c .before .before .before .push .ensures), c .before .before .before .before .before .before .before .before .before .before .before .before .before .before .before .pre .most, c .before .before .before .before .before .before .before .before .before .before .before .before .before .before .before .pre .enough))
 
--- src/line.rt:33:32
 immediates-requires : tie.Need-immediates-requires
 immediates-requires c κs = search needs
 
--- src/line.rt:33:9
 immediates-requires-2 : tie.Need-immediates-requires-2
 immediates-requires-2 c κs = (class-is (c .before .before .before .before .before .before .before .before .before .before .before .before .before .before .before .before .before .before .before .before .pre) (c .before .immediates .ensures), omega (arith, after-name (c .before .before .before .before .before .before .before .before .before .before .before .before .before .before .before .before .before .before .before .before .args .at) (c .before .before .before .before .before .before .before .before .before .before .before .before .before .before .before .before .before .before .before .before .pre) (c .before .before .before .before .before .before .before .before .before .before .before .before .before .before .before .before .place .ensures) (c .before .before .before .before .before .before .before .before .before .before .before .before .stack .ensures) (c .before .before .before .before .before .before .before .before .push .ensures) (c .before .before .before .before .name .ensures), c .before .before .before .before .before .before .before .before .before .before .before .before .before .before .before .before .before .before .before .before .pre .most, c .before .before .before .before .before .before .before .before .before .before .before .before .before .before .before .before .before .before .before .before .pre .enough))
 
--- src/line.rt:34:5
 push-requires-2 : tie.Need-push-requires-2
 push-requires-2 c κs = search needs
 
--- src/line.rt:17:1
 same-length : tie.Need-same-length
 same-length c = search needs
 
--- src/line.rt:17:1
 returns : tie.Need-returns
 returns c = is-line (c .before .before .before .before .before .before .before .before .before .before .before .before .before .before .before .before .before .before .before .before .before .before .before .before .before .before .before .args .at) (c .before .before .before .before .before .before .before .before .before .before .before .before .before .before .before .before .before .before .before .before .before .before .before .before .before .before .before .pre) (c .before .before .before .before .before .before .before .before .before .before .before .before .before .before .before .before .before .before .before .before .before .before .before .place .ensures) (c .before .before .before .before .before .before .before .before .before .before .before .before .before .before .before .before .before .before .before .stack .ensures) (c .before .before .before .before .before .before .before .before .before .before .before .before .before .before .before .push .ensures) (c .before .before .before .before .before .before .before .before .before .before .before .name .ensures) (c .before .before .before .before .before .before .immediates2 .ensures) (c .before .before .push2 .ensures)
 

@@ -5,24 +5,16 @@ use Rattle.listing.proofs.Parts.{one-byte, adds-both}
 use borrow.Author.Needs.{needs}
 use Rattle.listing.proofs.line.place.Statement.{statement}
 use Rattle.listing.proofs.line.place.Tie as tie
-use Rattle.listing.proofs.line.place.Reads as reads
-use Rattle.listing.proofs.line.place.Lts as lts
-use Rattle.text.proofs.decimal.Reads as decimal-reads
-use Rattle.text.proofs.push.Reads as push-reads
 
--- src/line.rt:42:9
 decimal-requires : tie.Need-decimal-requires
 decimal-requires c κs = search needs
 
--- src/line.rt:43:5
 push-requires : tie.Need-push-requires
 push-requires c κs = search needs
 
--- src/line.rt:38:1
 same-length : tie.Need-same-length
 same-length c = search needs
 
--- src/line.rt:38:1
 returns : tie.Need-returns
 returns c = adds-both {a = 20} (record { short = decimal-short (c .before .before .before .before .before .before .before .before .before .args .at) (c .before .before .before .before .before .before .before .before .before .fits .at .fits); appends = c .before .before .before .before .before .before .decimal .ensures }) (one-byte (c .before .before .push .ensures)) (omega (arith, c .before .before .before .before .before .before .before .before .before .pre))
 
