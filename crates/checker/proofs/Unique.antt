@@ -4,22 +4,20 @@ use mathlib.Core.Path.{_≡_, refl, sym, ap, ap₂, _∙_}
 use mathlib.Core.List.{List, _++_, map}
 use native.Mathlib.Omega.{arith}
 use lib.ListN.{length, drop}
+use denote.Ref.{now}
 use Rattle.card.specs.declared.Answer.{Answer}
 use Rattle.opcode.specs.Kind.{Kind, kindByte}
-use Rattle.opcode.specs.Table.{Code}
+use Rattle.opcode.specs.Table.{End, Code, plain, carried}
+use Rattle.opcode.specs.Entry.{entryOf}
 use Rattle.rules.proofs.Typings.{types-once}
 use Rattle.rules.proofs.Events.{declared-local}
 use Rattle.rules.proofs.Verdicts.{says-once}
 use Rattle.checker.specs.Check.{Checked}
-use Rattle.checker.specs.Walk.{Becomes, Judges, no-local, untyped, too-deep, typed}
+use Rattle.checker.specs.Walk.{Holds, Becomes, Judges, no-local, untyped, too-deep, typed}
+use Rattle.checker.specs.declared.stack.Judged.{Judged}
 use Rattle.checker.proofs.check.Reads as check
 use Rattle.checker.proofs.start.Reads as start
 use Rattle.checker.proofs.typing.judge.Reads as judge
-use Rattle.checker.specs.declared.stack.Judged.{Judged}
-use Rattle.opcode.specs.Table.{End, plain, carried}
-use Rattle.opcode.specs.Entry.{entryOf}
-use Rattle.checker.specs.Walk.{Holds}
-use denote.Ref.{now}
 
 abbrev answer : ℕ → ℕ → ℕ → Answer
 answer c p n = record { code = c; place = p; steps = n }
