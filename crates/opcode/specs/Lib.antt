@@ -6,3 +6,4 @@ pub mod Effect
 pub mod Number
 pub mod Entry
 pub mod Lists
+pub mod Names
