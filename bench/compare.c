@@ -1,7 +1,8 @@
 /* Holds the proved doors to the plain ones: answers of check and run, memory and results.
-     compare OFFICIAL CASES SEED   every strip of the official tests with its own arguments; strips as long as a file may be, and a byte
-                                   longer; then CASES strips made by chance: a third well typed, a third such ones spoilt, a third
-                                   official ones spoilt */
+     compare OFFICIAL CASES SEED LISTER
+   every strip of the official tests with its own arguments; strips as long as a file may be, and a byte longer; then CASES strips made by
+   chance: a third well typed, a third such ones spoilt, a third official ones spoilt. LISTER is the command that starts the proved
+   lister: it lists each official strip, the long ones and one in a hundred of those made by chance. */
 #include <stdio.h>
 #include <stdlib.h>
 #include <string.h>
@@ -56,6 +57,13 @@ static uint8_t some_byte(void)
 
 /* --- both sides, one case ----------------------------------------------------------------------------------------- */
 
+static void hex(const uint8_t *s, size_t len)
+{
+    for (size_t i = 0; i < len && i < STRIP_MOST; i++)
+        printf(" %02X", s[i]);
+    printf("\n");
+}
+
 static void show(const char *what, uint64_t a, uint64_t b)
 {
     printf("  %s: plain %u %u %u, proved %u %u %u\n", what, (unsigned)(a & 0xFF), (unsigned)(a >> 8 & 0xFFFFFF), (unsigned)(a >> 32),
@@ -77,13 +85,39 @@ static unsigned compared(const uint8_t *s, size_t len, struct lent *x)
     if (check != proved_check || run != proved_run || memory || results) {
         differing++;
         printf("differs, budget %u, memory %zu%s%s:", x->budget, x->memory_len, memory ? ", memory after" : "", results ? ", results" : "");
-        for (size_t i = 0; i < len && i < STRIP_MOST; i++)
-            printf(" %02X", s[i]);
-        printf("\n");
+        hex(s, len);
         show("check", check, proved_check);
         show("run", run, proved_run);
     }
     return run & 0xFF;
+}
+
+/* --- listings ----------------------------------------------------------------------------------------------------- */
+
+#define LISTED "target/bench/listed.wgp"
+
+static const char *lister;
+static unsigned long listings, listed_otherwise;
+
+/* The proved lister is a program: what it prints is held to what the plain one would. */
+static void list(const uint8_t *s, size_t len)
+{
+    static uint8_t plain[LISTING_MOST], proved[LISTING_MOST];
+    static char command[4096];
+    snprintf(command, sizeof command, "%s <" LISTED, lister);
+    FILE *f = fopen(LISTED, "wb");
+    if (!f || fwrite(s, 1, len, f) != len || fclose(f) || !(f = popen(command, "r"))) {
+        perror(LISTED);
+        exit(1);
+    }
+    const size_t n = fread(proved, 1, sizeof proved, f);
+    const int failed = pclose(f);
+    listings++;
+    if (failed || n != plain_listing(s, len, plain) || memcmp(plain, proved, n)) {
+        listed_otherwise++;
+        printf("listed otherwise:");
+        hex(s, len);
+    }
 }
 
 /* --- the official strips ------------------------------------------------------------------------------------------ */
@@ -117,6 +151,7 @@ static void run_official(const char *path)
         else if (!strcmp(word, "strip")) {
             official[id].len = unhex(first, official[id].bytes);
             officials = id + 1;
+            list(official[id].bytes, official[id].len);
         } else if (!strcmp(word, "call") || !strcmp(word, "trap") || !strcmp(word, "refuse")) {
             x.args_len = *word == 'r' ? 0 : unhex(first, x.args);
             x.results_len = SLOT * official[id].bytes[7];
@@ -142,6 +177,7 @@ static void run_long(size_t len)
     memcpy(s + at, "\x05\x1A\x0B", 3);
     x.budget = UINT32_MAX;
     compared(s, len, &x);
+    list(s, len);
 }
 
 /* --- strips made by chance ---------------------------------------------------------------------------------------- */
@@ -366,6 +402,8 @@ static void run_chance(unsigned long n)
             s = official[below(officials)];
         if (i % 3)
             spoil(&s);
+        if (i % 100 == 0)
+            list(s.bytes, s.len);
         lend(&s, &x);
         if (compared(s.bytes, s.len, &x) == DONE && i % 3 == 0)
             for (size_t k = 0; k < body.count; k++)
@@ -375,16 +413,18 @@ static void run_chance(unsigned long n)
 
 int main(int n, char **words)
 {
-    if (n != 4) {
-        fprintf(stderr, "usage: compare OFFICIAL CASES SEED\n");
+    if (n != 5) {
+        fprintf(stderr, "usage: compare OFFICIAL CASES SEED LISTER\n");
         return 2;
     }
+    lister = words[4];
     state = strtoull(words[3], NULL, 10) * 2 + 1;
     run_official(words[1]);
     printf("official: %lu cases, %lu differ\n", cases, differing);
     for (size_t len = FILE_MOST - 2; len <= FILE_MOST + 1; len++)
         run_long(len);
     run_chance(strtoul(words[2], NULL, 10));
+    printf("listings: %lu, %lu differ\n", listings, listed_otherwise);
     printf("all: %lu cases, %lu differ\nby code:", cases, differing);
     for (int c = 0; c < 256; c++)
         if (codes[c])
@@ -397,5 +437,5 @@ int main(int n, char **words)
                 least = completed[op];
         }
     printf("\neach of the %lu instructions beside `end` completed at least %lu times in runs that ended with DONE\n", carried, least);
-    return differing != 0;
+    return differing != 0 || listed_otherwise != 0;
 }

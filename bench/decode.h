@@ -9,6 +9,7 @@ struct instruction {
     unsigned op;          /* a row of the table */
     uint32_t index;       /* of a local, or the offset of an access */
     uint64_t number;      /* of a constant */
+    uint8_t exponent;     /* of an access */
     uint8_t lane;
     const uint8_t *bytes; /* the sixteen of v128.const and of a shuffle */
     size_t end;           /* where the next instruction starts */
@@ -63,6 +64,7 @@ static inline enum code decode(const uint8_t *s, size_t len, size_t at, struct i
         READ(U32)
         if (4 < n || row->moved < 1 << n)
             REFUSE(ALIGN, exponent);
+        in->exponent = n;
         READ(U32)
         in->index = n;
         if (row->immediates == MEMARG)

@@ -7,13 +7,16 @@
 
 enum code {
     DONE, LONG, SHORT, MARK, VERSION, COUNT, KIND, OPCODE, FLOAT, NUMBER, LANE, ALIGN, LOCAL, OPERAND, DEEP, RESULT, TRAILING,
-    ROOM = 20, ARGS, OUT, FORM,
+    ROOM = 20, ARGS, OUT, FORM, SMALL,
     TRAP = 30, BUDGET
 };
 
 enum { I32 = 0x7F, I64 = 0x7E, V128 = 0x7B };
 
 enum { FILE_MOST = 65536, MEMORY_MOST = 65536, STACK_MOST = 64, PARAMETERS_MOST = 16, LOCALS_MOST = 16, RESULTS_MOST = 4, SLOT = 16 };
+
+/* An instruction has a byte at least. Its line has less than 512: 64 kinds take 321, a name 29, sixteen bytes 64. */
+enum { LISTING_MOST = 512 * FILE_MOST };
 
 /* Code in bits 0-7, place in 8-31, steps in 32-63. */
 static inline uint64_t answer(unsigned code, size_t place, uint32_t steps)
@@ -25,7 +28,12 @@ uint64_t plain_check(const uint8_t *strip, size_t strip_len);
 uint64_t plain_run(const uint8_t *strip, size_t strip_len, const uint8_t *args, size_t args_len, uint8_t *memory, size_t memory_len,
                    uint8_t *results, size_t results_len, uint32_t budget);
 
-/* The proved ones. */
+/* The listing of request C-11; its length is where a run has its steps. Then what the command prints: the listing, or code and place;
+   it answers how many bytes that is. */
+uint64_t plain_list(const uint8_t *strip, size_t strip_len, uint8_t *out, size_t out_len);
+size_t plain_listing(const uint8_t *strip, size_t strip_len, uint8_t out[LISTING_MOST]);
+
+/* The proved ones. The proved lister is a program. */
 uint64_t gevurlat_check(const uint8_t *strip, size_t strip_len);
 uint64_t gevurlat_run(const uint8_t *strip, size_t strip_len, const uint8_t *args, size_t args_len, uint8_t *memory, size_t memory_len,
                       uint8_t *results, size_t results_len, uint32_t budget);

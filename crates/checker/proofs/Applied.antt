@@ -13,9 +13,9 @@ use Rattle.opcode.specs.Kind.{Kind, kindByte}
 use Rattle.opcode.specs.Effect.{_⇒_}
 use Rattle.opcode.specs.Number.{packed}
 use Rattle.opcode.proofs.Effects.{kind-range}
-use Rattle.checker.specs.Inner.Kinds.{Holds}
+use Rattle.checker.specs.Walk.{Holds, Becomes}
 use Rattle.checker.specs.Inner.Judging.{Under, under, missing, Small, Applies, lacks, over, fits}
-use Rattle.checker.proofs.Held.{held-part, held-more}
+use Rattle.checker.proofs.Held.{held-part, becomes-same, becomes-more}
 
 three : (ks : List Kind) → length ks ≤ 3 → number (map kindByte ks) < 2 ^ 24
 three [] h = lit< tt
@@ -53,25 +53,35 @@ module _ {ins outs : List Kind} {effect : ℕ} (small : Small ins outs) (is : pa
   one-left (k ∷ j ∷ os) e z = absurd (let no : ⊥ = omega (arith, small .one, ap length e) in no)
 
   module _ {κs : List Kind} {kinds : List ℕ} {depth base : ℕ} (h : Holds kinds depth κs) (l : depth ≤ stackLimit) (u : Under κs ins base) where
-    pub applies-lacks : {after : List ℕ} {d : ℕ} → stackLimit < base → Applies κs ins outs after OPERAND d
+    pub applies-lacks : stackLimit < base → Applies κs ins outs kinds OPERAND 0 kinds
     applies-lacks b = lacks (under-none u (omega (arith, h .many)) b)
 
-    pub applies-none : base ≤ stackLimit → effect / 2 ^ 24 ≡ 0 → Applies κs ins outs kinds DONE base
-    applies-none b z =
-        let it = under-below u b in
-        let same : it .0 ++ outs ≡ it .0 = ap (λ (x : List Kind). it .0 ++ x) (none-left outs refl z) ∙ append-nil (it .0) in
-        fits (it .0) (it .1) (omega (arith, ap length same, it .2))
-        (subst (Holds kinds base) (sym same) (subst (λ (n : ℕ). Holds kinds n (it .0)) (it .2) (held-part h (it .0) ins (it .1))))
+    module _ (b : base ≤ stackLimit) where
+      abbrev below : List Kind
+      below = under-below u b .0
 
-    pub applies-over : {after : List ℕ} {d : ℕ} → (effect / 2 ^ 24 ≡ 0 → ⊥) → base ≡ stackLimit → Applies κs ins outs after DEEP d
-    applies-over z b =
-        let it = under-below u (omega arith) in
-        over (it .0) (it .1) (omega (arith, it .2, length-append (it .0) outs, ap length (one-left outs refl z .1)))
+      held-below : Holds kinds base below
+      held-below =
+          let it = under-below u b in
+          subst (λ (n : ℕ). Holds kinds n (it .0)) (it .2) (held-part h (it .0) ins (it .1))
 
-    pub applies-one : (effect / 2 ^ 24 ≡ 0 → ⊥) → length kinds ≡ stackLimit → base < stackLimit → Applies κs ins outs (set kinds base (effect / 2 ^ 24)) DONE (base + 1)
-    applies-one z long b =
-        let it = under-below u (omega arith) in
-        let k = one-left outs refl z in
-        let part = subst (λ (n : ℕ). Holds kinds n (it .0)) (it .2) (held-part h (it .0) ins (it .1)) in
-        let more : Holds (set kinds base (effect / 2 ^ 24)) (base + 1) (it .0 ++ outs) = rw (k .1, k .2) (held-more part (omega arith) (k .0)) in
-        fits (it .0) (it .1) (omega (arith, it .2, length-append (it .0) outs, ap length (k .1))) more
+      pub applies-none : effect / 2 ^ 24 ≡ 0 → Applies κs ins outs kinds DONE base kinds
+      applies-none z =
+          let it = under-below u b in
+          let same : below ++ outs ≡ below = ap (λ (x : List Kind). below ++ x) (none-left outs refl z) ∙ append-nil below in
+          fits below (it .1) (omega (arith, ap length same, it .2)) (subst (Becomes kinds kinds base) (sym same) (becomes-same held-below))
+
+      module _ (z : effect / 2 ^ 24 ≡ 0 → ⊥) where
+        longer : length (below ++ outs) ≡ base + 1
+        longer =
+            let it = under-below u b in
+            omega (arith, it .2, length-append below outs, ap length (one-left outs refl z .1))
+
+        pub applies-over : base ≡ stackLimit → Applies κs ins outs kinds DEEP 0 kinds
+        applies-over e = over below (under-below u b .1) (omega (arith, longer))
+
+        pub applies-one : length kinds ≡ stackLimit → base < stackLimit → Applies κs ins outs kinds DONE (base + 1) (set kinds base (effect / 2 ^ 24))
+        applies-one long l =
+            let k = one-left outs refl z in
+            let more : Becomes kinds (set kinds base (effect / 2 ^ 24)) (base + 1) (below ++ outs) = rw (k .1, k .2) (becomes-more held-below (omega arith) (k .0)) in
+            fits below (under-below u b .1) (omega (arith, longer)) more

@@ -18,8 +18,8 @@ use Rattle.rules.specs.Typing.{Local, first, later, Typed, by-signature, droppe
 use Rattle.rules.proofs.Lists.{ends-once}
 use Rattle.rules.proofs.Typings.{local-once}
 use Rattle.rules.proofs.Events.{declared-local}
-use Rattle.checker.specs.Inner.Kinds.{Holds}
-use Rattle.checker.specs.Inner.Judging.{Small, Applies, lacks, over, fits, Effected, undeclared, typed-by, Judges, no-local, untyped, too-deep, typed}
+use Rattle.checker.specs.Walk.{Holds, Judges, no-local, untyped, too-deep, typed}
+use Rattle.checker.specs.Inner.Judging.{Small, Applies, lacks, over, fits, Effected, undeclared, typed-by}
 use Rattle.checker.proofs.Held.{split-last, held-at, held-from}
 
 -- ---- the locals
@@ -162,18 +162,18 @@ module _ (ls : List Kind) (n : ℕ) (κs : List Kind) (e : ℕ) where
 -- ---- the judgement
 
 module _ {ls : List Kind} {n : ℕ} {c : Code} {κs : List Kind} {kinds : List ℕ} where
-  pub judges-local : {e d : ℕ} → Effected ls n c κs e → e ≡ 0 → Judges ls n c κs kinds LOCAL d
+  pub judges-local : {e : ℕ} → Effected ls n c κs e → e ≡ 0 → Judges ls n c κs kinds LOCAL 0 kinds
   judges-local (undeclared names f) z = no-local names f
   judges-local (typed-by t small only) z = absurd (let no : ⊥ = omega (arith, small .known) in no)
 
-  judges-by : {ins outs : List Kind} {code d : ℕ} → Typed ls n c ins outs → ((ins′ outs′ below : List Kind) → Typed ls n c ins′ outs′ → κs ≡ below ++ ins′ → ins′ ≡ ins)
-      → Applies κs ins outs kinds code d → Judges ls n c κs kinds code d
+  judges-by : {ins outs : List Kind} {code d : ℕ} {kinds′ : List ℕ} → Typed ls n c ins outs → ((ins′ outs′ below : List Kind) → Typed ls n c ins′ outs′ → κs ≡ below ++ ins′ → ins′ ≡ ins)
+      → Applies κs ins outs kinds code d kinds′ → Judges ls n c κs kinds code d kinds′
   judges-by t only (lacks f) =
       untyped (declared-local t) (λ κs′ u. f (u .below) (u .had ∙ ap (λ (x : List Kind). u .below ++ x) (only (u .ins) (u .outs) (u .below) (u .typed) (u .had))))
   judges-by {ins} {outs} t only (over below q big) = too-deep (record { below = below; ins = ins; outs = outs; typed = t; had = q; has = refl }) big
   judges-by {ins} {outs} t only (fits below q small h) = typed (record { below = below; ins = ins; outs = outs; typed = t; had = q; has = refl }) small h
 
-  pub judges-applies : {e code d : ℕ} → Effected ls n c κs e → (e ≡ 0 → ⊥) → ((ins outs : List Kind) → Small ins outs → packed (some (ins ⇒ outs)) ≡ e → Applies κs ins outs kinds code d)
-      → Judges ls n c κs kinds code d
+  pub judges-applies : {e code d : ℕ} {kinds′ : List ℕ} → Effected ls n c κs e → (e ≡ 0 → ⊥)
+      → ((ins outs : List Kind) → Small ins outs → packed (some (ins ⇒ outs)) ≡ e → Applies κs ins outs kinds code d kinds′) → Judges ls n c κs kinds code d kinds′
   judges-applies (undeclared names f) z a = absurd (z refl)
   judges-applies (typed-by {ins} {outs} t small only) z a = judges-by t only (a ins outs small refl)

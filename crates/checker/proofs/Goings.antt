@@ -11,14 +11,14 @@ use Rattle.card.specs.declared.Answer.{Answer}
 use Rattle.limits.specs.Limits.{fileLimit, stackLimit}
 use Rattle.leb128.specs.Bytes.{bytes}
 use Rattle.opcode.specs.Kind.{Kind, kindByte}
-use Rattle.opcode.specs.Table.{End, Code, plain, Row, carried, float, unassigned}
+use Rattle.opcode.specs.Table.{End, Code, plain, carried}
 use Rattle.opcode.specs.Entry.{entryOf, groupIn}
 use Rattle.opcode.proofs.Id.{row-of-id}
 use Rattle.opcode.proofs.Entries.{group-in}
 use Rattle.opcode.proofs.Groups.{by-group}
 use Rattle.instr.specs.declared.Instr.{Instr}
 use Rattle.instr.specs.declared.Scanned.{Scanned}
-use Rattle.instr.specs.Layout.{Allowed, rowIn, Stands}
+use Rattle.instr.specs.Layout.{Stands}
 use Rattle.instr.specs.Decode.{decodeAt}
 use Rattle.instr.specs.Scan.{scanOf}
 use Rattle.instr.proofs.Stands.{decoded-stands}
@@ -26,10 +26,12 @@ use Rattle.instr.proofs.Ranges.{stands-some, stands-inside, end-first, end-one}
 use Rattle.rules.specs.Header.{Header, Declares, locals, kinds}
 use Rattle.rules.specs.Strip.{Reads, Reaches, front, past, Valid}
 use Rattle.rules.specs.Breach.{At, Breach, local, operand, deep, result, trailing, Says, breach}
+use Rattle.rules.proofs.Onward.{reads-of}
 use Rattle.checker.specs.Check.{Checked}
-use Rattle.checker.specs.Inner.Kinds.{Holds, Compares}
-use Rattle.checker.specs.Inner.Judging.{Judges, no-local, untyped, too-deep, typed}
+use Rattle.checker.specs.Walk.{Holds, Judges, no-local, untyped, too-deep, typed}
+use Rattle.checker.specs.Inner.Kinds.{Compares}
 use Rattle.checker.specs.Inner.Parts.{Headed, Counts, Begins, AtEnd}
+use Rattle.checker.proofs.Held.{becomes-holds}
 use Rattle.checker.proofs.Fronts.{Says-so}
 use Rattle.checker.proofs.Refusals.{refused-breach}
 
@@ -69,16 +71,20 @@ module _ {s : List ℕ} {n r : ℕ} {h : Header} (k : Counts s n r h) where
       }
 
 -- the counts stand in the header
-opening : {s : List ℕ} {h : Header} → Declares s h → Begins s (8 + (getD s 5 0 + getD s 6 0) + getD s 7 0) (getD s 5 0 + getD s 6 0) (getD s 7 0)
-opening {s} {h} d =
+pub counted : {s : List ℕ} {h : Header} → Declares s h → Counts s (getD s 5 0 + getD s 6 0) (getD s 7 0) h
+counted {s} {h} d =
     let p : getD s 5 0 ≡ length (h .parameters) = ap (λ (x : List ℕ). getD x 5 0) (d .bytes) in
     let l : getD s 6 0 ≡ length (h .further) = ap (λ (x : List ℕ). getD x 6 0) (d .bytes) in
     let r : getD s 7 0 ≡ length (h .results) = ap (λ (x : List ℕ). getD x 7 0) (d .bytes) in
-    let ls = length-append (h .parameters) (h .further) in
+    record { declares = d; locals-are = omega (arith, length-append (h .parameters) (h .further)); results-are = sym r }
+
+opening : {s : List ℕ} {h : Header} → Declares s h → Begins s (8 + (getD s 5 0 + getD s 6 0) + getD s 7 0) (getD s 5 0 + getD s 6 0) (getD s 7 0)
+opening {h = h} d =
+    let k = counted d in
     record {
       header = h;
-      counts = record { declares = d; locals-are = omega arith; results-are = sym r };
-      start-is = omega (arith, length-map (kinds h) kindByte, length-append (locals h) (h .results));
+      counts = k;
+      start-is = omega (arith, length-map (kinds h) kindByte, length-append (locals h) (h .results), k .locals-are, k .results-are);
     }
 
 pub headed-opens : {s : List ℕ} {r : Answer} → Headed s r → r .code ≡ DONE → Begins s (8 + (getD s 5 0 + getD s 6 0) + getD s 7 0) (getD s 5 0 + getD s 6 0) (getD s 7 0)
@@ -110,12 +116,6 @@ starts {s} kinds l b =
       long = l;
     }
 
-row-carried : (w : Row) (i : Instr) → Allowed w i → (c : Code) × (w ≡ carried c)
-unfolding Allowed
-row-carried (carried c) i a = (c, refl)
-row-carried float i a = absurd a
-row-carried unassigned i a = absurd a
-
 -- the instruction at a place
 abbrev read : List ℕ → ℕ → Instr
 read s at = decodeAt s at .instr
@@ -132,7 +132,7 @@ module _ {s : List ℕ} {n r : ℕ} {kinds : List ℕ} {depth at : ℕ} (w : Goi
 
     -- the code that was read
     pub coded : (c : Code) × Reads s at (read s at) c (d .len)
-    coded = let c = row-carried (rowIn (read s at)) (read s at) (stands .allowed) in (c .0, record { stands = stands; does = c .1 })
+    coded = reads-of stands
 
     pub moves : (0 < d .len) × (at + d .len ≤ length s) × (length s ≤ fileLimit)
     moves = (stands-some stands, stands-inside stands, w .counts .declares .sized)
@@ -161,41 +161,41 @@ module _ {s : List ℕ} {n r : ℕ} {kinds : List ℕ} {depth at : ℕ} (w : Goi
       here : At s (w .header) at (w .stack) (read s at) (coded .0)
       here = record { reached = w .reached; size = d .len; reads = coded .1 }
 
-      module _ {after : List ℕ} where
-        breaks-of : {code depth′ : ℕ} → Judges (locals (w .header)) (read s at .index) (coded .0) (w .stack) after code depth′ → (code ≡ DONE → ⊥) → Breach s code at
-        breaks-of (no-local names f) z = local here names f
-        breaks-of (untyped declared f) z = operand here not-end declared f
-        breaks-of (too-deep t big) z = deep here t big
-        breaks-of (typed t small g) z = absurd (z refl)
+      breaks-of : {code depth′ : ℕ} {after : List ℕ} → Judges (locals (w .header)) (read s at .index) (coded .0) (w .stack) kinds code depth′ after → (code ≡ DONE → ⊥)
+          → Breach s code at
+      breaks-of (no-local names f) z = local here names f
+      breaks-of (untyped declared f) z = operand here not-end declared f
+      breaks-of (too-deep t big) z = deep here t big
+      breaks-of (typed t small g) z = absurd (z refl)
 
-        goes-of : {code depth′ : ℕ} → Judges (locals (w .header)) (read s at .index) (coded .0) (w .stack) after code depth′ → code ≡ DONE → length after ≡ stackLimit
-            → Going s n r after depth′ (at + d .len)
-        goes-of (no-local names f) z l = absurd (let no : ⊥ = omega arith in no)
-        goes-of (untyped declared f) z l = absurd (let no : ⊥ = omega arith in no)
-        goes-of (too-deep t big) z l = absurd (let no : ⊥ = omega arith in no)
-        goes-of (typed t small g) z l =
-            record {
-              header = w .header;
-              counts = w .counts;
-              stack = _;
-              holds = g;
-              reached = past (w .reached) (coded .1) t small;
-              most = omega (arith, g .many);
-              long = l;
-            }
+      goes-of : {code depth′ : ℕ} {after : List ℕ} → Judges (locals (w .header)) (read s at .index) (coded .0) (w .stack) kinds code depth′ after → code ≡ DONE
+          → length after ≡ stackLimit → Going s n r after depth′ (at + d .len)
+      goes-of (no-local names f) z l = absurd (let no : ⊥ = omega arith in no)
+      goes-of (untyped declared f) z l = absurd (let no : ⊥ = omega arith in no)
+      goes-of (too-deep t big) z l = absurd (let no : ⊥ = omega arith in no)
+      goes-of (typed t small g) z l =
+          record {
+            header = w .header;
+            counts = w .counts;
+            stack = _;
+            holds = becomes-holds g;
+            reached = past (w .reached) (coded .1) t small;
+            most = omega (arith, g .many);
+            long = l;
+          }
 
-        module _ {code depth′ : ℕ}
-            (j : (c : Code) (ls κs : List Kind) → d .entry ≡ entryOf (carried c) → (c ≡ plain End → ⊥) → Holds (drop 8 s) n ls → Holds kinds depth κs → Judges ls (d .index) c κs after code depth′) where
-          judgement : Judges (locals (w .header)) (read s at .index) (coded .0) (w .stack) after code depth′
-          judgement =
-              subst (λ (x : ℕ). Judges (locals (w .header)) x (coded .0) (w .stack) after code depth′) (ap (λ (x : Scanned). x .index) is)
-              (j (coded .0) (locals (w .header)) (w .stack) its-entry not-end (holds-locals (w .counts)) (w .holds))
+      module _ {after : List ℕ} {code depth′ : ℕ}
+          (j : (c : Code) (ls κs : List Kind) → d .entry ≡ entryOf (carried c) → (c ≡ plain End → ⊥) → Holds (drop 8 s) n ls → Holds kinds depth κs → Judges ls (d .index) c κs kinds code depth′ after) where
+        judgement : Judges (locals (w .header)) (read s at .index) (coded .0) (w .stack) kinds code depth′ after
+        judgement =
+            subst (λ (x : ℕ). Judges (locals (w .header)) x (coded .0) (w .stack) kinds code depth′ after) (ap (λ (x : Scanned). x .index) is)
+            (j (coded .0) (locals (w .header)) (w .stack) its-entry not-end (holds-locals (w .counts)) (w .holds))
 
-          pub breaks : (code ≡ DONE → ⊥) → Breach s code at
-          breaks = breaks-of judgement
+        pub breaks : (code ≡ DONE → ⊥) → Breach s code at
+        breaks = breaks-of judgement
 
-          pub goes : code ≡ DONE → length after ≡ stackLimit → Going s n r after depth′ (at + d .len)
-          goes = goes-of judgement
+        pub goes : code ≡ DONE → length after ≡ stackLimit → Going s n r after depth′ (at + d .len)
+        goes = goes-of judgement
 
 -- ---- after `end`
 

@@ -7,10 +7,11 @@ use native.Mathlib.Nat.{eq-or-lt-of-le}
 use mathlib.Core.List.{List, [], _∷_, _++_, map, map-append, append-assoc}
 use native.Mathlib.Omega.{arith}
 use lib.ListN.{length, getD, set, drop, length-append, length-map, List·getD-append}
-use lib.Seq.{getD-at, set-at, getD-drop}
+use lib.Seq.{getD-at, set-at, drop-at, getD-drop, drop-set-lt}
 use Rattle.opcode.specs.Kind.{Kind, kindByte}
 use Rattle.opcode.proofs.Effects.{kind-once}
-use Rattle.checker.specs.Inner.Kinds.{Holds, Compares}
+use Rattle.checker.specs.Walk.{Holds, Becomes}
+use Rattle.checker.specs.Inner.Kinds.{Compares}
 
 -- the last of some
 pub split-last : (l : List Kind) → 0 < length l → (front : List Kind) × (k : Kind) × (l ≡ front ++ (k ∷ []))
@@ -53,6 +54,25 @@ module _ {bytes : List ℕ} {n : ℕ} {κs : List Kind} (h : Holds bytes n κs) 
   -- one more
   pub held-more : n < length bytes → (k : Kind) → Holds (set bytes n (kindByte k)) (n + 1) (κs ++ (k ∷ []))
   held-more = pushed (h .rest) refl
+
+-- ---- what the bytes become
+
+pub becomes-holds : {bytes bytes′ : List ℕ} {n : ℕ} {κs : List Kind} → Becomes bytes bytes′ n κs → Holds bytes′ n κs
+becomes-holds {bytes} {n = n} b = record { many = b .many; rest = drop n bytes; here = b .here }
+
+pub becomes-same : {bytes : List ℕ} {n : ℕ} {κs : List Kind} → Holds bytes n κs → Becomes bytes bytes n κs
+becomes-same {bytes} {n} {κs} h =
+    let rest : drop n bytes ≡ h .rest = ap (drop n) (h .here) ∙ drop-at (map kindByte κs) (h .rest) n (length-map κs kindByte ∙ h .many) in
+    record { many = h .many; here = h .here ∙ ap (λ (x : List ℕ). map kindByte κs ++ x) (sym rest) }
+
+pub becomes-more : {bytes : List ℕ} {n : ℕ} {κs : List Kind} → Holds bytes n κs → n < length bytes → (k : Kind)
+    → Becomes bytes (set bytes n (kindByte k)) (n + 1) (κs ++ (k ∷ []))
+becomes-more {bytes} {n} {κs} h l k =
+    let more = becomes-same (held-more h l k) in
+    record {
+      many = more .many;
+      here = more .here ∙ ap (λ (x : List ℕ). map kindByte (κs ++ (k ∷ [])) ++ x) (drop-set-lt (n + 1) bytes n (kindByte k) (omega arith));
+    }
 
 -- as many kinds with the same bytes are the same
 pub alike : (κs λs : List Kind) → length κs ≡ length λs → ((j : ℕ) → j < length κs → getD (map kindByte κs) j 0 ≡ getD (map kindByte λs) j 0) → κs ≡ λs

@@ -9,7 +9,7 @@ use Rattle.operation.specs.Vector.{number}
 use Rattle.opcode.specs.Kind.{Kind, kindByte}
 use Rattle.opcode.proofs.Effects.{kind-once, kind-range}
 use Rattle.rules.proofs.Lists.{ends-once}
-use Rattle.checker.specs.Inner.Kinds.{Holds}
+use Rattle.checker.specs.Walk.{Holds}
 use Rattle.checker.specs.Inner.Judging.{Under, under, missing}
 use Rattle.checker.proofs.Held.{split-last, held-at}
 

@@ -4,8 +4,11 @@ mod header;
 mod stack;
 mod typing;
 
+pub use stack::Judged;
+pub use typing::judge;
 ghost use mathlib.Core.Path.{_≡_};
 ghost use Rattle.checker.specs.Check.{Checked};
+ghost use Rattle.checker.specs.Walk.{startOf};
 use card::Answer;
 
 pub fn check(strip: &[u8]) -> Answer
@@ -18,6 +21,16 @@ pub fn check(strip: &[u8]) -> Answer
     let locals = strip[5] as usize + strip[6] as usize;
     let results = strip[7] as usize;
     body::body(strip, 8 + locals + results, locals, results)
+}
+
+// Where a strip's instructions begin: after the counts and the kind bytes that they declare.
+pub fn start(strip: &[u8]) -> usize
+    ensures { λ r. ⌜ r ≡ startOf (now (strip .entry)) ⌝ }
+{
+    if strip.len() < 8 {
+        return 8;
+    }
+    8 + strip[5] as usize + strip[6] as usize + strip[7] as usize
 }
 
 // An answer of the check: no steps.

@@ -9,11 +9,11 @@ ghost use Rattle.operation.specs.Vector.{number};
 ghost use Rattle.opcode.specs.Kind.{Kind, kindByte};
 ghost use Rattle.opcode.specs.Effect.{_⇒_};
 ghost use Rattle.opcode.specs.Number.{packed};
-ghost use Rattle.checker.specs.Inner.Kinds.{Holds};
+ghost use Rattle.checker.specs.Walk.{Holds};
 ghost use Rattle.checker.specs.Inner.Judging.{Under, Small, Applies};
 
 // A code, and how many values the stack holds then.
-pub(crate) struct Judged {
+pub struct Judged {
     pub code: u8,
     pub depth: usize,
 }
@@ -42,7 +42,7 @@ fn under(operands: u32, kinds: &[u8], depth: usize) -> usize
 // The operands are taken and the result is left, as an entry of the table has them in a number.
 pub(crate) fn apply(effect: u32, kinds: &mut [u8], depth: usize) -> Judged
     requires { ⌜ (depth ≤ stackLimit) × (length (now kinds) ≡ stackLimit) ⌝ }
-    ensures { λ r. ⌜ ((κs ins outs : List Kind) → Holds (now (kinds .entry)) depth κs → Small ins outs → packed (some (ins ⇒ outs)) ≡ effect → Applies κs ins outs (now (kinds .exit)) (r .code) (r .depth)) ⌝ }
+    ensures { λ r. ⌜ ((κs ins outs : List Kind) → Holds (now (kinds .entry)) depth κs → Small ins outs → packed (some (ins ⇒ outs)) ≡ effect → Applies κs ins outs (now (kinds .entry)) (r .code) (r .depth) (now (kinds .exit))) ⌝ }
 {
     let base = under(effect % 0x100_0000, kinds, depth);
     if limits::STACK < base {

@@ -7,8 +7,8 @@ ghost use Rattle.limits.specs.Limits.{stackLimit};
 ghost use Rattle.opcode.specs.Kind.{Kind};
 ghost use Rattle.opcode.specs.Table.{End, Code, plain, carried};
 ghost use Rattle.opcode.specs.Entry.{entryOf};
-ghost use Rattle.checker.specs.Inner.Kinds.{Holds};
-ghost use Rattle.checker.specs.Inner.Judging.{Effected, Judges};
+ghost use Rattle.checker.specs.Walk.{Holds, Judges};
+ghost use Rattle.checker.specs.Inner.Judging.{Effected};
 use crate::stack;
 use crate::stack::Judged;
 use opcode::kind;
@@ -43,7 +43,8 @@ fn effect_of(strip: &[u8], locals: usize, entry: u64, index: u32, kinds: &[u8], 
     }
 }
 
-pub(crate) fn judge(
+// What the walk keeps is asked of who calls: the strip has its kind bytes, and the stack is held in an array of its own size.
+pub fn judge(
     strip: &[u8],
     locals: usize,
     entry: u64,
@@ -52,7 +53,7 @@ pub(crate) fn judge(
     depth: usize,
 ) -> Judged
     requires { ⌜ (8 + locals ≤ length (now strip)) × (depth ≤ stackLimit) × (length (now kinds) ≡ stackLimit) ⌝ }
-    ensures { λ r. ⌜ ((c : Code) (ls κs : List Kind) → entry ≡ entryOf (carried c) → (c ≡ plain End → ⊥) → Holds (drop 8 (now (strip .entry))) locals ls → Holds (now (kinds .entry)) depth κs → Judges ls index c κs (now (kinds .exit)) (r .code) (r .depth)) ⌝ }
+    ensures { λ r. ⌜ ((c : Code) (ls κs : List Kind) → entry ≡ entryOf (carried c) → (c ≡ plain End → ⊥) → Holds (drop 8 (now (strip .entry))) locals ls → Holds (now (kinds .entry)) depth κs → Judges ls index c κs (now (kinds .entry)) (r .code) (r .depth) (now (kinds .exit))) ⌝ }
 {
     let effect = effect_of(strip, locals, entry, index, kinds, depth);
     if effect == 0 {

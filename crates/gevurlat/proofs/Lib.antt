@@ -1,6 +1,4 @@
-pub mod Decimals
-pub mod Appending
+pub mod Lines
 pub mod Showing
-pub mod Reading
 pub mod Zeros
 pub mod Unique

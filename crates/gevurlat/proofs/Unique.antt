@@ -13,9 +13,10 @@ use Rattle.run.specs.Meter.{Left}
 use Rattle.run.specs.Run.{Slots}
 use Rattle.run.proofs.HeaderBytes.{result-count}
 use Rattle.run.proofs.Unique.{runs-once}
-use Rattle.gevurlat.specs.Text.{blank, newline, resultLines, Shown}
+use Rattle.text.specs.Words.{blank, newline}
+use Rattle.text.proofs.Decimals.{decimal-once}
+use Rattle.gevurlat.specs.Text.{resultLines, Shown}
 use Rattle.gevurlat.specs.Program.{zeros, resultCount, PrintsFrom}
-use Rattle.gevurlat.proofs.Decimals.{decimal-once}
 use Rattle.gevurlat.proofs.answer.answer.Reads as answer
 
 shown-once : {a : Answer} {results t u : List ℕ} → Shown a results t → Shown a results u → t ≡ u

@@ -5,22 +5,12 @@ use mathlib.Core.Bool.{cond}
 use mathlib.Core.List.{List, [], _∷_, _++_}
 use lib.Dec.{eqb}
 use lib.ListN.{length, take, drop}
-use Rattle.io.specs.Digits.{digits, glyph, Fewest}
+use Rattle.io.specs.Digits.{glyph}
 use Rattle.card.specs.Card.{DONE}
 use Rattle.card.specs.declared.Answer.{Answer}
 use Rattle.limits.specs.Limits.{slot}
-
-abbrev pub blank : ℕ
-blank = 32
-
-abbrev pub newline : ℕ
-newline = 10
-
--- in decimal, in the fewest digits
-pub record Decimal (n : ℕ) (text : List ℕ) : Type 0 where
-  pub count : ℕ
-  pub fewest : Fewest 10 1 n count
-  pub spelled : text ≡ digits 10 count n
+use Rattle.text.specs.Decimal.{Decimal}
+use Rattle.text.specs.Words.{blank, newline}
 
 -- two lowercase hexadecimal digits a byte, byte 0 first
 unfoldable pub hexadecimal : List ℕ → List ℕ

@@ -4,7 +4,7 @@ ghost use mathlib.Core.Path.{_≡_};
 ghost use lib.ListN.{length, take};
 ghost use Rattle.io.specs.Counts.{Counts};
 ghost use Rattle.gevurlat.specs.Program.{resultCount, PrintsFrom, Prints};
-use crate::text::show;
+use crate::ascii::show;
 
 const BUDGET: u32 = 1000000;
 

@@ -1,7 +1,6 @@
 // The program: a strip from standard input, run with no arguments; what comes of it on standard output (document 01, "Numbers on the inspector's card").
 mod answer;
-mod input;
-mod text;
+mod ascii;
 
 use input::Input;
 use libc::STDOUT_FILENO;

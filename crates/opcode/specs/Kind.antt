@@ -1,5 +1,8 @@
--- The kinds of values (01, "The strip file", "Values and shapes"): a kind's byte, and how many of a value's sixteen bytes it uses.
+-- The kinds of values (01, "The strip file", "Values and shapes"): a kind's byte, how many of a value's sixteen bytes it uses, and its
+-- name (Core 6.4).
 use Prim.Native.Nat.{ℕ}
+use mathlib.Core.List.{List}
+use Rattle.opcode.specs.Ascii.{ascii}
 
 pub data Kind : Type 0 where
   i32 : Kind
@@ -15,3 +18,8 @@ abbrev pub bytesUsed : Kind → ℕ
 bytesUsed i32 = 4
 bytesUsed i64 = 8
 bytesUsed v128 = 16
+
+abbrev pub kindName : Kind → List ℕ
+kindName i32 = ascii "i32"
+kindName i64 = ascii "i64"
+kindName v128 = ascii "v128"

@@ -1,3 +1,4 @@
+pub mod Ascii
 pub mod Kind
 pub mod Table
 pub mod Immediate
@@ -5,3 +6,4 @@ pub mod Effect
 pub mod Number
 pub mod Entry
 pub mod Lists
+pub mod Names

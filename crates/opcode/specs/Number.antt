@@ -1,13 +1,14 @@
 -- An instruction as one number, its id: the first byte, or 256 and the number after FD. And what the table says of it, as numbers.
 use Prim.Native.Nat.{ℕ, _+_, _-_, _*_, _^_}
 use mathlib.Core.Bool.{cond}
-use mathlib.Core.List.{map, reverse}
+use mathlib.Core.List.{List, map, reverse}
 use mathlib.Core.Option.{Option, none, some}
 use lib.Dec.{eqb, ltb}
 use Rattle.operation.specs.Vector.{number}
+use Rattle.opcode.specs.Ascii.{ascii}
 use Rattle.opcode.specs.Kind.{kindByte}
 use Rattle.operation.specs.Op.{Op, Load, LoadLane, Store, StoreLane, Const, Shuffle, Splat, ExtractLane, ReplaceLane, Unary, Binary, Bitselect, Test, Shift}
-use Rattle.opcode.specs.Table.{Plain, End, Drop, LocalGet, LocalSet, LocalTee, I32Const, I64Const, I32Add, I32Sub, Code, plain, vector, Row, carried, float, unassigned, vectorAt, plainAt, PREFIX}
+use Rattle.opcode.specs.Table.{Plain, End, Drop, LocalGet, LocalSet, LocalTee, I32Const, I64Const, I32Add, I32Sub, Code, plain, vector, Row, carried, float, unassigned, vectorAt, plainAt, vectorName, plainName, PREFIX}
 use Rattle.opcode.specs.Immediate.{Immediates, nothing, index, word, long, memory, memoryLane, laneIndex, sixteenBytes, sixteenLanes, immediates}
 use Rattle.opcode.specs.Effect.{Signature, _⇒_, effect}
 
@@ -17,6 +18,9 @@ idOf first n = cond (eqb first PREFIX) (cond (ltb n 256) (256 + n) 512) first
 
 unfoldable pub rowOf : ℕ → Row
 rowOf id = cond (ltb id 256) (plainAt id) (vectorAt (id - 256))
+
+unfoldable pub nameOf : ℕ → List ℕ
+nameOf id = ascii (cond (ltb id 256) (plainName id) (vectorName (id - 256)))
 
 -- NOTHING, INDEX, WORD, LONG, MEMORY, MEMORY_LANE, LANE, BYTES, LANES
 abbrev pub classNumber : Immediates → ℕ

@@ -16,8 +16,9 @@ use Rattle.instr.proofs.Ranges.{end-first, end-one}
 use Rattle.rules.specs.Header.{Header, Declares, headerBytes}
 use Rattle.rules.specs.Strip.{Reaches, front, past, Valid}
 use Rattle.rules.proofs.Onward.{Onward, here, next, from-front}
-use Rattle.rewrite.specs.Rewrite.{Instructions, no-more, one-more, Consists, encodings, shortest}
-use Rattle.rewrite.proofs.Strips.{between, instrs, valid-holds}
+use Rattle.rules.specs.Consists.{Instructions, no-more, one-more, Consists}
+use Rattle.rewrite.specs.Rewrite.{encodings, shortest}
+use Rattle.rules.proofs.Strips.{between, instrs, valid-holds}
 
 -- an instruction stands where its shortest form does
 stands-again : {s : List ℕ} {p n : ℕ} {i : Instr} → Stands s p i n → (t : List ℕ) (q : ℕ) (rest : List ℕ) → drop q t ≡ encoding i ++ rest

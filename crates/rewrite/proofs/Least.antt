@@ -12,7 +12,8 @@ use Rattle.instr.proofs.Fields.{in-order-append, in-order-least, in-order-only}
 use Rattle.instr.proofs.Encodes.{encode-shortest}
 use Rattle.instr.proofs.Places as Places
 use Rattle.rules.specs.Header.{Header, headerBytes}
-use Rattle.rewrite.specs.Rewrite.{Instructions, no-more, one-more, Consists, encodings, shortest}
+use Rattle.rules.specs.Consists.{Instructions, no-more, one-more, Consists}
+use Rattle.rewrite.specs.Rewrite.{encodings, shortest}
 use Rattle.rewrite.specs.Shortened.{layouts}
 
 pub all-shortest : {s : List ℕ} {p : ℕ} {is : List Instr} → Instructions s p is → InOrder Shortest (layouts is) (encodings is)

@@ -2,7 +2,6 @@
 pub mod Rewriting
 pub mod Unique
 -- What these and the functions' proofs lean on.
-pub mod Strips
 pub mod Again
 pub mod Least
 pub mod Copying

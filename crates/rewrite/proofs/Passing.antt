@@ -18,7 +18,8 @@ use Rattle.instr.specs.Encode.{encoding, fault, encoded, encodedIn}
 use Rattle.instr.proofs.Decodes.{stands-decodes}
 use Rattle.instr.proofs.Encodes.{stands-encodes}
 use Rattle.instr.proofs.Ranges.{stands-some, stands-inside}
-use Rattle.rewrite.specs.Rewrite.{Instructions, no-more, one-more, encodings}
+use Rattle.rules.specs.Consists.{Instructions, no-more, one-more}
+use Rattle.rewrite.specs.Rewrite.{encodings}
 use Rattle.rewrite.specs.Inner.Pass.{put, Ready, Passed}
 use Rattle.rewrite.proofs.Puts.{put-append, length-put, part-sets}
 

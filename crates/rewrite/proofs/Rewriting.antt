@@ -11,10 +11,11 @@ use Rattle.instr.specs.Layout.{Shortest, InOrder}
 use Rattle.rules.specs.Header.{Header, headerBytes}
 use Rattle.rules.specs.Strip.{Valid}
 use Rattle.rules.proofs.Verdicts.{one-breach, valid-no-breach, breach-coded}
-use Rattle.rewrite.specs.Rewrite.{Consists, encodings, shortest, answer, Rewrites, refused, small, done}
+use Rattle.rules.specs.Consists.{Consists}
+use Rattle.rewrite.specs.Rewrite.{encodings, shortest, answer, Rewrites, refused, small, done}
 use Rattle.rewrite.specs.Shortened.{layouts, Shortened}
 use Rattle.rewrite.specs.declared.Rewritten.{Rewritten}
-use Rattle.rewrite.proofs.Strips.{holds-once, instrs, valid-holds}
+use Rattle.rules.proofs.Strips.{holds-once, instrs, valid-holds}
 use Rattle.rewrite.proofs.Again.{holds-again, valid-again}
 use Rattle.rewrite.proofs.Least.{all-shortest, holds-least, holds-only}
 

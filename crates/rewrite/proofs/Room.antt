@@ -11,10 +11,11 @@ use Rattle.instr.specs.declared.Instr.{Instr}
 use Rattle.rules.specs.Header.{Header, Declares, headerBytes}
 use Rattle.rules.specs.Strip.{Valid}
 use Rattle.rules.specs.Breach.{Breach}
-use Rattle.rewrite.specs.Rewrite.{Instructions, encodings, shortest, answer, Rewrites, refused, small, done}
+use Rattle.rules.specs.Consists.{Instructions}
+use Rattle.rewrite.specs.Rewrite.{encodings, shortest, answer, Rewrites, refused, small, done}
 use Rattle.rewrite.specs.Inner.Pass.{Ready, Passed}
 use Rattle.rewrite.specs.declared.Rewritten.{Rewritten}
-use Rattle.rewrite.proofs.Strips.{instructions-once, instrs, valid-holds, header-inside}
+use Rattle.rules.proofs.Strips.{instructions-once, instrs, valid-holds, header-inside}
 
 pub is-refused : {s out : List ℕ} {c l : ℕ} {r : Rewritten} → Breach s c l → r ≡ answer c l 0 → Rewrites s out r out
 is-refused b e = rw e (refused b)

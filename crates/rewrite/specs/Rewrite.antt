@@ -1,26 +1,15 @@
 -- What the rewriter answers and writes (01, "The rewriter asks 1 to 16, then 24 if the output is below the shortest form's length").
-use Prim.Native.Nat.{ℕ, _+_, _<_, _≤_}
-use mathlib.Core.Path.{_≡_}
+use Prim.Native.Nat.{ℕ, _<_, _≤_}
 use mathlib.Core.List.{List, [], _∷_, _++_}
 use lib.ListN.{length, drop}
 use Rattle.card.specs.Card.{DONE, SMALL}
 use Rattle.instr.specs.declared.Instr.{Instr}
-use Rattle.instr.specs.Layout.{Stands}
 use Rattle.instr.specs.Encode.{encoding}
-use Rattle.rules.specs.Header.{Header, Declares, headerBytes}
+use Rattle.rules.specs.Header.{Header, headerBytes}
 use Rattle.rules.specs.Strip.{Valid}
+use Rattle.rules.specs.Consists.{Consists}
 use Rattle.rules.specs.Breach.{Breach}
 use Rattle.rewrite.specs.declared.Rewritten.{Rewritten}
-
--- these instructions stand one after the other, from the place p to the end of the file
-pub data Instructions (s : List ℕ) : ℕ → List Instr → Type 0 where
-  no-more : {p : ℕ} → p ≡ length s → Instructions s p []
-  one-more : {p n : ℕ} {i : Instr} {is : List Instr} → Stands s p i n → Instructions s (p + n) is → Instructions s p (i ∷ is)
-
--- the strip s has this header and these instructions; where it is valid, `end` is the last of them
-pub record Consists (s : List ℕ) (h : Header) (is : List Instr) : Type 0 where
-  pub declares : Declares s h
-  pub instructions : Instructions s (length (headerBytes h)) is
 
 abbrev pub encodings : List Instr → List ℕ
 encodings [] = []

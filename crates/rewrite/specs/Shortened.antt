@@ -7,7 +7,7 @@ use Rattle.instr.specs.declared.Instr.{Instr}
 use Rattle.instr.specs.Layout.{Field, Shortest, InOrder, layout}
 use Rattle.rules.specs.Header.{Header, headerBytes}
 use Rattle.rules.specs.Strip.{Valid}
-use Rattle.rewrite.specs.Rewrite.{Consists}
+use Rattle.rules.specs.Consists.{Consists}
 
 -- the fields of all of them
 abbrev pub layouts : List Instr → List Field

@@ -3,7 +3,6 @@ ghost use Prim.Native.Nat.{_≤_};
 ghost use mathlib.Core.Path.{_≡_};
 ghost use mathlib.Core.List.{_++_};
 ghost use lib.ListN.{length, take, drop};
-ghost use Rattle.rules.specs.Header.{Header, Declares, headerBytes};
 ghost use Rattle.rules.specs.Strip.{Valid};
 ghost use Rattle.rewrite.specs.Rewrite.{answer, Rewrites};
 ghost use Rattle.rewrite.specs.Inner.Pass.{Ready, Passed};
@@ -29,7 +28,7 @@ fn shorten(strip: &[u8], out: &mut [u8]) -> Rewritten
     requires { ⌜ Valid (now strip) ⌝ }
     ensures { λ r. ⌜ Rewrites (now (strip .entry)) (now (out .entry)) r (now (out .exit)) ⌝ }
 {
-    let start = header_len(strip);
+    let start = checker::start(strip);
     let len = pass(strip, start, out, false);
     if out.len() < len {
         return refused(card::SMALL, 0);
@@ -51,14 +50,6 @@ fn refused(code: u8, place: usize) -> Rewritten
         place,
         len: 0,
     }
-}
-
-// The counts stand after mark and version, a kind byte for each after them.
-fn header_len(strip: &[u8]) -> usize
-    requires { ⌜ 8 ≤ length (now strip) ⌝ }
-    ensures { λ r. ⌜ ((h : Header) → Declares (now (strip .entry)) h → r ≡ length (headerBytes h)) ⌝ }
-{
-    8 + strip[5] as usize + strip[6] as usize + strip[7] as usize
 }
 
 // The first n bytes.

@@ -7,3 +7,4 @@ pub mod Events
 pub mod Ends
 pub mod Heads
 pub mod Verdicts
+pub mod Strips

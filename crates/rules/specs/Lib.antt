@@ -1,4 +1,5 @@
 pub mod Header
 pub mod Typing
 pub mod Strip
+pub mod Consists
 pub mod Breach

@@ -1,9 +1,13 @@
-// Strips checked, run and rewritten, as the lines of data/cases.txt say. One line each: the name, of a run its budget, then code, place and steps (of a rewriting
-// the length); after them the results and each part of the memory that has changed, or the output. stdout was worked out from document 01 and Core's table of opcodes by a check,
-// a run and a rewriter written for that in another language, with no use of this code, before this was first run.
+// Strips checked, run, rewritten and listed, as the lines of data/cases.txt say. One line each: the name, of a run its budget, then code, place and steps (of a rewriting or a
+// listing the length); after them the results and each part of the memory that has changed, or the output; the text of a listing stands in the lines below. stdout was worked
+// out from documents 01, 02 and 002 and Core's table of opcodes by a check, a run, a rewriter and a lister written for that in another language, with no use of this code, before
+// this was first run.
+mod list;
 mod text;
 
 use libc::STDOUT_FILENO;
+use list::list;
+use list::rooms;
 use text::bytes_in;
 use text::field;
 use text::find;
@@ -35,17 +39,26 @@ fn cases(s: &[u8]) {
     }
 }
 
-// A line's first word says what is done.
+// A line's first word says what is done; the first letter tells all but two of them apart.
 fn case(line: &[u8]) {
-    if line.len() == 0 {
+    if line.len() < 2 {
         return;
     }
     match line[0] {
         b'c' => check(line),
-        b'r' => run(line),
+        b'r' => run_or_rooms(line, line[1]),
         b'b' => budgets(line),
         b's' => shorten(line),
+        b'l' => list(line),
         _ => {}
+    }
+}
+
+fn run_or_rooms(line: &[u8], second: u8) {
+    if second == b'o' {
+        rooms(line);
+    } else {
+        run(line);
     }
 }
 

@@ -1,17 +1,17 @@
--- Inner: one instruction over the kinds on the stack, by the card's lines 12, 13 and 14.
+-- Inner: what one instruction takes and leaves, in a number, and that put to the kinds on the stack.
 use Prim.Native.Nat.{ℕ, _≤_, _<_}
 use mathlib.Core.Path.{_≡_}
 use mathlib.Core.List.{List, _++_}
 use mathlib.Core.Option.{some}
 use lib.ListN.{length}
-use Rattle.card.specs.Card.{DONE, LOCAL, OPERAND, DEEP}
+use Rattle.card.specs.Card.{DONE, OPERAND, DEEP}
 use Rattle.limits.specs.Limits.{stackLimit}
 use Rattle.opcode.specs.Kind.{Kind}
 use Rattle.opcode.specs.Table.{Code}
 use Rattle.opcode.specs.Effect.{_⇒_}
 use Rattle.opcode.specs.Number.{packed}
-use Rattle.rules.specs.Typing.{Local, Typed, Types, Names}
-use Rattle.checker.specs.Inner.Kinds.{Holds}
+use Rattle.rules.specs.Typing.{Local, Typed, Names}
+use Rattle.checker.specs.Walk.{Becomes}
 
 -- how many values lie under the operands; more than the stack holds where they are not there
 pub data Under (κs ins : List Kind) : ℕ → Type 0 where
@@ -24,22 +24,15 @@ pub record Small (ins outs : List Kind) : Type 0 where
   pub one : length outs ≤ 1
   pub known : 0 < packed (some (ins ⇒ outs))
 
--- operands taken and a result left: a code, and the stack's depth then
-pub data Applies (κs ins outs : List Kind) (kinds : List ℕ) : ℕ → ℕ → Type 0 where
-  lacks : {d : ℕ} → ((below : List Kind) → κs ≡ below ++ ins → ⊥) → Applies κs ins outs kinds OPERAND d
-  over : {d : ℕ} (below : List Kind) → κs ≡ below ++ ins → stackLimit < length (below ++ outs) → Applies κs ins outs kinds DEEP d
-  fits : {d : ℕ} (below : List Kind) → κs ≡ below ++ ins → length (below ++ outs) ≤ stackLimit → Holds kinds d (below ++ outs)
-      → Applies κs ins outs kinds DONE d
+-- operands taken and a result left: a code, the stack's depth then, and the bytes
+pub data Applies (κs ins outs : List Kind) (kinds : List ℕ) : ℕ → ℕ → List ℕ → Type 0 where
+  lacks : ((below : List Kind) → κs ≡ below ++ ins → ⊥) → Applies κs ins outs kinds OPERAND 0 kinds
+  over : (below : List Kind) → κs ≡ below ++ ins → stackLimit < length (below ++ outs) → Applies κs ins outs kinds DEEP 0 kinds
+  fits : {d : ℕ} {kinds′ : List ℕ} (below : List Kind) → κs ≡ below ++ ins → length (below ++ outs) ≤ stackLimit → Becomes kinds kinds′ d (below ++ outs)
+      → Applies κs ins outs kinds DONE d kinds′
 
 -- the number of what the instruction takes and leaves here; 0 where its local is not declared
 pub data Effected (ls : List Kind) (n : ℕ) (c : Code) (κs : List Kind) : ℕ → Type 0 where
   undeclared : Names c → ((k : Kind) → Local ls n k → ⊥) → Effected ls n c κs 0
   typed-by : {ins outs : List Kind} → Typed ls n c ins outs → Small ins outs
       → ((ins′ outs′ below : List Kind) → Typed ls n c ins′ outs′ → κs ≡ below ++ ins′ → ins′ ≡ ins) → Effected ls n c κs (packed (some (ins ⇒ outs)))
-
--- the whole judgement
-pub data Judges (ls : List Kind) (n : ℕ) (c : Code) (κs : List Kind) (kinds : List ℕ) : ℕ → ℕ → Type 0 where
-  no-local : {d : ℕ} → Names c → ((k : Kind) → Local ls n k → ⊥) → Judges ls n c κs kinds LOCAL d
-  untyped : {d : ℕ} → (Names c → (k : Kind) × Local ls n k) → ((κs′ : List Kind) → Types ls n c κs κs′ → ⊥) → Judges ls n c κs kinds OPERAND d
-  too-deep : {d : ℕ} {κs′ : List Kind} → Types ls n c κs κs′ → stackLimit < length κs′ → Judges ls n c κs kinds DEEP d
-  typed : {d : ℕ} {κs′ : List Kind} → Types ls n c κs κs′ → length κs′ ≤ stackLimit → Holds kinds d κs′ → Judges ls n c κs kinds DONE d

@@ -10,7 +10,7 @@ use Rattle.opcode.specs.Table.{End, plain}
 use Rattle.instr.specs.declared.Instr.{Instr}
 use Rattle.rules.specs.Header.{Header, Declares, headerBytes, locals}
 use Rattle.rules.specs.Breach.{At, Breach}
-use Rattle.checker.specs.Inner.Kinds.{Holds}
+use Rattle.checker.specs.Walk.{Holds}
 
 -- n kind bytes from place 8 on
 pub data KindsSay (s : List ℕ) (n : ℕ) : ℕ → ℕ → Type 0 where

@@ -2,7 +2,7 @@
 use borrow.Author.Needs.{needs}
 use mathlib.Core.Path.{sym}
 use lib.Seq.{length-take-le}
-use Rattle.gevurlat.proofs.Reading.{inside-bytes}
+use Rattle.input.proofs.Reading.{inside-bytes}
 use Rattle.gevurlat.proofs.main.Statement.{statement}
 use Rattle.gevurlat.proofs.main.Tie as tie
 

@@ -1,6 +1,6 @@
 -- A breach is passed on; a valid strip is shortened.
 use borrow.Author.Needs.{needs}
-use Rattle.rewrite.proofs.Strips.{says-valid, says-breach}
+use Rattle.rules.proofs.Strips.{says-valid, says-breach}
 use Rattle.rewrite.proofs.Room.{is-refused}
 use Rattle.rewrite.proofs.rewrite.Statement.{statement}
 use Rattle.rewrite.proofs.rewrite.Tie as tie

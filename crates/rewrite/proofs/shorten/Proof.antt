@@ -1,15 +1,15 @@
 -- Counted, then no room or all written.
 use borrow.Author.Needs.{needs}
-use Rattle.rewrite.proofs.Strips.{valid-holds, header-counts}
+use Rattle.checker.proofs.Starts.{starts-at}
 use Rattle.rewrite.proofs.Room.{ready-to-count, too-small, header-fits, ready-to-write, all-written}
 use Rattle.rewrite.proofs.shorten.Statement.{statement}
 use Rattle.rewrite.proofs.shorten.Tie as tie
 
-header-len-requires : tie.Need-header-len-requires
-header-len-requires c κs = header-counts (valid-holds (c .before .before .pre) .declares)
+start-requires : tie.Need-start-requires
+start-requires c κs = search needs
 
 pass-requires : tie.Need-pass-requires
-pass-requires c κs = ready-to-count (c .before .before .before .before .pre) (c .before .header-len .ensures)
+pass-requires c κs = ready-to-count (c .before .before .before .before .pre) (starts-at (c .before .start .ensures))
 
 refused-requires : tie.Need-refused-requires
 refused-requires c κs = search needs
@@ -21,19 +21,19 @@ returns : tie.Need-returns
 returns c =
     let h = c .before .before .before .before .before .before in
     let p = c .before .before .before .before in
-    too-small (h .before .before .before .pre) (h .header-len .ensures) (p .pass .ensures) (c .before .if1 .taken) (c .refused .ensures)
+    too-small (h .before .before .before .pre) (starts-at (h .start .ensures)) (p .pass .ensures) (c .before .if1 .taken) (c .refused .ensures)
 
 copy-requires : tie.Need-copy-requires
 copy-requires c κs =
     let h = c .before .before .before .before .before .before in
     let p = c .before .before .before .before in
-    header-fits (h .before .before .before .pre) (h .header-len .ensures) (p .pass .ensures) (c .before .if1 .left)
+    header-fits (h .before .before .before .pre) (starts-at (h .start .ensures)) (p .pass .ensures) (c .before .if1 .left)
 
 pass-requires-2 : tie.Need-pass-requires-2
 pass-requires-2 c κs =
     let h = c .before .before .before .before .before .before .before .before .before .before in
     let p = c .before .before .before .before .before .before .before .before in
-    ready-to-write (h .before .before .before .pre) (h .header-len .ensures) (p .pass .ensures) (c .before .before .before .before .before .if1 .left) (c .before .before .before .copy .ensures)
+    ready-to-write (h .before .before .before .pre) (starts-at (h .start .ensures)) (p .pass .ensures) (c .before .before .before .before .before .if1 .left) (c .before .before .before .copy .ensures)
 
 same-length-2 : tie.Need-same-length-2
 same-length-2 c = search needs
@@ -43,9 +43,9 @@ returns-2 c =
     let h = c .before .before .before .before .before .before .before .before .before .before .before .before .before in
     let p = c .before .before .before .before .before .before .before .before .before .before .before in
     let x = c .before .before .before .before .before .before in
-    all-written (h .before .before .before .pre) (h .header-len .ensures) (p .pass .ensures) (x .before .before .if1 .left) (x .copy .ensures) (c .before .before .pass2 .ensures)
+    all-written (h .before .before .before .pre) (starts-at (h .start .ensures)) (p .pass .ensures) (x .before .before .if1 .left) (x .copy .ensures) (c .before .before .pass2 .ensures)
 
 pub shorten-spec : {M : Type 1} → statement M
 shorten-spec =
     tie.close
-    (tie.spec header-len-requires pass-requires refused-requires same-length returns copy-requires pass-requires-2 same-length-2 returns-2)
+    (tie.spec start-requires pass-requires refused-requires same-length returns copy-requires pass-requires-2 same-length-2 returns-2)

@@ -6,7 +6,8 @@ use mathlib.Core.List.{List}
 use lib.ListN.{length}
 use lib.Seq.{sets}
 use Rattle.instr.specs.declared.Instr.{Instr}
-use Rattle.rewrite.specs.Rewrite.{Instructions, encodings}
+use Rattle.rules.specs.Consists.{Instructions}
+use Rattle.rewrite.specs.Rewrite.{encodings}
 
 -- bytes written from a place on, or only counted
 abbrev pub put : Bool → List ℕ → ℕ → List ℕ → List ℕ

@@ -30,7 +30,7 @@ same-length-3 c = search needs
 
 returns-3 : tie.Need-returns-3
 returns-3 c κs ins outs h small is =
-    applies-over small is h (c .before .before .before .before .before .before .pre .0) (c .before .before .before .under .ensures κs ins h (low-bytes small is)) (c .before .if2 .left) (omega (arith, c .if3 .taken))
+    applies-over small is h (c .before .before .before .before .before .before .pre .0) (c .before .before .before .under .ensures κs ins h (low-bytes small is)) (c .before .before .if1 .left) (c .before .if2 .left) (omega (arith, c .if3 .taken))
 
 slice-write-kinds : tie.Need-slice-write-kinds
 slice-write-kinds c = search needs
@@ -44,7 +44,7 @@ same-length-4 c = search needs
 returns-4 : tie.Need-returns-4
 returns-4 c κs ins outs h small is =
     let start = c .before .before .before .before .before .before in
-    applies-one small is h (start .pre .0) (c .before .before .before .under .ensures κs ins h (low-bytes small is)) (c .before .if2 .left) (start .pre .1) (omega arith)
+    applies-one small is h (start .pre .0) (c .before .before .before .under .ensures κs ins h (low-bytes small is)) (c .before .before .if1 .left) (c .before .if2 .left) (start .pre .1) (omega arith)
 
 pub apply-spec : {M : Type 1} → statement M
 apply-spec =

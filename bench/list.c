@@ -1,0 +1,161 @@
+/* The listing of a strip that the check passes (request C-11): a line an instruction, with the kinds on the stack before it. */
+#include <stdio.h>
+#include <string.h>
+
+#include "decode.h"
+#include "names.h"
+
+/* Text that is written, or where `to` is NULL only counted. */
+struct text {
+    uint8_t *to;
+    size_t len;
+};
+
+static void put(struct text *t, const char *s, size_t n)
+{
+    if (t->to)
+        memcpy(t->to + t->len, s, n);
+    t->len += n;
+}
+
+static void put_byte(struct text *t, char c)
+{
+    if (t->to)
+        t->to[t->len] = c;
+    t->len++;
+}
+
+static void put_decimal(struct text *t, uint64_t n)
+{
+    char digits[20];
+    size_t first = sizeof digits;
+    do
+        digits[--first] = '0' + n % 10;
+    while (n /= 10);
+    put(t, digits + first, sizeof digits - first);
+}
+
+/* The least number's magnitude is no number of its own width: it is taken without a sign. */
+static void put_signed(struct text *t, int64_t n)
+{
+    if (n < 0)
+        put_byte(t, '-');
+    put_decimal(t, n < 0 ? 0 - (uint64_t)n : (uint64_t)n);
+}
+
+static void put_field(struct text *t, uint64_t n)
+{
+    put_byte(t, ' ');
+    put_decimal(t, n);
+}
+
+static void put_kinds(struct text *t, const uint8_t *kinds, size_t depth)
+{
+    put_byte(t, '[');
+    for (size_t i = 0; i < depth; i++) {
+        if (i)
+            put_byte(t, ' ');
+        switch (kinds[i]) {
+        case I32: put(t, "i32", 3); break;
+        case I64: put(t, "i64", 3); break;
+        default: put(t, "v128", 4);
+        }
+    }
+    put_byte(t, ']');
+}
+
+/* In the order of the file, each with a blank before it. */
+static void put_immediates(struct text *t, const struct instruction *in)
+{
+    switch (rows[in->op].immediates) {
+    case INDEX:
+        put_field(t, in->index);
+        break;
+    case WORD:
+        put_byte(t, ' ');
+        put_signed(t, (int32_t)in->number);
+        break;
+    case QUAD:
+        put_byte(t, ' ');
+        put_signed(t, (int64_t)in->number);
+        break;
+    case MEMARG:
+        put_field(t, in->exponent);
+        put_field(t, in->index);
+        break;
+    case MEMARG_LANE:
+        put_field(t, in->exponent);
+        put_field(t, in->index);
+        put_field(t, in->lane);
+        break;
+    case LANE_INDEX:
+        put_field(t, in->lane);
+        break;
+    case SIXTEEN:
+    case SHUFFLE:
+        for (int i = 0; i < 16; i++)
+            put_field(t, in->bytes[i]);
+    }
+}
+
+/* What an instruction does to the kinds; the check has found the ones that it takes. Answers the depth after it. */
+static size_t moved(const uint8_t *s, const struct instruction *in, uint8_t *kinds, size_t depth)
+{
+    const struct row *row = &rows[in->op];
+    switch (in->op) {
+    case DROP:
+    case LOCAL_SET:
+        return depth - 1;
+    case LOCAL_GET:
+        kinds[depth] = s[8 + in->index];
+        return depth + 1;
+    }
+    depth -= row->taken;
+    if (row->leaves[0])
+        kinds[depth++] = row->leaves[0];
+    return depth;
+}
+
+/* Answers the length of the listing. */
+static size_t written(const uint8_t *s, size_t len, uint8_t *out)
+{
+    struct text t = { out, 0 };
+    uint8_t kinds[STACK_MOST];
+    size_t depth = 0;
+    for (size_t at = 8 + s[5] + s[6] + s[7]; at < len;) {
+        struct instruction in;
+        size_t place;
+        decode(s, len, at, &in, &place);
+        put_decimal(&t, at);
+        put_byte(&t, ' ');
+        put_kinds(&t, kinds, depth);
+        put_byte(&t, ' ');
+        put(&t, names[in.op].text, names[in.op].len);
+        put_immediates(&t, &in);
+        put_byte(&t, '\n');
+        depth = moved(s, &in, kinds, depth);
+        at = in.end;
+    }
+    return t.len;
+}
+
+/* The room is asked about before the first byte is written. */
+uint64_t plain_list(const uint8_t *s, size_t len, uint8_t *out, size_t out_len)
+{
+    const uint64_t check = plain_check(s, len);
+    if (check != answer(DONE, 0, 0))
+        return check;
+    const size_t n = written(s, len, NULL);
+    if (out_len < n)
+        return answer(SMALL, 0, 0);
+    written(s, len, out);
+    return answer(DONE, 0, n);
+}
+
+size_t plain_listing(const uint8_t *s, size_t len, uint8_t out[LISTING_MOST])
+{
+    const uint64_t a = plain_list(s, len, out, LISTING_MOST);
+    if (a & 0xFF)
+        return sprintf((char *)out, "%u %u\n", (unsigned)(a & 0xFF), (unsigned)(a >> 8 & 0xFFFFFF));
+    return a >> 32;
+}

@@ -1,3 +1,0 @@
--- What only contracts inside this crate cite; no promise to a caller does.
-pub mod Appending
-pub mod Reading

@@ -1,0 +1,29 @@
+-- A breach is passed on; a valid strip is listed.
+use Rattle.rules.proofs.Strips.{says-valid, says-breach}
+use Rattle.listing.proofs.Answers.{is-refused}
+use borrow.Author.Needs.{needs}
+use Rattle.listing.proofs.list.Statement.{statement}
+use Rattle.listing.proofs.list.Tie as tie
+
+check-requires : tie.Need-check-requires
+check-requires c κs = search needs
+
+refused-requires : tie.Need-refused-requires
+refused-requires c κs = search needs
+
+returns : tie.Need-returns
+returns c = is-refused (says-breach (c .before .before .before .check .ensures .says) (c .before .if1 .taken)) (c .refused .ensures)
+
+whole-requires : tie.Need-whole-requires
+whole-requires c κs = says-valid (c .before .before .before .check .ensures .says) (c .before .if1 .left)
+
+same-length : tie.Need-same-length
+same-length c = search needs
+
+returns-2 : tie.Need-returns-2
+returns-2 c = search needs
+
+pub list-spec : {M : Type 1} → statement M
+list-spec =
+    tie.close
+    (tie.spec check-requires refused-requires returns whole-requires same-length returns-2)

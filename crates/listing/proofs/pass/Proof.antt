@@ -1,0 +1,77 @@
+-- A turn makes one line, which is written where there is room for all.
+use Rattle.listing.proofs.Following.{follow-walks, line-fits, onward}
+use Rattle.listing.proofs.Passing.{Passing, begins, passes, adds, goes-on}
+use mathlib.Core.Path.{sym}
+use lib.Seq.{length-take-le}
+use Prim.Native.Nat.{_-_}
+use mathlib.Core.Path.{refl}
+use borrow.Author.Needs.{needs}
+use native.Mathlib.Omega.{arith}
+use lib.ListN.{length}
+use Rattle.listing.proofs.pass.Statement.{statement}
+use Rattle.listing.proofs.pass.Tie as tie
+
+abbrev Inv-loop : tie.InvT-loop
+Inv-loop strip out₀ kinds₀ text₀ depth₀ at₀ to₀ out kinds text depth at to = Passing strip out₀ out kinds text depth at to
+
+abbrev μ-loop : tie.MeasureT-loop
+μ-loop strip out₀ kinds₀ text₀ depth₀ at₀ to₀ out kinds text depth at to = length strip - at
+
+start-requires : tie.Need-start-requires Inv-loop μ-loop
+start-requires c κs = search needs
+
+loop-holds : tie.Need-loop-holds Inv-loop μ-loop
+loop-holds c = begins (c .before .before .before .pre) _ _ _ (c .start .ensures) refl refl
+
+slice-aggregate-next-line : tie.Need-slice-aggregate-next-line Inv-loop μ-loop
+slice-aggregate-next-line c = let f = c .before .before .loop .inv .follows in search needs
+
+slice-aggregate-next-line-2 : tie.Need-slice-aggregate-next-line-2 Inv-loop μ-loop
+slice-aggregate-next-line-2 c = let f = c .before .before .before .loop .inv .follows in search needs
+
+next-line-requires : tie.Need-next-line-requires Inv-loop μ-loop
+next-line-requires c κs = let p = c .before .before .before .loop .inv .follows in (follow-walks p (c .before .before .loop-test .taken), omega (arith, p .room))
+
+array-share-prefix-text : tie.Need-array-share-prefix-text Inv-loop μ-loop
+array-share-prefix-text c = let w = c .before .before .next-line in line-fits (c .before .before .before .before .before .before .loop .inv .follows) (c .before .before .before .before .before .loop-test .taken) (w .ensures) (w .kept .1 .1 .1 .1 .0)
+
+slice-aggregate-put : tie.Need-slice-aggregate-put Inv-loop μ-loop
+slice-aggregate-put c = let w = c .before .before .before .next-line in sym (length-take-le _ _ (line-fits (c .before .before .before .before .before .before .before .loop .inv .follows) (c .before .before .before .before .before .before .loop-test .taken) (w .ensures) (w .kept .1 .1 .1 .1 .0)))
+
+put-requires : tie.Need-put-requires Inv-loop μ-loop
+put-requires c κs = search needs
+
+add-to : tie.Need-add-to Inv-loop μ-loop
+add-to c = let p = c .before .before .before .before .before .before .before .before .before .before .before .loop .inv in let w = c .before .before .before .before .before .before .before .next-line in omega (arith, adds p (c .before .before .before .before .before .before .before .before .before .before .loop-test .taken) (w .ensures) (w .kept .1 .1 .1 .1 .0))
+
+loop-less : tie.Need-loop-less Inv-loop μ-loop
+loop-less c = let w = c .before .before .before .before .before .before .before .next-line in omega (arith, onward (c .before .before .before .before .before .before .before .before .before .before .before .loop .inv .follows) (c .before .before .before .before .before .before .before .before .before .before .loop-test .taken) (w .ensures) (w .kept .1 .1 .1 .1 .0), c .before .before .before .before .before .before .before .before .before .before .loop-test .taken)
+
+loop-again : tie.Need-loop-again Inv-loop μ-loop
+loop-again c = let w = c .before .before .before .before .before .before .before .next-line in goes-on (c .before .before .before .before .before .before .before .before .before .before .before .loop .inv) (c .before .before .before .before .before .before .before .before .before .before .loop-test .taken) (w .ensures) (w .kept .1 .1 .1 .1 .0) (w .kept .1 .1 .0) (c .before .before .put .ensures)
+
+same-length : tie.Need-same-length Inv-loop μ-loop
+same-length c = c .before .loop .inv .long
+
+returns : tie.Need-returns Inv-loop μ-loop
+returns c = passes (c .before .loop .inv) (c .loop-test .left)
+
+pub pass-spec : {M : Type 1} → statement M
+pass-spec =
+    tie.close
+    (tie.spec
+    Inv-loop
+    μ-loop
+    start-requires
+    loop-holds
+    slice-aggregate-next-line
+    slice-aggregate-next-line-2
+    next-line-requires
+    array-share-prefix-text
+    slice-aggregate-put
+    put-requires
+    add-to
+    loop-less
+    loop-again
+    same-length
+    returns)

@@ -1,0 +1,5 @@
+pub mod Line
+pub mod Listing
+pub mod Aside
+pub mod Walk
+pub mod Inner

@@ -1,0 +1,3 @@
+-- What only contracts inside the crate cite; no promise to a user does.
+pub mod Row
+pub mod Block
