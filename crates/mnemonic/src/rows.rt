@@ -446,7 +446,7 @@ fn plain(n: usize, out: &mut [u8; 32])
 }
 
 // Row n of block b.
-pub fn in_block(b: u32, n: usize, out: &mut [u8; 32])
+pub(crate) fn in_block(b: u32, n: usize, out: &mut [u8; 32])
     requires { ⌜ (b ≤ 0x10) × Fits n (now out) ⌝ }
     ensures { λ r. ⌜ now (out .exit) ≡ row n (block b) ⌝ }
 {
