@@ -28,6 +28,14 @@ static inline union slot number_slot(uint64_t n)
     return r;
 }
 
+/* The ones of each of eight bytes. */
+static inline uint64_t ones_of_bytes(uint64_t x)
+{
+    x -= x >> 1 & 0x5555555555555555;
+    x = (x & 0x3333333333333333) + (x >> 2 & 0x3333333333333333);
+    return (x + (x >> 4)) & 0x0F0F0F0F0F0F0F0F;
+}
+
 #define UNARY_LANES(op, n, to, e)             \
     case VECTOR + (op): {                     \
         const union slot a = sp[-1];          \

@@ -212,7 +212,7 @@ uint64_t plain_run(const uint8_t *s, size_t len, const uint8_t *args, size_t arg
         WIDENING(0xC0, 2, u64, u32, s32)
         PAIRWISE(0x7C, 8, u16, u8, s8)
         PAIRWISE(0x7E, 4, u32, u16, s16)
-        UNARY_LANES(0x62, 16, u8, __builtin_popcount(a.u8[i]))
+        UNARY_LANES(0x62, 2, u64, ones_of_bytes(a.u64[i]))
         BINARY_LANES(0x82, 8, s16, clamp((a.s16[i] * b.s16[i] + 0x4000) >> 15, INT16_MIN, INT16_MAX))
         BINARY_LANES(0x95, 8, u16, (uint32_t)a.u16[i] * b.u16[i])
         BINARY_LANES(0xB5, 4, u32, a.u32[i] * b.u32[i])

@@ -5,6 +5,9 @@ pub mod Build
 pub mod Told
 pub mod Bitwise
 pub mod Scan
+pub mod Words
+pub mod Ones
+pub mod Signs
 pub mod Replace
 pub mod Any
 pub mod Answers

@@ -14,6 +14,7 @@ use crate::answer::vector_done;
 use crate::lanes::choosing;
 use crate::lanes::choosing::gather;
 use crate::lanes::choosing::indices_fit;
+use crate::lanes::counting;
 use crate::lanes::lanewise::lanewise8;
 use crate::lanes::narrowing::narrow8;
 use crate::lanes::shifting::shift8;
@@ -158,7 +159,7 @@ pub fn neg(a: V128) -> V128
 pub fn popcnt(a: V128) -> V128
     ensures { λ r. ⌜ r .bytes ≡ unary Popcnt (a .bytes) ⌝ }
 {
-    lanewise8(op::LAST, a, a)
+    counting::popcnt(a)
 }
 
 pub fn all_true(a: V128) -> u32

@@ -52,7 +52,7 @@ pub(crate) const AVGR_U: u8 = 22;
 
 pub(crate) const Q15MULR_SAT_S: u8 = 23;
 
-// What is left: mul at 16, 32 and 64 bits, popcnt at 8.
+// What is left: mul at 16, 32 and 64 bits.
 pub(crate) const LAST: u8 = 24;
 
 // ---- shifts

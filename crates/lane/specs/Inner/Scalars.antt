@@ -4,7 +4,7 @@ use lib.Bits.{bitAnd, bitOr, bitXor}
 use mathlib.Core.List.{List, [], _∷_, _++_}
 use lib.ListN.{getD}
 use mir.Syntax.{Width, w8, w16, w32, w64}
-use Rattle.scalar.specs.Scalar.{S, U, iadd, isub, imul, ineg, iabs, iaddsat, isubsat, imin, imax, iavgr, iq15mulrsat, ipopcnt, ieq, ine, ilt, ile, ishl, ishr, iextend, iextmul, iextadd, inarrow}
+use Rattle.scalar.specs.Scalar.{S, U, iadd, isub, imul, ineg, iabs, iaddsat, isubsat, imin, imax, iavgr, iq15mulrsat, ieq, ine, ilt, ile, ishl, ishr, iextend, iextmul, iextadd, inarrow}
 
 -- at every width
 abbrev pub always : Width → ℕ → ℕ → List ℕ
@@ -17,13 +17,13 @@ ordered w x y = ilt U w x y ∷ ilt U w y x ∷ ile U w x y ∷ ile U w y x ∷ 
 
 -- to 16 bits
 abbrev pub saturated : Width → ℕ → ℕ → List ℕ
-saturated w x y = iaddsat S w x y ∷ iaddsat U w x y ∷ isubsat S w x y ∷ isubsat U w x y ∷ iavgr x y ∷ []
+saturated w x y = iaddsat S w x y ∷ iaddsat U w x y ∷ isubsat S w x y ∷ isubsat U w x y ∷ []
 
 abbrev pub scalar8 : ℕ → ℕ → ℕ → ℕ
-scalar8 n x y = getD (always w8 x y ++ ordered w8 x y ++ saturated w8 x y) n (ipopcnt x)
+scalar8 n x y = getD (always w8 x y ++ ordered w8 x y ++ saturated w8 x y) n (iavgr x y)
 
 abbrev pub scalar16 : ℕ → ℕ → ℕ → ℕ
-scalar16 n x y = getD (always w16 x y ++ ordered w16 x y ++ saturated w16 x y ++ (iq15mulrsat w16 x y ∷ [])) n (imul w16 x y)
+scalar16 n x y = getD (always w16 x y ++ ordered w16 x y ++ saturated w16 x y ++ (iavgr x y ∷ iq15mulrsat w16 x y ∷ [])) n (imul w16 x y)
 
 abbrev pub scalar32 : ℕ → ℕ → ℕ → ℕ
 scalar32 n x y = getD (always w32 x y ++ ordered w32 x y) n (imul w32 x y)

@@ -58,7 +58,6 @@ use scalar::wrapping::neg8;
 use scalar::wrapping::neg16;
 use scalar::wrapping::neg32;
 use scalar::wrapping::neg64;
-use scalar::wrapping::popcnt8;
 use scalar::wrapping::sub8;
 use scalar::wrapping::sub16;
 use scalar::wrapping::sub32;
@@ -90,8 +89,7 @@ fn scalar8(op: u8, x: u8, y: u8) -> u8
         op::ADD_SAT_U => add_sat_u8(x, y),
         op::SUB_SAT_S => sub_sat_s8(x, y),
         op::SUB_SAT_U => sub_sat_u8(x, y),
-        op::AVGR_U => avgr_u8(x, y),
-        _ => popcnt8(x),
+        _ => avgr_u8(x, y),
     }
 }
 

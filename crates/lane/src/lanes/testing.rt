@@ -3,6 +3,10 @@ ghost use mathlib.Core.Path.{_≡_};
 ghost use mir.Syntax.{w8, w16, w32, w64};
 ghost use Rattle.operation.specs.Op.{AnyTrue, AllTrue, Bitmask, test};
 use crate::V128;
+use crate::lanes::signs::signs8;
+use crate::lanes::signs::signs16;
+use crate::lanes::signs::signs32;
+use crate::lanes::signs::signs64;
 use crate::vector::get8;
 use crate::vector::get16;
 use crate::vector::get32;
@@ -76,58 +80,27 @@ pub(crate) fn all_true64(a: V128) -> u32
     1
 }
 
+// The lanes of the low word, then those of the high one.
 pub(crate) fn bitmask8(a: V128) -> u32
     ensures { λ r. ⌜ r ≡ test (Bitmask w8) (a .bytes) ⌝ }
 {
-    let mut r: u32 = 0;
-    let mut bit: u32 = 1;
-    let mut i = 0;
-    while i < I8x16::LANES {
-        r += ((get8(&a.bytes, i) / 128) as u32) * bit;
-        bit *= 2;
-        i += 1;
-    }
-    r
+    signs8(get64(&a.bytes, 0)) + 256 * signs8(get64(&a.bytes, 1))
 }
 
 pub(crate) fn bitmask16(a: V128) -> u32
     ensures { λ r. ⌜ r ≡ test (Bitmask w16) (a .bytes) ⌝ }
 {
-    let mut r: u32 = 0;
-    let mut bit: u32 = 1;
-    let mut i = 0;
-    while i < I16x8::LANES {
-        r += ((get16(&a.bytes, i) / 32768) as u32) * bit;
-        bit *= 2;
-        i += 1;
-    }
-    r
+    signs16(get64(&a.bytes, 0)) + 16 * signs16(get64(&a.bytes, 1))
 }
 
 pub(crate) fn bitmask32(a: V128) -> u32
     ensures { λ r. ⌜ r ≡ test (Bitmask w32) (a .bytes) ⌝ }
 {
-    let mut r: u32 = 0;
-    let mut bit: u32 = 1;
-    let mut i = 0;
-    while i < I32x4::LANES {
-        r += ((get32(&a.bytes, i) / 2147483648) as u32) * bit;
-        bit *= 2;
-        i += 1;
-    }
-    r
+    signs32(get64(&a.bytes, 0)) + 4 * signs32(get64(&a.bytes, 1))
 }
 
 pub(crate) fn bitmask64(a: V128) -> u32
     ensures { λ r. ⌜ r ≡ test (Bitmask w64) (a .bytes) ⌝ }
 {
-    let mut r: u32 = 0;
-    let mut bit: u32 = 1;
-    let mut i = 0;
-    while i < I64x2::LANES {
-        r += ((get64(&a.bytes, i) / 9223372036854775808) as u32) * bit;
-        bit *= 2;
-        i += 1;
-    }
-    r
+    signs64(get64(&a.bytes, 0)) + 2 * signs64(get64(&a.bytes, 1))
 }

@@ -5,7 +5,7 @@ use mathlib.Core.Bool.{cond}
 use mathlib.Core.List.{_++_, _∷_, []}
 use lib.ListN.{List·getD-eq-default}
 use mir.Syntax.{w16}
-use Rattle.scalar.specs.Scalar.{mask, iq15mulrsat}
+use Rattle.scalar.specs.Scalar.{mask, iavgr, iq15mulrsat}
 use Rattle.lane.specs.Inner.Scalars.{always, ordered, saturated, scalar16}
 use Rattle.lane.proofs.Laws.Told.{told, past}
 use Rattle.lane.proofs.lanes.lanewise.scalar16.Statement.{statement}
@@ -14,7 +14,7 @@ use Rattle.lane.proofs.lanes.lanewise.scalar16.Tie as tie
 rest : tie.Need-returns-25
 rest c =
     let x = c .before .before .args .x in let y = c .before .before .args .y in
-    c .mul16 .ensures ∙ sym (List·getD-eq-default (always w16 x y ++ ordered w16 x y ++ saturated w16 x y ++ (iq15mulrsat w16 x y ∷ [])) _ (past 24 (c .before .before .args .op) (c .before .match .rest)))
+    c .mul16 .ensures ∙ sym (List·getD-eq-default (always w16 x y ++ ordered w16 x y ++ saturated w16 x y ++ (iavgr x y ∷ iq15mulrsat w16 x y ∷ [])) _ (past 24 (c .before .before .args .op) (c .before .match .rest)))
 
 pub scalar16-spec : {M : Type 1} → statement M
 scalar16-spec =

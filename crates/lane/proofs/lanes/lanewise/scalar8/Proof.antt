@@ -11,10 +11,10 @@ use Rattle.lane.proofs.Laws.Told.{told, past}
 use Rattle.lane.proofs.lanes.lanewise.scalar8.Statement.{statement}
 use Rattle.lane.proofs.lanes.lanewise.scalar8.Tie as tie
 
-rest : tie.Need-returns-24
+rest : tie.Need-returns-23
 rest c =
     let x = c .before .before .args .x in let y = c .before .before .args .y in
-    c .popcnt8 .ensures ∙ sym (List·getD-eq-default (always w8 x y ++ ordered w8 x y ++ saturated w8 x y) _ (past 23 (c .before .before .args .op) (c .before .match .rest)))
+    c .avgr-u8 .ensures ∙ sym (List·getD-eq-default (always w8 x y ++ ordered w8 x y ++ saturated w8 x y) _ (past 22 (c .before .before .args .op) (c .before .match .rest)))
 
 pub scalar8-spec : {M : Type 1} → statement M
 scalar8-spec =
@@ -25,7 +25,7 @@ scalar8-spec =
     (λ c κs. search needs) (λ c κs. search needs) (λ c κs. search needs) (λ c κs. search needs) (λ c κs. search needs)
     (λ c κs. search needs) (λ c κs. search needs) (λ c κs. search needs) (λ c κs. search needs) (λ c κs. search needs)
     (λ c κs. search needs) (λ c κs. search needs) (λ c κs. search needs) (λ c κs. search needs) (λ c κs. search needs)
-    (λ c κs. search needs) (λ c κs. search needs) (λ c κs. search needs) (λ c κs. search needs) (λ c κs. search needs)
+    (λ c κs. search needs) (λ c κs. search needs) (λ c κs. search needs) (λ c κs. search needs)
     (λ c. told scalar8 (c .before .before .args .x) (c .before .before .args .y) (c .abs8 .ensures) (c .before .match .keys1))
     (λ c. told scalar8 (c .before .before .args .x) (c .before .before .args .y) (c .neg8 .ensures) (c .before .match .keys2))
     (λ c. told scalar8 (c .before .before .args .x) (c .before .before .args .y) (c .mask8 .ensures) (c .before .match .keys3))
@@ -48,5 +48,4 @@ scalar8-spec =
     (λ c. told scalar8 (c .before .before .args .x) (c .before .before .args .y) (c .add-sat-u8 .ensures) (c .before .match .keys20))
     (λ c. told scalar8 (c .before .before .args .x) (c .before .before .args .y) (c .sub-sat-s8 .ensures) (c .before .match .keys21))
     (λ c. told scalar8 (c .before .before .args .x) (c .before .before .args .y) (c .sub-sat-u8 .ensures) (c .before .match .keys22))
-    (λ c. told scalar8 (c .before .before .args .x) (c .before .before .args .y) (c .avgr-u8 .ensures) (c .before .match .keys23))
     rest)

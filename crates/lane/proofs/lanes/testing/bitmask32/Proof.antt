@@ -1,61 +1,25 @@
--- The first i bits are the signs of the first i lanes.
-use Prim.Native.Nat.{ℕ, _+_, _≤_, _<_, _-_, _^_, _/_}
-use mathlib.Core.Path.{_≡_, refl, _∙_, ap, subst}
-use native.Mathlib.Nat.{le-antisymm}
+-- The signs of both words.
+use mathlib.Core.Path.{refl}
 use native.Mathlib.Omega.{arith}
 use borrow.Author.Needs.{needs}
-use lib.IntN.{pos}
-use lib.Signed.{ltZ}
-use lib.Pow.{pow-mono}
 use mir.Syntax.{w32}
-use Rattle.scalar.specs.Scalar.{S, value}
-use Rattle.operation.specs.Vector.{lane}
-use Rattle.operation.specs.Op.{tally}
-use Rattle.lane.proofs.Laws.Lane.{lane-lt}
-use Rattle.lane.proofs.Laws.Scan.{tally-more, sign-bit, bit-mul, double}
+use Rattle.lane.proofs.Laws.Signs.{signs-lt, both-words}
 use Rattle.lane.proofs.lanes.testing.bitmask32.Statement.{statement}
 use Rattle.lane.proofs.lanes.testing.bitmask32.Tie as tie
 
-abbrev Inv-loop : tie.InvT-loop
-Inv-loop a r₀ bit₀ i₀ r bit i =
-    (i ≤ 4) × (bit ≡ 2 ^ i) × (bit ≤ 2 ^ 4) × (r < bit) × (r ≡ tally i (λ n. ltZ (value S w32 (lane w32 (a .bytes) n)) (pos 0)))
+mul-result : tie.Need-mul-result
+mul-result c = omega (arith, c .signs322 .ensures, signs-lt w32 (c .before .get642 .result))
 
-abbrev μ-loop : tie.MeasureT-loop
-μ-loop a r₀ bit₀ i₀ r bit i = 4 - i
+add-result : tie.Need-add-result
+add-result c =
+    let low = c .before .before .before .before in
+    omega (arith, c .signs322 .ensures, signs-lt w32 (c .before .get642 .result), low .signs32 .ensures, signs-lt w32 (low .before .get64 .result))
 
-loop-holds : tie.Need-loop-holds Inv-loop μ-loop
-loop-holds c = (omega arith, refl, omega arith, omega arith, refl)
-
-small : (c : tie.After-get32 Inv-loop μ-loop) → c .get32 .result / 2 ^ 31 ≤ 1
-small c = omega arith
-
-mul-r : tie.Need-mul-r Inv-loop μ-loop
-mul-r c = omega (arith, bit-mul (c .get32 .result / 2 ^ 31) (c .before .before .before .before .loop .bit) (small c))
-
-add-r : tie.Need-add-r Inv-loop μ-loop
-add-r c = omega (arith, bit-mul (c .get32 .result / 2 ^ 31) (c .before .before .before .before .loop .bit) (small c))
-
-up : (i : ℕ) → i < 4 → i + 1 ≤ 4
-up i h = omega arith
-
-loop-again : tie.Need-loop-again Inv-loop μ-loop
-loop-again c =
-    let l = c .before .before .before .before .loop in let v = c .before .before .before .before .before .args .t1 .bytes in let e = double (l .i) (l .bit) (l .inv .1) in (
-      omega arith,
-      e,
-      omega (arith, e, pow-mono (up (l .i) (c .before .before .before .loop-test .taken))),
-      omega (arith, bit-mul (c .get32 .result / 2 ^ 31) (l .bit) (small c)),
-      tally-more (l .i) (λ n. ltZ (value S w32 (lane w32 v n)) (pos 0)) (l .r) (l .bit) (c .get32 .result / 2 ^ 31) (l .inv .4) (l .inv .1)
-          (ap (λ (x : ℕ). x / 2 ^ 31) (c .get32 .ensures) ∙ sign-bit w32 (lane w32 v (l .i)) (lane-lt w32 v (l .i))),
-    )
-
-returns : tie.Need-returns Inv-loop μ-loop
+returns : tie.Need-returns
 returns c =
-    let l = c .before .loop in let v = c .before .before .args .t1 .bytes in
-    subst (λ j. l .r ≡ tally j (λ n. ltZ (value S w32 (lane w32 v n)) (pos 0))) (le-antisymm (l .inv .0) (c .loop-test .left)) (l .inv .4)
+    let low = c .before .before .before .before in
+    both-words w32 (low .before .before .before .before .args .t1 .bytes) refl (low .signs32 .ensures) (low .before .get64 .ensures) (c .signs322 .ensures) (c .before .get642 .ensures)
 
 pub bitmask32-spec : {M : Type 1} → statement M
 bitmask32-spec =
-    tie.close
-    (tie.spec Inv-loop μ-loop loop-holds (λ c κs. search needs) mul-r add-r (λ c. omega arith) (λ c. omega arith) (λ c. omega arith)
-    loop-again returns)
+    tie.close (tie.spec (λ c κs. search needs) (λ c κs. search needs) (λ c κs. search needs) (λ c κs. search needs) mul-result add-result returns)

@@ -1,0 +1,146 @@
+-- The signs of all lanes: by words, and those of a word by one product.
+use mathlib.Core.Path.{_≡_, refl, sym, ap, ap₂, _∙_, subst}
+use mathlib.Core.Bool.{Bool, true, false}
+use mathlib.Core.List.{List}
+use Prim.Native.Nat.{ℕ, zero, suc, _+_, _*_, _/_, _%_, _^_, _≤_, _<_}
+use native.Mathlib.Nat.{add-zero, add-assoc, add-suc, add-comm, zero-add, mul-comm, mul-assoc, mul-add, mul-one, mul-zero, div-one, mod-lt, mod-eq-of-lt, pow-suc, div-lt-iff-lt-mul, le-of-suc-le-suc, not-suc-le-zero, zero-lt-suc}
+use native.Mathlib.Omega.{arith}
+use lib.Bits.{bitAnd, and-zero-r, and-block, and-mask}
+use lib.Dec.{eqb, lit<}
+use lib.IntN.{pos}
+use lib.Signed.{ltZ}
+use lib.Pow.{pow-pos, pow-add, split, high, low}
+use borrow.Author.Tests.{eqb-true}
+use mir.Syntax.{Width, w8, w16, w32, w64}
+use mir.Val.{bits, hbits, toZ}
+use mir.ValLaws.{pow-bits}
+use Rattle.scalar.specs.Scalar.{S, value}
+use Rattle.operation.specs.Shape.{lanes}
+use Rattle.operation.specs.Vector.{lane}
+use Rattle.operation.specs.Op.{Bitmask, truth, all, tally, test}
+use Rattle.lane.specs.Inner.Words.{fieldwise, signs}
+use Rattle.lane.proofs.Laws.Number.{fieldOf, field-lt}
+use Rattle.lane.proofs.Laws.Scan.{all-each, sign-bit, bit-mul}
+use Rattle.lane.proofs.Laws.Words.{field-next, field-none, word-lane}
+
+-- ---- tallies
+
+pub tally-same : (n : ℕ) (P Q : ℕ → Bool) → ((k : ℕ) → k < n → P k ≡ Q k) → tally n P ≡ tally n Q
+tally-same zero P Q e = refl
+tally-same (suc n) P Q e = ap₂ (λ (a : ℕ) (b : Bool). a + truth b * 2 ^ n) (tally-same n P Q (λ k l. e k (omega arith))) (e n (omega arith))
+
+truth-lt : (b : Bool) → truth b < 2 ^ 1
+truth-lt true = lit< tt
+truth-lt false = lit< tt
+
+pub tally-lt : (n : ℕ) (P : ℕ → Bool) → tally n P < 2 ^ n
+tally-lt zero P = zero-lt-suc 0
+tally-lt (suc n) P = omega (arith, bit-mul (truth (P n)) (2 ^ n) (le-of-suc-le-suc (truth-lt (P n))), pow-suc 2 n, tally-lt n P)
+
+-- of the first m, then of the next n
+pub tally-parts : (m n : ℕ) (P : ℕ → Bool) → tally (m + n) P ≡ tally m P + 2 ^ m * tally n (λ k. P (m + k))
+tally-parts m zero P = ap (λ (j : ℕ). tally j P) (add-zero m) ∙ omega (arith, mul-zero (2 ^ m))
+tally-parts m (suc n) P =
+    let t : ℕ = truth (P (m + n)) in
+    ap (λ (j : ℕ). tally j P) (add-suc m n) ∙ ap₂ (λ (a b : ℕ). a + t * b) (tally-parts m n P) (pow-add 2 m n)
+    ∙ omega (arith, mul-add (2 ^ m) (tally n (λ k. P (m + k))) (t * 2 ^ n), mul-assoc (2 ^ m) t (2 ^ n), mul-assoc t (2 ^ m) (2 ^ n), ap (λ (j : ℕ). j * 2 ^ n) (mul-comm t (2 ^ m)))
+
+-- the first is the lowest bit
+tally-low : (n : ℕ) (P : ℕ → Bool) → tally (suc n) P ≡ tally n (λ k. P (suc k)) * 2 ^ 1 + truth (P 0)
+tally-low zero P = omega arith
+tally-low (suc n) P = ap (λ (a : ℕ). a + truth (P (suc n)) * 2 ^ suc n) (tally-low n P) ∙ omega (arith, ap (λ (j : ℕ). truth (P (suc n)) * j) (pow-suc 2 n), mul-assoc (truth (P (suc n))) (2 ^ n) 2)
+
+-- ---- a vector's signs are those of its two words
+
+-- of lane n of a word
+abbrev sign-at : Width → ℕ → ℕ → Bool
+sign-at w x n = ltZ (toZ w (fieldOf (bits w) x n)) (pos 0)
+
+-- over every width of which two words hold all lanes
+pub by-words : (w : Width) (v : List ℕ) → 64 / bits w + 64 / bits w ≡ lanes w
+    → test (Bitmask w) v ≡ signs w (lane w64 v 0) + 2 ^ (64 / bits w) * signs w (lane w64 v 1)
+unfolding signs
+by-words w v e =
+    ap (λ (j : ℕ). tally j P) (sym e) ∙ tally-parts k k P
+    ∙ ap₂ (λ (a b : ℕ). a + 2 ^ k * b)
+        (tally-same k P (sign-at w (lane w64 v 0)) (λ n l. ap sign (at 0 n l (omega arith))))
+        (tally-same k (λ n. P (k + n)) (sign-at w (lane w64 v 1)) (λ n l. ap sign (at 1 n l (omega arith))))
+  where
+    k : ℕ
+    k = 64 / bits w
+
+    sign : ℕ → Bool
+    sign x = ltZ (toZ w x) (pos 0)
+
+    P : ℕ → Bool
+    P n = sign (lane w v n)
+
+    at : (c n : ℕ) {i : ℕ} → n < k → i ≡ k * c + n → lane w v i ≡ fieldOf (bits w) (lane w64 v c) n
+    at c n l p = ap (lane w v) p ∙ sym (word-lane w v c n l)
+
+pub signs-lt : (w : Width) (x : ℕ) → signs w x < 2 ^ (64 / bits w)
+unfolding signs
+signs-lt w x = tally-lt (64 / bits w) (sign-at w x)
+
+-- as a function has them: s and s′, the signs of the words x and x′
+pub both-words : (w : Width) (v : List ℕ) {s s′ x x′ : ℕ} → 64 / bits w + 64 / bits w ≡ lanes w → s ≡ signs w x → x ≡ lane w64 v 0 → s′ ≡ signs w x′ → x′ ≡ lane w64 v 1
+    → s + 2 ^ (64 / bits w) * s′ ≡ test (Bitmask w) v
+both-words w v e p q p′ q′ = ap₂ (λ (a b : ℕ). a + 2 ^ (64 / bits w) * b) (p ∙ ap (signs w) q) (p′ ∙ ap (signs w) q′) ∙ sym (by-words w v e)
+
+-- ---- a word's signs by one product
+
+-- the n bits of t, each at the top of a lane
+abbrev scattered : Width → ℕ → ℕ → ℕ
+scattered w zero t = 0
+scattered w (suc n) t = scattered w n (t / 2 ^ 1) * 2 ^ bits w + t % 2 ^ 1 * 2 ^ hbits w
+
+-- the top bit alone
+and-top : (w : Width) (r : ℕ) → r < 2 ^ bits w → bitAnd r (2 ^ hbits w) ≡ r / 2 ^ hbits w * 2 ^ hbits w
+and-top w r l =
+    ap₂ bitAnd (sym (split r (hbits w))) one
+    ∙ and-block (hbits w) (r / 2 ^ hbits w) 1 (r % 2 ^ hbits w) 0 (mod-lt r (pow-pos (hbits w))) (pow-pos (hbits w))
+    ∙ ap₂ (λ (a b : ℕ). a * 2 ^ hbits w + b) (and-mask (r / 2 ^ hbits w) 1 ∙ mod-eq-of-lt top) (and-zero-r (r % 2 ^ hbits w))
+    ∙ add-zero (r / 2 ^ hbits w * 2 ^ hbits w)
+  where
+    one : 2 ^ hbits w ≡ 1 * 2 ^ hbits w + 0
+    one = omega arith
+
+    top : r / 2 ^ hbits w < 2 ^ 1
+    top = div-lt-iff-lt-mul (pow-pos (hbits w)) .1 (omega (arith, pow-bits w))
+
+-- a mask of the lanes' top bits leaves their signs, each at its top
+tops : (w : Width) (n x z : ℕ) → bitAnd x (fieldwise (bits w) n (λ r. 2 ^ hbits w) z) ≡ scattered w n (tally n (sign-at w x))
+unfolding fieldwise
+tops w zero x z = and-zero-r x
+tops w (suc n) x z =
+    let p : ℕ = 2 ^ bits w in let m : ℕ = fieldwise (bits w) n (λ r. 2 ^ hbits w) (z / p) in
+    ap (λ (y : ℕ). bitAnd y (m * p + 2 ^ hbits w)) (sym (split x (bits w)))
+    ∙ and-block (bits w) (x / p) m (x % p) (2 ^ hbits w) (mod-lt x (pow-pos (bits w))) half
+    ∙ ap₂ (λ (a b : ℕ). a * p + b)
+        (tops w n (x / p) (z / p) ∙ ap (scattered w n) (tally-same n (sign-at w (x / p)) (λ k. sign-at w x (suc k)) (λ k l. ap sign (field-next (bits w) x k)) ∙ sym up))
+        (and-top w (x % p) (mod-lt x (pow-pos (bits w))) ∙ ap (λ (a : ℕ). a * 2 ^ hbits w) (sign-bit w (x % p) (mod-lt x (pow-pos (bits w))) ∙ ap truth (ap sign (sym (field-none (bits w) x))) ∙ sym down))
+  where
+    sign : ℕ → Bool
+    sign y = ltZ (toZ w y) (pos 0)
+
+    half : 2 ^ hbits w < 2 ^ bits w
+    half = omega (arith, pow-bits w, pow-pos (hbits w))
+
+    bit : truth (sign-at w x 0) < 2 ^ 1
+    bit = truth-lt (sign-at w x 0)
+
+    up : tally (suc n) (sign-at w x) / 2 ^ 1 ≡ tally n (λ k. sign-at w x (suc k))
+    up = ap (λ (y : ℕ). y / 2 ^ 1) (tally-low n (sign-at w x)) ∙ high (tally n (λ k. sign-at w x (suc k))) 1 bit
+
+    down : tally (suc n) (sign-at w x) % 2 ^ 1 ≡ truth (sign-at w x 0)
+    down = ap (λ (y : ℕ). y % 2 ^ 1) (tally-low n (sign-at w x)) ∙ low (tally n (λ k. sign-at w x (suc k))) 1 bit
+
+-- a product that brings the n bits of every t together brings together the signs of every word
+pub gathered : (w : Width) (n spread rest : ℕ) → all (2 ^ n) (λ t. eqb (scattered w n t * spread % 2 ^ 64 / 2 ^ rest) t) ≡ true
+    → (x z : ℕ) → bitAnd x (fieldwise (bits w) n (λ r. 2 ^ hbits w) z) * spread % 2 ^ 64 / 2 ^ rest ≡ tally n (sign-at w x)
+gathered w n spread rest e x z =
+    ap (λ (y : ℕ). y * spread % 2 ^ 64 / 2 ^ rest) (tops w n x z)
+    ∙ eqb-true (scattered w n t * spread % 2 ^ 64 / 2 ^ rest) t (all-each (2 ^ n) t (λ i. eqb (scattered w n i * spread % 2 ^ 64 / 2 ^ rest) i) e (tally-lt n (sign-at w x)))
+  where
+    t : ℕ
+    t = tally n (sign-at w x)
