@@ -1,7 +1,7 @@
-// Arithmetic modulo 2^w, and the count of a byte's ones.
+// Arithmetic modulo 2^w.
 ghost use mathlib.Core.Path.{_≡_};
 ghost use mir.Syntax.{w8, w16, w32, w64};
-ghost use Rattle.scalar.specs.Scalar.{iadd, isub, imul, ineg, iabs, ipopcnt};
+ghost use Rattle.scalar.specs.Scalar.{iadd, isub, imul, ineg, iabs};
 use crate::shape::I8x16;
 use crate::shape::I16x8;
 use crate::shape::I32x4;
@@ -137,10 +137,4 @@ pub fn abs64(x: u64) -> u64
     ensures { λ r. ⌜ r ≡ iabs w64 x ⌝ }
 {
     if signed64(x) < 0 { neg64(x) } else { x }
-}
-
-pub fn popcnt8(x: u8) -> u8
-    ensures { λ r. ⌜ r ≡ ipopcnt x ⌝ }
-{
-    u8::count_ones(x) as u8
 }

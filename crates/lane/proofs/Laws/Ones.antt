@@ -1,18 +1,18 @@
 -- The ones of every byte of a word at once.
-use mathlib.Core.Path.{_≡_, refl, sym, ap, ap₂, _∙_, subst}
+use mathlib.Core.Path.{_≡_, refl, sym, ap, ap₂, _∙_}
 use mathlib.Core.Bool.{true}
 use Prim.Native.Nat.{ℕ, zero, suc, _+_, _*_, _-_, _/_, _%_, _^_, _≤_, _<_}
 use native.Mathlib.Nat.{le-trans, lt-of-le-of-lt, sub-le, mod-lt, div-one}
 use native.Mathlib.Omega.{arith}
-use lib.Bits.{bitAnd, and-le-r, and-le-l, and-mask, and-block, and-zero-r}
+use lib.Bits.{bitAnd, and-le-l, and-mask, and-block}
 use lib.Count.{ones}
 use lib.Dec.{eqb, leb, lit<}
-use lib.Pow.{pow-pos, high, low, split, shr-le}
+use lib.Pow.{pow-pos, shr-le}
 use borrow.Author.Tests.{eqb-true, leb-true}
 use Rattle.operation.specs.Op.{all}
 use Rattle.lane.specs.Inner.Words.{fieldwise}
 use Rattle.lane.proofs.Laws.Scan.{all-each}
-use Rattle.lane.proofs.Laws.Words.{fieldwise-same, fieldwise-self, fieldwise-add, fieldwise-sub, fieldwise-twice, masked}
+use Rattle.lane.proofs.Laws.Words.{fieldwise-same, fieldwise-self, fieldwise-add, fieldwise-sub, Stays, fieldwise-twice, masked}
 
 -- ---- one byte: the ones of each two bits, of each four, of all eight
 
@@ -57,13 +57,16 @@ twos-all x h =
     ap₂ (λ (a b : ℕ). a - b) (sym (fieldwise-self 8 8 x h)) (masked 7 1 8 0x55 x 0 (lit< tt))
     ∙ fieldwise-sub 8 8 (λ r. r) (λ r. bitAnd (r / 2 ^ 1) 0x55) x (λ r. le-trans (and-le-l (r / 2 ^ 1) 0x55) (shr-le r 1))
 
+twos-stay : Stays 8 twos
+twos-stay r l = lt-of-le-of-lt (sub-le r (bitAnd (r / 2 ^ 1) 0x55)) l
+
 fours-all : (y : ℕ) → bitAnd y 0x3333_3333_3333_3333 + bitAnd (y / 2 ^ 2) 0x3333_3333_3333_3333 ≡ fieldwise 8 8 fours y
 unfolding fieldwise
 fours-all y =
     ap₂ (λ (a b : ℕ). a + b)
-        (ap (λ (z : ℕ). bitAnd z 0x3333_3333_3333_3333) (sym (div-one y)) ∙ masked 8 0 8 0x33 y 0 (lit< tt)
-        ∙ fieldwise-same 8 8 (λ r. bitAnd (r / 2 ^ 0) 0x33) (λ r. bitAnd r 0x33) y (λ r l. ap (λ (z : ℕ). bitAnd z 0x33) (div-one r)))
-        (masked 6 2 8 0x33 y 0 (lit< tt))
+    (ap (λ (z : ℕ). bitAnd z 0x3333_3333_3333_3333) (sym (div-one y)) ∙ masked 8 0 8 0x33 y 0 (lit< tt)
+    ∙ fieldwise-same 8 8 (λ r. bitAnd (r / 2 ^ 0) 0x33) (λ r. bitAnd r 0x33) y (λ r l. ap (λ (z : ℕ). bitAnd z 0x33) (div-one r)))
+    (masked 6 2 8 0x33 y 0 (lit< tt))
     ∙ fieldwise-add 8 8 (λ r. bitAnd r 0x33) (λ r. bitAnd (r / 2 ^ 2) 0x33) y
 
 -- neither sum leaves its four bits, and what comes from the next byte is masked away
@@ -90,11 +93,13 @@ eights-all (suc m) f x z h =
     ∙ and-block 8 (a + a / 2 ^ 4) (fieldwise 8 m (λ r. 0x0F) (z / 2 ^ 8)) n 0x0F b (lit< tt)
     ∙ ap₂ (λ (p q : ℕ). p * 2 ^ 8 + q) (eights-all m f (x / 2 ^ 8) (z / 2 ^ 8) h) (and-mask n 4 ∙ c)
 
-pub ones-word : (x : ℕ) (t f : ℕ) → x < 2 ^ 64 → t ≡ x - bitAnd (x / 2 ^ 1) 0x5555_5555_5555_5555
-    → f ≡ bitAnd t 0x3333_3333_3333_3333 + bitAnd (t / 2 ^ 2) 0x3333_3333_3333_3333 → bitAnd (f + f / 2 ^ 4) 0x0F0F_0F0F_0F0F_0F0F ≡ fieldwise 8 8 ones x
+-- t and f as a function has them
+pub ones-word : (x t f : ℕ) → x < 2 ^ 64 → t ≡ x - bitAnd (x / 2 ^ 1) 0x5555_5555_5555_5555
+    → f ≡ bitAnd t 0x3333_3333_3333_3333 + bitAnd (t / 2 ^ 2) 0x3333_3333_3333_3333
+    → bitAnd (f + f / 2 ^ 4) 0x0F0F_0F0F_0F0F_0F0F ≡ fieldwise 8 8 ones x
 unfolding fieldwise
 ones-word x t f h e g =
     ap (λ (y : ℕ). bitAnd (y + y / 2 ^ 4) 0x0F0F_0F0F_0F0F_0F0F)
-        (g ∙ fours-all t ∙ ap (fieldwise 8 8 fours) (e ∙ twos-all x h) ∙ fieldwise-twice 8 8 twos fours x (λ r l. lt-of-le-of-lt (sub-le r (bitAnd (r / 2 ^ 1) 0x55)) l))
+    (g ∙ fours-all t ∙ ap (fieldwise 8 8 fours) (e ∙ twos-all x h) ∙ fieldwise-twice 8 8 twos fours x twos-stay)
     ∙ eights-all 8 (λ r. fours (twos r)) x 0 byte-small
     ∙ fieldwise-same 8 8 (λ r. eights (fours (twos r))) ones x byte-ones

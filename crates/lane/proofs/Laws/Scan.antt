@@ -3,7 +3,7 @@ use mathlib.Core.Path.{_≡_, refl, sym, ap, ap₂, _∙_, subst}
 use mathlib.Core.Bool.{Bool, true, false, cond, _&&_}
 use mathlib.Core.Logic.{_⊎_, inl, inr}
 use Prim.Native.Nat.{ℕ, zero, suc, _+_, _*_, _-_, _/_, _^_, _≤_, _<_, zero-le}
-use native.Mathlib.Nat.{eq-or-lt-of-le, le-of-suc-le-suc, not-suc-le-zero, mul-le-mul-right, one-mul, pow-suc, div-eq-of-lt}
+use native.Mathlib.Nat.{eq-or-lt-of-le, le-of-suc-le-suc, not-suc-le-zero, zero-lt-suc, add-zero, add-suc, mul-zero, mul-add, mul-comm, mul-assoc, mul-le-mul-right, one-mul, pow-suc, div-eq-of-lt}
 use native.Mathlib.Numerals.{add-one}
 use native.Mathlib.Omega.{arith}
 use lib.Arith.{digits-div}
@@ -11,6 +11,7 @@ use lib.Dec.{ltb}
 use borrow.Author.Tests.{ltb-true, ltb-false, le-ltb}
 use lib.IntN.{ℤ, pos}
 use lib.Signed.{ltZ}
+use lib.Pow.{pow-add}
 use mir.Syntax.{Width}
 use mir.Val.{bits, hbits, toZ}
 use mir.ValLaws.{pow-bits, toZ-pos}
@@ -61,11 +62,40 @@ sign-bit w x f = at (ltb x (2 ^ hbits w)) refl
         rest : 2 ^ hbits w ≤ x → x - 2 ^ hbits w < 2 ^ hbits w
         rest h = omega (arith, pow-bits w)
 
-pub tally-more : (n : ℕ) (P : ℕ → Bool) (r p x : ℕ) → r ≡ tally n P → p ≡ 2 ^ n → x ≡ truth (P n) → r + x * p ≡ tally (n + 1) P
-tally-more n P r p x e f k = ap₂ (λ (a b : ℕ). a + x * b) e f ∙ ap (λ (j : ℕ). tally n P + j * 2 ^ n) k ∙ ap (λ (j : ℕ). tally j P) (sym (add-one n))
+-- ---- tallies
 
-pub bit-mul : (b p : ℕ) → b ≤ 1 → b * p ≤ p
+bit-mul : (b p : ℕ) → b ≤ 1 → b * p ≤ p
 bit-mul b p h = subst (λ (j : ℕ). b * p ≤ j) (one-mul p) (mul-le-mul-right p h)
 
-pub double : (n p : ℕ) → p ≡ 2 ^ n → p * 2 ≡ 2 ^ (n + 1)
-double n p e = ap (λ (j : ℕ). j * 2) e ∙ sym (pow-suc 2 n) ∙ ap (λ (j : ℕ). 2 ^ j) (sym (add-one n))
+pub truth-le : (b : Bool) → truth b ≤ 1
+truth-le true = omega arith
+truth-le false = omega arith
+
+pub tally-lt : (n : ℕ) (P : ℕ → Bool) → tally n P < 2 ^ n
+tally-lt zero P = zero-lt-suc 0
+tally-lt (suc n) P = omega (arith, bit-mul (truth (P n)) (2 ^ n) (truth-le (P n)), pow-suc 2 n, tally-lt n P)
+
+pub tally-same : (n : ℕ) (P Q : ℕ → Bool) → ((k : ℕ) → k < n → P k ≡ Q k) → tally n P ≡ tally n Q
+tally-same zero P Q e = refl
+tally-same (suc n) P Q e = ap₂ (λ (a : ℕ) (b : Bool). a + truth b * 2 ^ n) (tally-same n P Q (λ k l. e k (omega arith))) (e n (omega arith))
+
+-- of the first m, then of the next n
+pub tally-parts : (m n : ℕ) (P : ℕ → Bool) → tally (m + n) P ≡ tally m P + 2 ^ m * tally n (λ k. P (m + k))
+tally-parts m zero P = ap (λ (j : ℕ). tally j P) (add-zero m) ∙ omega (arith, mul-zero (2 ^ m))
+tally-parts m (suc n) P =
+    let t : ℕ = truth (P (m + n)) in
+    ap (λ (j : ℕ). tally j P) (add-suc m n) ∙ ap₂ (λ (a b : ℕ). a + t * b) (tally-parts m n P) (pow-add 2 m n)
+    ∙ omega (
+      arith,
+      mul-add (2 ^ m) (tally n (λ k. P (m + k))) (t * 2 ^ n),
+      mul-assoc (2 ^ m) t (2 ^ n),
+      mul-assoc t (2 ^ m) (2 ^ n),
+      ap (λ (j : ℕ). j * 2 ^ n) (mul-comm t (2 ^ m)),
+    )
+
+-- the first is the lowest bit
+pub tally-low : (n : ℕ) (P : ℕ → Bool) → tally (suc n) P ≡ tally n (λ k. P (suc k)) * 2 + truth (P 0)
+tally-low zero P = omega arith
+tally-low (suc n) P =
+    ap (λ (a : ℕ). a + truth (P (suc n)) * 2 ^ suc n) (tally-low n P)
+    ∙ omega (arith, ap (λ (j : ℕ). truth (P (suc n)) * j) (pow-suc 2 n), mul-assoc (truth (P (suc n))) (2 ^ n) 2)

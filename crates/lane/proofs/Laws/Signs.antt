@@ -1,54 +1,26 @@
 -- The signs of all lanes: by words, and those of a word by one product.
-use mathlib.Core.Path.{_≡_, refl, sym, ap, ap₂, _∙_, subst}
-use mathlib.Core.Bool.{Bool, true, false}
+use mathlib.Core.Path.{_≡_, sym, ap, ap₂, _∙_}
+use mathlib.Core.Bool.{Bool, true}
 use mathlib.Core.List.{List}
-use Prim.Native.Nat.{ℕ, zero, suc, _+_, _*_, _/_, _%_, _^_, _≤_, _<_}
-use native.Mathlib.Nat.{add-zero, add-assoc, add-suc, add-comm, zero-add, mul-comm, mul-assoc, mul-add, mul-one, mul-zero, div-one, mod-lt, mod-eq-of-lt, pow-suc, div-lt-iff-lt-mul, le-of-suc-le-suc, not-suc-le-zero, zero-lt-suc}
+use Prim.Native.Nat.{ℕ, zero, suc, _+_, _*_, _/_, _%_, _^_, _<_, suc-le-suc}
+use native.Mathlib.Nat.{add-zero, mod-lt, mod-eq-of-lt, div-lt-iff-lt-mul}
 use native.Mathlib.Omega.{arith}
 use lib.Bits.{bitAnd, and-zero-r, and-block, and-mask}
-use lib.Dec.{eqb, lit<}
+use lib.Dec.{eqb}
 use lib.IntN.{pos}
 use lib.Signed.{ltZ}
-use lib.Pow.{pow-pos, pow-add, split, high, low}
+use lib.Pow.{pow-pos, split, high, low}
 use borrow.Author.Tests.{eqb-true}
-use mir.Syntax.{Width, w8, w16, w32, w64}
+use mir.Syntax.{Width, w64}
 use mir.Val.{bits, hbits, toZ}
 use mir.ValLaws.{pow-bits}
-use Rattle.scalar.specs.Scalar.{S, value}
 use Rattle.operation.specs.Shape.{lanes}
 use Rattle.operation.specs.Vector.{lane}
 use Rattle.operation.specs.Op.{Bitmask, truth, all, tally, test}
 use Rattle.lane.specs.Inner.Words.{fieldwise, signs}
-use Rattle.lane.proofs.Laws.Number.{fieldOf, field-lt}
-use Rattle.lane.proofs.Laws.Scan.{all-each, sign-bit, bit-mul}
+use Rattle.lane.proofs.Laws.Number.{fieldOf}
+use Rattle.lane.proofs.Laws.Scan.{all-each, sign-bit, truth-le, tally-lt, tally-same, tally-parts, tally-low}
 use Rattle.lane.proofs.Laws.Words.{field-next, field-none, word-lane}
-
--- ---- tallies
-
-pub tally-same : (n : ℕ) (P Q : ℕ → Bool) → ((k : ℕ) → k < n → P k ≡ Q k) → tally n P ≡ tally n Q
-tally-same zero P Q e = refl
-tally-same (suc n) P Q e = ap₂ (λ (a : ℕ) (b : Bool). a + truth b * 2 ^ n) (tally-same n P Q (λ k l. e k (omega arith))) (e n (omega arith))
-
-truth-lt : (b : Bool) → truth b < 2 ^ 1
-truth-lt true = lit< tt
-truth-lt false = lit< tt
-
-pub tally-lt : (n : ℕ) (P : ℕ → Bool) → tally n P < 2 ^ n
-tally-lt zero P = zero-lt-suc 0
-tally-lt (suc n) P = omega (arith, bit-mul (truth (P n)) (2 ^ n) (le-of-suc-le-suc (truth-lt (P n))), pow-suc 2 n, tally-lt n P)
-
--- of the first m, then of the next n
-pub tally-parts : (m n : ℕ) (P : ℕ → Bool) → tally (m + n) P ≡ tally m P + 2 ^ m * tally n (λ k. P (m + k))
-tally-parts m zero P = ap (λ (j : ℕ). tally j P) (add-zero m) ∙ omega (arith, mul-zero (2 ^ m))
-tally-parts m (suc n) P =
-    let t : ℕ = truth (P (m + n)) in
-    ap (λ (j : ℕ). tally j P) (add-suc m n) ∙ ap₂ (λ (a b : ℕ). a + t * b) (tally-parts m n P) (pow-add 2 m n)
-    ∙ omega (arith, mul-add (2 ^ m) (tally n (λ k. P (m + k))) (t * 2 ^ n), mul-assoc (2 ^ m) t (2 ^ n), mul-assoc t (2 ^ m) (2 ^ n), ap (λ (j : ℕ). j * 2 ^ n) (mul-comm t (2 ^ m)))
-
--- the first is the lowest bit
-tally-low : (n : ℕ) (P : ℕ → Bool) → tally (suc n) P ≡ tally n (λ k. P (suc k)) * 2 ^ 1 + truth (P 0)
-tally-low zero P = omega arith
-tally-low (suc n) P = ap (λ (a : ℕ). a + truth (P (suc n)) * 2 ^ suc n) (tally-low n P) ∙ omega (arith, ap (λ (j : ℕ). truth (P (suc n)) * j) (pow-suc 2 n), mul-assoc (truth (P (suc n))) (2 ^ n) 2)
 
 -- ---- a vector's signs are those of its two words
 
@@ -63,8 +35,8 @@ unfolding signs
 by-words w v e =
     ap (λ (j : ℕ). tally j P) (sym e) ∙ tally-parts k k P
     ∙ ap₂ (λ (a b : ℕ). a + 2 ^ k * b)
-        (tally-same k P (sign-at w (lane w64 v 0)) (λ n l. ap sign (at 0 n l (omega arith))))
-        (tally-same k (λ n. P (k + n)) (sign-at w (lane w64 v 1)) (λ n l. ap sign (at 1 n l (omega arith))))
+    (tally-same k P (sign-at w (lane w64 v 0)) (λ n l. ap sign (at 0 n l (omega arith))))
+    (tally-same k (λ n. P (k + n)) (sign-at w (lane w64 v 1)) (λ n l. ap sign (at 1 n l (omega arith))))
   where
     k : ℕ
     k = 64 / bits w
@@ -83,9 +55,10 @@ unfolding signs
 signs-lt w x = tally-lt (64 / bits w) (sign-at w x)
 
 -- as a function has them: s and s′, the signs of the words x and x′
-pub both-words : (w : Width) (v : List ℕ) {s s′ x x′ : ℕ} → 64 / bits w + 64 / bits w ≡ lanes w → s ≡ signs w x → x ≡ lane w64 v 0 → s′ ≡ signs w x′ → x′ ≡ lane w64 v 1
-    → s + 2 ^ (64 / bits w) * s′ ≡ test (Bitmask w) v
-both-words w v e p q p′ q′ = ap₂ (λ (a b : ℕ). a + 2 ^ (64 / bits w) * b) (p ∙ ap (signs w) q) (p′ ∙ ap (signs w) q′) ∙ sym (by-words w v e)
+pub both-words : (w : Width) (v : List ℕ) {s s′ x x′ : ℕ} → 64 / bits w + 64 / bits w ≡ lanes w
+    → s ≡ signs w x → x ≡ lane w64 v 0 → s′ ≡ signs w x′ → x′ ≡ lane w64 v 1 → s + 2 ^ (64 / bits w) * s′ ≡ test (Bitmask w) v
+both-words w v e p q p′ q′ =
+    ap₂ (λ (a b : ℕ). a + 2 ^ (64 / bits w) * b) (p ∙ ap (signs w) q) (p′ ∙ ap (signs w) q′) ∙ sym (by-words w v e)
 
 -- ---- a word's signs by one product
 
@@ -116,18 +89,23 @@ tops w (suc n) x z =
     let p : ℕ = 2 ^ bits w in let m : ℕ = fieldwise (bits w) n (λ r. 2 ^ hbits w) (z / p) in
     ap (λ (y : ℕ). bitAnd y (m * p + 2 ^ hbits w)) (sym (split x (bits w)))
     ∙ and-block (bits w) (x / p) m (x % p) (2 ^ hbits w) (mod-lt x (pow-pos (bits w))) half
-    ∙ ap₂ (λ (a b : ℕ). a * p + b)
-        (tops w n (x / p) (z / p) ∙ ap (scattered w n) (tally-same n (sign-at w (x / p)) (λ k. sign-at w x (suc k)) (λ k l. ap sign (field-next (bits w) x k)) ∙ sym up))
-        (and-top w (x % p) (mod-lt x (pow-pos (bits w))) ∙ ap (λ (a : ℕ). a * 2 ^ hbits w) (sign-bit w (x % p) (mod-lt x (pow-pos (bits w))) ∙ ap truth (ap sign (sym (field-none (bits w) x))) ∙ sym down))
+    ∙ ap₂ (λ (a b : ℕ). a * p + b) (tops w n (x / p) (z / p) ∙ ap (scattered w n) (above ∙ sym up))
+    (and-top w (x % p) (mod-lt x (pow-pos (bits w))) ∙ ap (λ (a : ℕ). a * 2 ^ hbits w) (lowest ∙ sym down))
   where
     sign : ℕ → Bool
     sign y = ltZ (toZ w y) (pos 0)
+
+    above : tally n (sign-at w (x / 2 ^ bits w)) ≡ tally n (λ k. sign-at w x (suc k))
+    above = tally-same n (sign-at w (x / 2 ^ bits w)) (λ k. sign-at w x (suc k)) (λ k l. ap sign (field-next (bits w) x k))
+
+    lowest : x % 2 ^ bits w / 2 ^ hbits w ≡ truth (sign-at w x 0)
+    lowest = sign-bit w (x % 2 ^ bits w) (mod-lt x (pow-pos (bits w))) ∙ ap truth (ap sign (sym (field-none (bits w) x)))
 
     half : 2 ^ hbits w < 2 ^ bits w
     half = omega (arith, pow-bits w, pow-pos (hbits w))
 
     bit : truth (sign-at w x 0) < 2 ^ 1
-    bit = truth-lt (sign-at w x 0)
+    bit = suc-le-suc (truth-le (sign-at w x 0))
 
     up : tally (suc n) (sign-at w x) / 2 ^ 1 ≡ tally n (λ k. sign-at w x (suc k))
     up = ap (λ (y : ℕ). y / 2 ^ 1) (tally-low n (sign-at w x)) ∙ high (tally n (λ k. sign-at w x (suc k))) 1 bit
@@ -140,7 +118,10 @@ pub gathered : (w : Width) (n spread rest : ℕ) → all (2 ^ n) (λ t. eqb (sca
     → (x z : ℕ) → bitAnd x (fieldwise (bits w) n (λ r. 2 ^ hbits w) z) * spread % 2 ^ 64 / 2 ^ rest ≡ tally n (sign-at w x)
 gathered w n spread rest e x z =
     ap (λ (y : ℕ). y * spread % 2 ^ 64 / 2 ^ rest) (tops w n x z)
-    ∙ eqb-true (scattered w n t * spread % 2 ^ 64 / 2 ^ rest) t (all-each (2 ^ n) t (λ i. eqb (scattered w n i * spread % 2 ^ 64 / 2 ^ rest) i) e (tally-lt n (sign-at w x)))
+    ∙ eqb-true (scattered w n t * spread % 2 ^ 64 / 2 ^ rest) t (all-each (2 ^ n) t back e (tally-lt n (sign-at w x)))
   where
     t : ℕ
     t = tally n (sign-at w x)
+
+    back : ℕ → Bool
+    back i = eqb (scattered w n i * spread % 2 ^ 64 / 2 ^ rest) i

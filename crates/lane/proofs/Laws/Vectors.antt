@@ -2,8 +2,8 @@
 use mathlib.Core.Path.{_≡_, refl, sym, ap, ap₂, _∙_, subst}
 use mathlib.Core.Bool.{Bool, true, false, not, _&&_}
 use mathlib.Core.List.{List}
-use Prim.Native.Nat.{ℕ, zero, suc, _+_, _*_, _-_, _/_, _%_, _^_, _≤_, _<_}
-use native.Mathlib.Nat.{zero-lt-suc, pow-suc, lt-of-lt-of-le}
+use Prim.Native.Nat.{ℕ, zero, suc, _+_, _*_, _-_, _/_, _%_, _^_, _<_}
+use native.Mathlib.Nat.{lt-of-lt-of-le}
 use native.Mathlib.Omega.{arith}
 use lib.Dec.{T, leb, leb→le, eqb, ltb}
 use borrow.Author.Tests.{lt-ltb}
@@ -14,13 +14,13 @@ use Rattle.scalar.specs.Scalar.{Sign, value, iextend}
 use Rattle.scalar.proofs.Laws.Integers.{wrap-lt}
 use Rattle.operation.specs.Shape.{lanes, i8x16}
 use Rattle.operation.specs.Vector.{number, le, lane, build, vec, Sixteen}
-use Rattle.operation.specs.Op.{Unop, Not, Abs, Neg, Popcnt, Extend, ExtaddPairwise, unary, Binop, And, Andnot, Or, Xor, Swizzle, Eq, Ne, Lt, Gt, Le, Ge, Add, Sub, Mul, AddSat, SubSat, Min, Max, AvgrU, Q15mulrSatS, DotS, Narrow, Extmul, binary, bitselect, Testop, AnyTrue, AllTrue, Bitmask, truth, all, tally, test, Shiftop, Shl, Shr, shift, splat, unpack, extracted, replaced, shuffled, Loadop, Whole, Widen, Repeat, ZeroPad, loaded, laneIn, laneOut}
+use Rattle.operation.specs.Op.{Unop, Not, Abs, Neg, Popcnt, Extend, ExtaddPairwise, unary, Binop, And, Andnot, Or, Xor, Swizzle, Eq, Ne, Lt, Gt, Le, Ge, Add, Sub, Mul, AddSat, SubSat, Min, Max, AvgrU, Q15mulrSatS, DotS, Narrow, Extmul, binary, bitselect, Testop, AnyTrue, AllTrue, Bitmask, truth, all, test, Shiftop, Shl, Shr, shift, splat, unpack, extracted, replaced, shuffled, Loadop, Whole, Widen, Repeat, ZeroPad, loaded, laneIn, laneOut}
 use Rattle.lane.specs.Answer.{scalarIf, vectorIf, shuffle}
 use Rattle.lane.specs.declared.answer.LaneAnswer.{LaneAnswer}
 use Rattle.lane.specs.declared.answer.VectorAnswer.{VectorAnswer}
 use Rattle.lane.proofs.Laws.Number.{Bytes, length-le, bytes-le, bytes-append, fieldOf}
 use Rattle.lane.proofs.Laws.Build.{length-build, field-build, in-lanes}
-use Rattle.lane.proofs.Laws.Scan.{bit-mul}
+use Rattle.lane.proofs.Laws.Scan.{tally-lt}
 
 -- ---- a vector and its lanes
 
@@ -126,17 +126,9 @@ sixteen-loaded (ZeroPad w) m h = sixteen-vec w _
 
 -- ---- scalars
 
-truth-le : (b : Bool) → truth b ≤ 1
-truth-le true = omega arith
-truth-le false = omega arith
-
 truth-lt : (b : Bool) → truth b < 2 ^ 32
 truth-lt true = omega arith
 truth-lt false = omega arith
-
-tally-lt : (n : ℕ) (P : ℕ → Bool) → tally n P < 2 ^ n
-tally-lt zero P = zero-lt-suc 0
-tally-lt (suc n) P = omega (arith, bit-mul (truth (P n)) (2 ^ n) (truth-le (P n)), pow-suc 2 n, tally-lt n P)
 
 few-lanes : (w : Width) → T (leb (lanes w) 32)
 few-lanes w8 = tt

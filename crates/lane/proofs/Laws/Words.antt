@@ -2,12 +2,12 @@
 use mathlib.Core.Path.{_≡_, refl, sym, ap, ap₂, _∙_, subst}
 use mathlib.Core.List.{List}
 use Prim.Native.Nat.{ℕ, zero, suc, _+_, _*_, _-_, _/_, _%_, _^_, _≤_, _<_}
-use native.Mathlib.Nat.{add-comm, add-assoc, mul-comm, mul-assoc, mul-add, add-mul, mul-suc, mul-zero, zero-mul, div-one, mod-one, mod-lt, mod-eq-of-lt, lt-of-le-of-lt, not-suc-le-zero, le-of-suc-le-suc, mul-le-mul-left, sub-add-cancel}
+use native.Mathlib.Nat.{add-comm, mul-comm, mul-assoc, mul-add, add-mul, mul-suc, mul-zero, zero-mul, div-one, mod-lt, mod-eq-of-lt, lt-of-le-of-lt, not-suc-le-zero, le-of-suc-le-suc, mul-le-mul-left, sub-add-cancel}
 use native.Mathlib.Omega.{arith}
 use lib.Arith.{lt-one}
 use lib.Dec.{lit<}
 use lib.Bits.{bitAnd, and-zero-r, and-block, and-mod, and-le-r}
-use lib.Pow.{pow-pos, pow-add, pow-mono, split, high, low, field, shr-shr, shr-lt, mod-mod-pow}
+use lib.Pow.{pow-pos, pow-mono, split, high, low, field, shr-shr, shr-lt, mod-mod-pow}
 use mir.Syntax.{Width, w8, w16, w32, w64}
 use mir.Val.{bits}
 use Rattle.operation.specs.Vector.{number, lane, build, Sixteen}
@@ -43,11 +43,14 @@ fieldwise-add k (suc m) f g x =
 pub fieldwise-sub : (k m : ℕ) (f g : ℕ → ℕ) (x : ℕ) → ((r : ℕ) → g r ≤ f r) → fieldwise k m f x - fieldwise k m g x ≡ fieldwise k m (λ r. f r - g r) x
 fieldwise-sub k m f g x h =
     let e : fieldwise k m (λ r. f r - g r) x + fieldwise k m g x ≡ fieldwise k m f x =
-      fieldwise-add k m (λ r. f r - g r) g x ∙ fieldwise-same k m (λ r. f r - g r + g r) f x (λ r l. sub-add-cancel (h r)) in
+    fieldwise-add k m (λ r. f r - g r) g x ∙ fieldwise-same k m (λ r. f r - g r + g r) f x (λ r l. sub-add-cancel (h r)) in
     omega arith
 
--- what f leaves in a field is all that g sees of it
-pub fieldwise-twice : (k m : ℕ) (f g : ℕ → ℕ) (x : ℕ) → ((r : ℕ) → r < 2 ^ k → f r < 2 ^ k) → fieldwise k m g (fieldwise k m f x) ≡ fieldwise k m (λ r. g (f r)) x
+-- what f makes of a field fits in it
+abbrev pub Stays : ℕ → (ℕ → ℕ) → Type 0
+Stays k f = (r : ℕ) → r < 2 ^ k → f r < 2 ^ k
+
+pub fieldwise-twice : (k m : ℕ) (f g : ℕ → ℕ) (x : ℕ) → Stays k f → fieldwise k m g (fieldwise k m f x) ≡ fieldwise k m (λ r. g (f r)) x
 unfolding fieldwise
 fieldwise-twice k zero f g x h = refl
 fieldwise-twice k (suc m) f g x h =
@@ -62,7 +65,7 @@ pub field-none : (k x : ℕ) → fieldOf k x 0 ≡ x % 2 ^ k
 field-none k x = ap (λ (j : ℕ). x / 2 ^ j % 2 ^ k) (mul-zero k) ∙ ap (λ (y : ℕ). y % 2 ^ k) (div-one x)
 
 -- field n is what f makes of field n
-pub fieldwise-at : (k m n : ℕ) (f : ℕ → ℕ) (x : ℕ) → ((r : ℕ) → r < 2 ^ k → f r < 2 ^ k) → n < m → fieldOf k (fieldwise k m f x) n ≡ f (fieldOf k x n)
+pub fieldwise-at : (k m n : ℕ) (f : ℕ → ℕ) (x : ℕ) → Stays k f → n < m → fieldOf k (fieldwise k m f x) n ≡ f (fieldOf k x n)
 unfolding fieldwise
 fieldwise-at k zero n f x h l = absurd (not-suc-le-zero l)
 fieldwise-at k (suc m) zero f x h l =
@@ -86,10 +89,10 @@ masked j s zero c x z h = and-zero-r (x / 2 ^ s)
 masked j s (suc m) c x z h =
     ap (λ (y : ℕ). bitAnd y (fieldwise (j + s) m (λ r. c) (z / 2 ^ (j + s)) * 2 ^ (j + s) + c)) (sym (split (x / 2 ^ s) (j + s)))
     ∙ and-block (j + s) (x / 2 ^ s / 2 ^ (j + s)) (fieldwise (j + s) m (λ r. c) (z / 2 ^ (j + s))) (x / 2 ^ s % 2 ^ (j + s)) c
-        (mod-lt (x / 2 ^ s) (pow-pos (j + s))) (omega (arith, pow-mono wider))
+    (mod-lt (x / 2 ^ s) (pow-pos (j + s))) (omega (arith, pow-mono wider))
     ∙ ap₂ (λ (a b : ℕ). a * 2 ^ (j + s) + b)
-        (ap (λ (y : ℕ). bitAnd y (fieldwise (j + s) m (λ r. c) (z / 2 ^ (j + s)))) swap ∙ masked j s m c (x / 2 ^ (j + s)) (z / 2 ^ (j + s)) h)
-        (and-low j (x / 2 ^ s % 2 ^ (j + s)) c h ∙ ap (λ (y : ℕ). bitAnd y c) within-field)
+    (ap (λ (y : ℕ). bitAnd y (fieldwise (j + s) m (λ r. c) (z / 2 ^ (j + s)))) swap ∙ masked j s m c (x / 2 ^ (j + s)) (z / 2 ^ (j + s)) h)
+    (and-low j (x / 2 ^ s % 2 ^ (j + s)) c h ∙ ap (λ (y : ℕ). bitAnd y c) within-field)
   where
     wider : j ≤ j + s
     wider = omega arith
@@ -129,10 +132,12 @@ low-field : (k n j y : ℕ) → k * n + k ≤ j → fieldOf k (y % 2 ^ j) n ≡ 
 low-field k n j y h = sym (field-low k n j (y / 2 ^ j) (y % 2 ^ j) h) ∙ ap (λ (u : ℕ). fieldOf k u n) (split y j)
 
 -- two words of which every byte is as f has it make a vector of which every byte is
-pub words-bytewise : (f : ℕ → ℕ) (a v : List ℕ) → ((r : ℕ) → r < 2 ^ 8 → f r < 2 ^ 8) → Sixteen v → v ≡ build 8 2 (λ c. fieldwise 8 8 f (lane w64 a c))
+pub words-bytewise : (f : ℕ → ℕ) (a v : List ℕ) → Stays 8 f → Sixteen v → v ≡ build 8 2 (λ c. fieldwise 8 8 f (lane w64 a c))
     → v ≡ build 1 16 (λ n. f (lane w8 a n))
 unfolding lane
-words-bytewise f a v h s e = in-lanes 1 16 v refl s ∙ build-same 1 16 (fieldOf 8 (number v)) (λ n. f (lane w8 a n)) (λ n l. subst same (sym (parts n)) (each (n / 8) (n % 8) (few n l) (mod-lt n (lit< tt))))
+words-bytewise f a v h s e =
+    in-lanes 1 16 v refl s
+    ∙ build-same 1 16 (fieldOf 8 (number v)) (λ n. f (lane w8 a n)) (λ n l. subst same (sym (parts n)) (each (n / 8) (n % 8) (few n l) (mod-lt n (lit< tt))))
   where
     same : ℕ → Type 0
     same n = fieldOf 8 (number v) n ≡ f (lane w8 a n)

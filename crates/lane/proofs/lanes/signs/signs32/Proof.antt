@@ -32,7 +32,7 @@ unfolding signs
 returns c =
     let x = c .args .x in
     ap₂ (λ (s s′ : ℕ). s + 2 * s′) (low x ∙ sign-bit w32 (fieldOf 32 x 0) (field-lt 32 x 0))
-        (high x (c .fits .x .fits) ∙ sign-bit w32 (fieldOf 32 x 1) (field-lt 32 x 1))
+    (high x (c .fits .x .fits) ∙ sign-bit w32 (fieldOf 32 x 1) (field-lt 32 x 1))
     ∙ sum _ _
 
 pub signs32-spec : {M : Type 1} → statement M

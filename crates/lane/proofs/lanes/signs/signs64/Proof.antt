@@ -1,5 +1,4 @@
 -- The top bit.
-use Prim.Native.Nat.{_/_, _^_}
 use native.Mathlib.Omega.{arith}
 use borrow.Author.Needs.{needs}
 use mir.Syntax.{w64}

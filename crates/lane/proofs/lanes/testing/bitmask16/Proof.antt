@@ -18,7 +18,8 @@ add-result c =
 returns : tie.Need-returns
 returns c =
     let low = c .before .before .before .before in
-    both-words w16 (low .before .before .before .before .args .t1 .bytes) refl (low .signs16 .ensures) (low .before .get64 .ensures) (c .signs162 .ensures) (c .before .get642 .ensures)
+    both-words w16 (low .before .before .before .before .args .t1 .bytes) refl
+    (low .signs16 .ensures) (low .before .get64 .ensures) (c .signs162 .ensures) (c .before .get642 .ensures)
 
 pub bitmask16-spec : {M : Type 1} → statement M
 bitmask16-spec =

@@ -18,7 +18,8 @@ add-result c =
 returns : tie.Need-returns
 returns c =
     let low = c .before .before .before .before in
-    both-words w32 (low .before .before .before .before .args .t1 .bytes) refl (low .signs32 .ensures) (low .before .get64 .ensures) (c .signs322 .ensures) (c .before .get642 .ensures)
+    both-words w32 (low .before .before .before .before .args .t1 .bytes) refl
+    (low .signs32 .ensures) (low .before .get64 .ensures) (c .signs322 .ensures) (c .before .get642 .ensures)
 
 pub bitmask32-spec : {M : Type 1} → statement M
 bitmask32-spec =

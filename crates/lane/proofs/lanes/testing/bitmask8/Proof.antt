@@ -18,7 +18,8 @@ add-result c =
 returns : tie.Need-returns
 returns c =
     let low = c .before .before .before .before in
-    both-words w8 (low .before .before .before .before .args .t1 .bytes) refl (low .signs8 .ensures) (low .before .get64 .ensures) (c .signs82 .ensures) (c .before .get642 .ensures)
+    both-words w8 (low .before .before .before .before .args .t1 .bytes) refl
+    (low .signs8 .ensures) (low .before .get64 .ensures) (c .signs82 .ensures) (c .before .get642 .ensures)
 
 pub bitmask8-spec : {M : Type 1} → statement M
 bitmask8-spec =
