@@ -3,6 +3,7 @@
 #ifndef LANES_H
 #define LANES_H
 
+#include <emmintrin.h>
 #include <stdint.h>
 
 /* A value of sixteen bytes; this host is little-endian, as lanes are. */
@@ -28,7 +29,7 @@ static inline union slot number_slot(uint64_t n)
     return r;
 }
 
-/* The ones of each of eight bytes. */
+/* The ones of each of eight bytes. GCC's builtin would be a call for each byte on plain x86-64. */
 static inline uint64_t ones_of_bytes(uint64_t x)
 {
     x -= x >> 1 & 0x5555555555555555;
@@ -70,13 +71,19 @@ static inline uint64_t ones_of_bytes(uint64_t x)
         sp[-1] = number_slot(r);              \
         break;                                \
     }
+/* The lanes' signs, by the compiler's builtins for the chip. */
+#define SIGNS(op, e)                                                \
+    case VECTOR + (op): {                                           \
+        const __m128i a = _mm_loadu_si128((const __m128i *)&sp[-1]); \
+        sp[-1] = number_slot(e);                                    \
+        break;                                                      \
+    }
 
 /* What every shape has, at the same distance from its first number. */
 #define SHAPE(base, n, u, s)                                        \
     UNARY_LANES(base + 0x00, n, u, a.s[i] < 0 ? 0 - a.u[i] : a.u[i]) \
     UNARY_LANES(base + 0x01, n, u, 0 - a.u[i])                      \
     FOLD_LANES(base + 0x03, n, 1, r & (a.u[i] != 0))                \
-    FOLD_LANES(base + 0x04, n, 0, r | (uint32_t)(a.s[i] < 0) << i)  \
     SHIFT_LANES(base + 0x0B, n, u, a.u[i] << k)                     \
     SHIFT_LANES(base + 0x0C, n, s, a.s[i] >> k)                     \
     SHIFT_LANES(base + 0x0D, n, u, a.u[i] >> k)                     \
