@@ -2,7 +2,7 @@
 use mathlib.Core.Path.{_≡_, refl, sym, ap, ap₂, _∙_}
 use mathlib.Core.Bool.{true}
 use Prim.Native.Nat.{ℕ, zero, suc, _+_, _*_, _-_, _/_, _%_, _^_, _≤_, _<_}
-use native.Mathlib.Nat.{le-trans, lt-of-le-of-lt, sub-le, mod-lt, div-one}
+use native.Mathlib.Nat.{le-trans, lt-of-le-of-lt, sub-le, mod-lt}
 use native.Mathlib.Omega.{arith}
 use lib.Bits.{bitAnd, and-le-l, and-mask, and-block}
 use lib.Count.{ones}
@@ -12,7 +12,7 @@ use borrow.Author.Tests.{eqb-true, leb-true}
 use Rattle.operation.specs.Op.{all}
 use Rattle.lane.specs.Inner.Words.{fieldwise}
 use Rattle.lane.proofs.Laws.Scan.{all-each}
-use Rattle.lane.proofs.Laws.Words.{fieldwise-same, fieldwise-self, fieldwise-add, fieldwise-sub, Stays, fieldwise-twice, masked}
+use Rattle.lane.proofs.Laws.Words.{fieldwise-same, fieldwise-self, fieldwise-add, fieldwise-sub, Stays, fieldwise-twice, masked, masked-here}
 
 -- ---- one byte: the ones of each two bits, of each four, of all eight
 
@@ -37,6 +37,7 @@ both-fours : all 256 (λ r. eqb (eights (fours (twos r))) (ones r)) ≡ true
 unfolding ones
 both-fours = refl
 
+-- no four bits hold more than 4
 abbrev Small : ℕ → Type 0
 Small t = (t % 2 ^ 4 ≤ 4) × (t / 2 ^ 4 ≤ 4)
 
@@ -63,13 +64,10 @@ twos-stay r l = lt-of-le-of-lt (sub-le r (bitAnd (r / 2 ^ 1) 0x55)) l
 fours-all : (y : ℕ) → bitAnd y 0x3333_3333_3333_3333 + bitAnd (y / 2 ^ 2) 0x3333_3333_3333_3333 ≡ fieldwise 8 8 fours y
 unfolding fieldwise
 fours-all y =
-    ap₂ (λ (a b : ℕ). a + b)
-    (ap (λ (z : ℕ). bitAnd z 0x3333_3333_3333_3333) (sym (div-one y)) ∙ masked 8 0 8 0x33 y 0 (lit< tt)
-    ∙ fieldwise-same 8 8 (λ r. bitAnd (r / 2 ^ 0) 0x33) (λ r. bitAnd r 0x33) y (λ r l. ap (λ (z : ℕ). bitAnd z 0x33) (div-one r)))
-    (masked 6 2 8 0x33 y 0 (lit< tt))
+    ap₂ (λ (a b : ℕ). a + b) (masked-here 8 8 0x33 y 0 (lit< tt)) (masked 6 2 8 0x33 y 0 (lit< tt))
     ∙ fieldwise-add 8 8 (λ r. bitAnd r 0x33) (λ r. bitAnd (r / 2 ^ 2) 0x33) y
 
--- neither sum leaves its four bits, and what comes from the next byte is masked away
+-- the lowest four bits are of the lowest byte
 small-low : (m : ℕ) (f : ℕ → ℕ) (x : ℕ) → ((r : ℕ) → r < 2 ^ 8 → Small (f r)) → fieldwise 8 m f x % 2 ^ 4 ≤ 4
 unfolding fieldwise
 small-low zero f x h = omega arith
@@ -78,6 +76,7 @@ small-low (suc m) f x h =
     let s₀ : t % 2 ^ 4 ≤ 4 = s .0 in
     let e : (a * 2 ^ 8 + t) % 2 ^ 4 ≤ 4 = omega arith in e
 
+-- no sum of two fours leaves its four bits, and the one that takes in the next byte's is masked away
 eights-all : (m : ℕ) (f : ℕ → ℕ) (x z : ℕ) → ((r : ℕ) → r < 2 ^ 8 → Small (f r))
     → bitAnd (fieldwise 8 m f x + fieldwise 8 m f x / 2 ^ 4) (fieldwise 8 m (λ r. 0x0F) z) ≡ fieldwise 8 m (λ r. eights (f r)) x
 unfolding fieldwise

@@ -1,5 +1,5 @@
 -- The signs of all lanes: by words, and those of a word by one product.
-use mathlib.Core.Path.{_≡_, sym, ap, ap₂, _∙_}
+use mathlib.Core.Path.{_≡_, refl, sym, ap, ap₂, _∙_}
 use mathlib.Core.Bool.{Bool, true}
 use mathlib.Core.List.{List}
 use Prim.Native.Nat.{ℕ, zero, suc, _+_, _*_, _/_, _%_, _^_, _<_, suc-le-suc}
@@ -20,7 +20,7 @@ use Rattle.operation.specs.Op.{Bitmask, truth, all, tally, test}
 use Rattle.lane.specs.Inner.Words.{fieldwise, signs}
 use Rattle.lane.proofs.Laws.Number.{fieldOf}
 use Rattle.lane.proofs.Laws.Scan.{all-each, sign-bit, truth-le, tally-lt, tally-same, tally-parts, tally-low}
-use Rattle.lane.proofs.Laws.Words.{field-next, field-none, word-lane}
+use Rattle.lane.proofs.Laws.Words.{fieldwise-same, field-next, field-none, masked-here, word-lane}
 
 -- ---- a vector's signs are those of its two words
 
@@ -81,37 +81,40 @@ and-top w r l =
     top : r / 2 ^ hbits w < 2 ^ 1
     top = div-lt-iff-lt-mul (pow-pos (hbits w)) .1 (omega (arith, pow-bits w))
 
--- a mask of the lanes' top bits leaves their signs, each at its top
-tops : (w : Width) (n x z : ℕ) → bitAnd x (fieldwise (bits w) n (λ r. 2 ^ hbits w) z) ≡ scattered w n (tally n (sign-at w x))
+-- the signs, each at the top of its lane
+scattering : (w : Width) (n x : ℕ) → fieldwise (bits w) n (λ r. r / 2 ^ hbits w * 2 ^ hbits w) x ≡ scattered w n (tally n (sign-at w x))
 unfolding fieldwise
-tops w zero x z = and-zero-r x
-tops w (suc n) x z =
-    let p : ℕ = 2 ^ bits w in let m : ℕ = fieldwise (bits w) n (λ r. 2 ^ hbits w) (z / p) in
-    ap (λ (y : ℕ). bitAnd y (m * p + 2 ^ hbits w)) (sym (split x (bits w)))
-    ∙ and-block (bits w) (x / p) m (x % p) (2 ^ hbits w) (mod-lt x (pow-pos (bits w))) half
-    ∙ ap₂ (λ (a b : ℕ). a * p + b) (tops w n (x / p) (z / p) ∙ ap (scattered w n) (above ∙ sym up))
-    (and-top w (x % p) (mod-lt x (pow-pos (bits w))) ∙ ap (λ (a : ℕ). a * 2 ^ hbits w) (lowest ∙ sym down))
+scattering w zero x = refl
+scattering w (suc n) x =
+    ap₂ (λ (a b : ℕ). a * 2 ^ bits w + b * 2 ^ hbits w) (scattering w n (x / 2 ^ bits w) ∙ ap (scattered w n) (above ∙ sym up)) (lowest ∙ sym down)
   where
     sign : ℕ → Bool
     sign y = ltZ (toZ w y) (pos 0)
 
-    above : tally n (sign-at w (x / 2 ^ bits w)) ≡ tally n (λ k. sign-at w x (suc k))
+    rest : ℕ
+    rest = tally n (λ k. sign-at w x (suc k))
+
+    above : tally n (sign-at w (x / 2 ^ bits w)) ≡ rest
     above = tally-same n (sign-at w (x / 2 ^ bits w)) (λ k. sign-at w x (suc k)) (λ k l. ap sign (field-next (bits w) x k))
 
     lowest : x % 2 ^ bits w / 2 ^ hbits w ≡ truth (sign-at w x 0)
     lowest = sign-bit w (x % 2 ^ bits w) (mod-lt x (pow-pos (bits w))) ∙ ap truth (ap sign (sym (field-none (bits w) x)))
 
-    half : 2 ^ hbits w < 2 ^ bits w
-    half = omega (arith, pow-bits w, pow-pos (hbits w))
-
     bit : truth (sign-at w x 0) < 2 ^ 1
     bit = suc-le-suc (truth-le (sign-at w x 0))
 
-    up : tally (suc n) (sign-at w x) / 2 ^ 1 ≡ tally n (λ k. sign-at w x (suc k))
-    up = ap (λ (y : ℕ). y / 2 ^ 1) (tally-low n (sign-at w x)) ∙ high (tally n (λ k. sign-at w x (suc k))) 1 bit
+    up : tally (suc n) (sign-at w x) / 2 ^ 1 ≡ rest
+    up = ap (λ (y : ℕ). y / 2 ^ 1) (tally-low n (sign-at w x)) ∙ high rest 1 bit
 
     down : tally (suc n) (sign-at w x) % 2 ^ 1 ≡ truth (sign-at w x 0)
-    down = ap (λ (y : ℕ). y % 2 ^ 1) (tally-low n (sign-at w x)) ∙ low (tally n (λ k. sign-at w x (suc k))) 1 bit
+    down = ap (λ (y : ℕ). y % 2 ^ 1) (tally-low n (sign-at w x)) ∙ low rest 1 bit
+
+-- what a mask of the lanes' top bits leaves
+tops : (w : Width) (n x z : ℕ) → bitAnd x (fieldwise (bits w) n (λ r. 2 ^ hbits w) z) ≡ scattered w n (tally n (sign-at w x))
+tops w n x z =
+    masked-here (bits w) n (2 ^ hbits w) x z (omega (arith, pow-bits w, pow-pos (hbits w)))
+    ∙ fieldwise-same (bits w) n (λ r. bitAnd r (2 ^ hbits w)) (λ r. r / 2 ^ hbits w * 2 ^ hbits w) x (and-top w)
+    ∙ scattering w n x
 
 -- a product that brings the n bits of every t together brings together the signs of every word
 pub gathered : (w : Width) (n spread rest : ℕ) → all (2 ^ n) (λ t. eqb (scattered w n t * spread % 2 ^ 64 / 2 ^ rest) t) ≡ true

@@ -2,7 +2,7 @@
 use mathlib.Core.Path.{_≡_, refl, sym, ap, ap₂, _∙_, subst}
 use mathlib.Core.List.{List}
 use Prim.Native.Nat.{ℕ, zero, suc, _+_, _*_, _-_, _/_, _%_, _^_, _≤_, _<_}
-use native.Mathlib.Nat.{add-comm, mul-comm, mul-assoc, mul-add, add-mul, mul-suc, mul-zero, zero-mul, div-one, mod-lt, mod-eq-of-lt, lt-of-le-of-lt, not-suc-le-zero, le-of-suc-le-suc, mul-le-mul-left, sub-add-cancel}
+use native.Mathlib.Nat.{add-zero, add-comm, mul-comm, mul-assoc, mul-add, add-mul, mul-suc, mul-zero, zero-mul, div-one, mod-lt, mod-eq-of-lt, lt-of-le-of-lt, not-suc-le-zero, le-of-suc-le-suc, mul-le-mul-left, sub-add-cancel}
 use native.Mathlib.Omega.{arith}
 use lib.Arith.{lt-one}
 use lib.Dec.{lit<}
@@ -104,14 +104,25 @@ masked j s (suc m) c x z h =
     within-field =
         ap (λ (i : ℕ). x / 2 ^ s % 2 ^ i % 2 ^ j) (add-comm j s) ∙ mod-mod-pow (x / 2 ^ s) s j ∙ sym (field x j s)
 
+pub masked-here : (k m c x z : ℕ) → c < 2 ^ k → bitAnd x (fieldwise k m (λ r. c) z) ≡ fieldwise k m (λ r. bitAnd r c) x
+masked-here k m c x z h = subst (λ (j : ℕ). bitAnd x (fieldwise j m (λ r. c) z) ≡ fieldwise j m (λ r. bitAnd r c) x) (add-zero k) unmoved
+  where
+    unmoved : bitAnd x (fieldwise (k + 0) m (λ r. c) z) ≡ fieldwise (k + 0) m (λ r. bitAnd r c) x
+    unmoved =
+        ap (λ (y : ℕ). bitAnd y (fieldwise (k + 0) m (λ r. c) z)) (sym (div-one x)) ∙ masked k 0 m c x z h
+        ∙ fieldwise-same (k + 0) m (λ r. bitAnd (r / 2 ^ 0) c) (λ r. bitAnd r c) x (λ r l. ap (λ (y : ℕ). bitAnd y c) (div-one r))
+
 -- ---- lanes of words
+
+-- bits from j on are in none of the fields below j
+low-field : (k n j y : ℕ) → k * n + k ≤ j → fieldOf k (y % 2 ^ j) n ≡ fieldOf k y n
+low-field k n j y h = sym (field-low k n j (y / 2 ^ j) (y % 2 ^ j) h) ∙ ap (λ (u : ℕ). fieldOf k u n) (split y j)
 
 -- field n of the c-th m fields
 within : (k m x n c : ℕ) → n < m → fieldOf k (fieldOf (m * k) x c) n ≡ fieldOf k x (m * c + n)
 within k m x n c l =
     let y : ℕ = x / 2 ^ (m * k * c) in
-    sym (field-low k n (m * k) (y / 2 ^ (m * k)) (y % 2 ^ (m * k)) room)
-    ∙ ap (λ (u : ℕ). fieldOf k u n) (split y (m * k))
+    low-field k n (m * k) y room
     ∙ ap (λ (u : ℕ). u % 2 ^ k) (shr-shr x (m * k * c) (k * n) ∙ ap (λ (j : ℕ). x / 2 ^ j) place)
   where
     room : k * n + k ≤ m * k
@@ -126,10 +137,6 @@ word-lane w8 v c n l = within 8 8 (number v) n c l
 word-lane w16 v c n l = within 16 4 (number v) n c l
 word-lane w32 v c n l = within 32 2 (number v) n c l
 word-lane w64 v c n l = within 64 1 (number v) n c l
-
--- bits from j on are in none of the fields below j
-low-field : (k n j y : ℕ) → k * n + k ≤ j → fieldOf k (y % 2 ^ j) n ≡ fieldOf k y n
-low-field k n j y h = sym (field-low k n j (y / 2 ^ j) (y % 2 ^ j) h) ∙ ap (λ (u : ℕ). fieldOf k u n) (split y j)
 
 -- two words of which every byte is as f has it make a vector of which every byte is
 pub words-bytewise : (f : ℕ → ℕ) (a v : List ℕ) → Stays 8 f → Sixteen v → v ≡ build 8 2 (λ c. fieldwise 8 8 f (lane w64 a c))

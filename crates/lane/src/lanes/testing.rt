@@ -80,7 +80,7 @@ pub(crate) fn all_true64(a: V128) -> u32
     1
 }
 
-// The lanes of the low word, then those of the high one.
+// The signs of the low word's lanes, and above them those of the high word's.
 pub(crate) fn bitmask8(a: V128) -> u32
     ensures { λ r. ⌜ r ≡ test (Bitmask w8) (a .bytes) ⌝ }
 {

@@ -1,4 +1,4 @@
--- One product: of each of the 256 rows of signs it has been looked at.
+-- The product is computed for all 256 rows of signs.
 use Prim.Native.Nat.{ℕ, _/_, _^_}
 use mathlib.Core.Path.{refl, _∙_, ap}
 use borrow.Author.Needs.{needs}
