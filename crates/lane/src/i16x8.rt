@@ -242,7 +242,7 @@ pub fn sub_sat_u(a: V128, b: V128) -> V128
 pub fn mul(a: V128, b: V128) -> V128
     ensures { λ r. ⌜ r .bytes ≡ binary (Mul i16x8) (a .bytes) (b .bytes) ⌝ }
 {
-    lanewise16(op::LAST, a, b)
+    lanewise16(op::MUL, a, b)
 }
 
 pub fn min_s(a: V128, b: V128) -> V128

@@ -193,7 +193,7 @@ pub fn sub(a: V128, b: V128) -> V128
 pub fn mul(a: V128, b: V128) -> V128
     ensures { λ r. ⌜ r .bytes ≡ binary (Mul i32x4) (a .bytes) (b .bytes) ⌝ }
 {
-    lanewise32(op::LAST, a, b)
+    lanewise32(op::MUL, a, b)
 }
 
 pub fn min_s(a: V128, b: V128) -> V128

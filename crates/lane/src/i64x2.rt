@@ -167,7 +167,7 @@ pub fn sub(a: V128, b: V128) -> V128
 pub fn mul(a: V128, b: V128) -> V128
     ensures { λ r. ⌜ r .bytes ≡ binary (Mul i64x2) (a .bytes) (b .bytes) ⌝ }
 {
-    lanewise64(op::LAST, a, b)
+    lanewise64(op::MUL, a, b)
 }
 
 pub fn extmul_low_i32x4_s(a: V128, b: V128) -> V128

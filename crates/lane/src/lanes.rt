@@ -1,4 +1,4 @@
-// All lanes: the loops that the operations of a shape share.
+// All lanes: the loops that the operations of a shape share, and what goes by words of several lanes.
 pub(crate) mod bitwise;
 pub(crate) mod choosing;
 pub(crate) mod counting;

@@ -52,8 +52,8 @@ pub(crate) const AVGR_U: u8 = 22;
 
 pub(crate) const Q15MULR_SAT_S: u8 = 23;
 
-// What is left: mul at 16, 32 and 64 bits.
-pub(crate) const LAST: u8 = 24;
+// Not at 8 bits.
+pub(crate) const MUL: u8 = 24;
 
 // ---- shifts
 pub(crate) const SHL: u8 = 0;

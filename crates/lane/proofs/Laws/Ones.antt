@@ -92,7 +92,7 @@ eights-all (suc m) f x z h =
     ∙ and-block 8 (a + a / 2 ^ 4) (fieldwise 8 m (λ r. 0x0F) (z / 2 ^ 8)) n 0x0F b (lit< tt)
     ∙ ap₂ (λ (p q : ℕ). p * 2 ^ 8 + q) (eights-all m f (x / 2 ^ 8) (z / 2 ^ 8) h) (and-mask n 4 ∙ c)
 
--- t and f as a function has them
+-- t and f are `twos` and `fours` of `ones_of_bytes`
 pub ones-word : (x t f : ℕ) → x < 2 ^ 64 → t ≡ x - bitAnd (x / 2 ^ 1) 0x5555_5555_5555_5555
     → f ≡ bitAnd t 0x3333_3333_3333_3333 + bitAnd (t / 2 ^ 2) 0x3333_3333_3333_3333
     → bitAnd (f + f / 2 ^ 4) 0x0F0F_0F0F_0F0F_0F0F ≡ fieldwise 8 8 ones x

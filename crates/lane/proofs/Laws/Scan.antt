@@ -1,4 +1,4 @@
--- Tests over all lanes, one lane after the other.
+-- Tests over all lanes, one lane after the other, and tallies of them.
 use mathlib.Core.Path.{_≡_, refl, sym, ap, ap₂, _∙_, subst}
 use mathlib.Core.Bool.{Bool, true, false, cond, _&&_}
 use mathlib.Core.Logic.{_⊎_, inl, inr}

@@ -20,7 +20,7 @@ use Rattle.operation.specs.Op.{Bitmask, truth, all, tally, test}
 use Rattle.lane.specs.Inner.Words.{fieldwise, signs}
 use Rattle.lane.proofs.Laws.Number.{fieldOf}
 use Rattle.lane.proofs.Laws.Scan.{all-each, sign-bit, truth-le, tally-lt, tally-same, tally-parts, tally-low}
-use Rattle.lane.proofs.Laws.Words.{fieldwise-same, field-next, field-none, masked-here, word-lane}
+use Rattle.lane.proofs.Laws.Words.{fieldwise-same, field-next, field-first, masked-here, word-lane}
 
 -- ---- a vector's signs are those of its two words
 
@@ -29,7 +29,7 @@ abbrev sign-at : Width → ℕ → ℕ → Bool
 sign-at w x n = ltZ (toZ w (fieldOf (bits w) x n)) (pos 0)
 
 -- over every width of which two words hold all lanes
-pub by-words : (w : Width) (v : List ℕ) → 64 / bits w + 64 / bits w ≡ lanes w
+by-words : (w : Width) (v : List ℕ) → 64 / bits w + 64 / bits w ≡ lanes w
     → test (Bitmask w) v ≡ signs w (lane w64 v 0) + 2 ^ (64 / bits w) * signs w (lane w64 v 1)
 unfolding signs
 by-words w v e =
@@ -98,7 +98,7 @@ scattering w (suc n) x =
     above = tally-same n (sign-at w (x / 2 ^ bits w)) (λ k. sign-at w x (suc k)) (λ k l. ap sign (field-next (bits w) x k))
 
     lowest : x % 2 ^ bits w / 2 ^ hbits w ≡ truth (sign-at w x 0)
-    lowest = sign-bit w (x % 2 ^ bits w) (mod-lt x (pow-pos (bits w))) ∙ ap truth (ap sign (sym (field-none (bits w) x)))
+    lowest = sign-bit w (x % 2 ^ bits w) (mod-lt x (pow-pos (bits w))) ∙ ap truth (ap sign (sym (field-first (bits w) x)))
 
     bit : truth (sign-at w x 0) < 2 ^ 1
     bit = suc-le-suc (truth-le (sign-at w x 0))

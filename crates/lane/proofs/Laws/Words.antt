@@ -61,21 +61,21 @@ fieldwise-twice k (suc m) f g x h =
 pub field-next : (k x n : ℕ) → fieldOf k (x / 2 ^ k) n ≡ fieldOf k x (suc n)
 field-next k x n = ap (λ (y : ℕ). y % 2 ^ k) (shr-shr x k (k * n) ∙ ap (λ (j : ℕ). x / 2 ^ j) (omega (arith, mul-suc k n)))
 
-pub field-none : (k x : ℕ) → fieldOf k x 0 ≡ x % 2 ^ k
-field-none k x = ap (λ (j : ℕ). x / 2 ^ j % 2 ^ k) (mul-zero k) ∙ ap (λ (y : ℕ). y % 2 ^ k) (div-one x)
+pub field-first : (k x : ℕ) → fieldOf k x 0 ≡ x % 2 ^ k
+field-first k x = ap (λ (j : ℕ). x / 2 ^ j % 2 ^ k) (mul-zero k) ∙ ap (λ (y : ℕ). y % 2 ^ k) (div-one x)
 
 -- field n is what f makes of field n
-pub fieldwise-at : (k m n : ℕ) (f : ℕ → ℕ) (x : ℕ) → Stays k f → n < m → fieldOf k (fieldwise k m f x) n ≡ f (fieldOf k x n)
+fieldwise-at : (k m n : ℕ) (f : ℕ → ℕ) (x : ℕ) → Stays k f → n < m → fieldOf k (fieldwise k m f x) n ≡ f (fieldOf k x n)
 unfolding fieldwise
 fieldwise-at k zero n f x h l = absurd (not-suc-le-zero l)
 fieldwise-at k (suc m) zero f x h l =
-    field-none k _ ∙ low (fieldwise k m f (x / 2 ^ k)) k (h (x % 2 ^ k) (mod-lt x (pow-pos k))) ∙ ap f (sym (field-none k x))
+    field-first k _ ∙ low (fieldwise k m f (x / 2 ^ k)) k (h (x % 2 ^ k) (mod-lt x (pow-pos k))) ∙ ap f (sym (field-first k x))
 fieldwise-at k (suc m) (suc n) f x h l =
     sym (field-next k _ n)
     ∙ ap (λ (y : ℕ). fieldOf k y n) (high (fieldwise k m f (x / 2 ^ k)) k (h (x % 2 ^ k) (mod-lt x (pow-pos k))))
     ∙ fieldwise-at k m n f (x / 2 ^ k) h (le-of-suc-le-suc l) ∙ ap f (field-next k x n)
 
--- ---- a mask that is the same in every field
+-- ---- a mask that is c in every field: fieldwise of a constant, which looks at no z
 
 -- a mask of j bits sees j bits
 and-low : (j y c : ℕ) → c < 2 ^ j → bitAnd y c ≡ bitAnd (y % 2 ^ j) c
@@ -138,7 +138,7 @@ word-lane w16 v c n l = within 16 4 (number v) n c l
 word-lane w32 v c n l = within 32 2 (number v) n c l
 word-lane w64 v c n l = within 64 1 (number v) n c l
 
--- two words of which every byte is as f has it make a vector of which every byte is
+-- two words, each byte of which f made of that byte of a, are the vector of which f made each byte
 pub words-bytewise : (f : ℕ → ℕ) (a v : List ℕ) → Stays 8 f → Sixteen v → v ≡ build 8 2 (λ c. fieldwise 8 8 f (lane w64 a c))
     → v ≡ build 1 16 (λ n. f (lane w8 a n))
 unfolding lane

@@ -7,7 +7,7 @@ use mir.Val.{bits}
 use Rattle.scalar.specs.Scalar.{S, value}
 use Rattle.operation.specs.Op.{tally}
 
--- the m lowest fields of k bits of x, each as f has it
+-- the m lowest fields of k bits of x, each as f makes it; f makes numbers that fit a field
 unfoldable pub fieldwise : ℕ → ℕ → (ℕ → ℕ) → ℕ → ℕ
 fieldwise k zero f x = 0
 fieldwise k (suc m) f x = fieldwise k m f (x / 2 ^ k) * 2 ^ k + f (x % 2 ^ k)

@@ -1,6 +1,6 @@
 // The signs of one word's lanes, lane 0's lowest. Of eight lanes or four, one product gathers them: it adds up as many copies of the lanes' top
-// bits as there are lanes, each a bit less than a lane further up than the one before, and the highest bits of the sum are one of each lane, side by
-// side. Of two lanes, two shifts are quicker.
+// bits as there are lanes, each a bit less than a lane further up than the one before. No two bits meet in one place, and the highest places of the
+// word get one bit of each lane, side by side. Of two lanes, two shifts are quicker.
 ghost use mathlib.Core.Path.{_≡_};
 ghost use mir.Syntax.{w8, w16, w32, w64};
 ghost use Rattle.lane.specs.Inner.Words.{signs};

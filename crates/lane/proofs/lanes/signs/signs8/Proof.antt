@@ -1,4 +1,4 @@
--- The product is computed for all 256 rows of signs.
+-- The product is computed for all 256 patterns of signs.
 use Prim.Native.Nat.{ℕ, _/_, _^_}
 use mathlib.Core.Path.{refl, _∙_, ap}
 use borrow.Author.Needs.{needs}
