@@ -26,7 +26,7 @@ static const struct {
     UNIT("i32.const, i8x16.shl", "\x41\x03\xFD\x6B", 2),
     UNIT("local.get, i8x16.narrow_i16x8_s", "\x20\x02\xFD\x65", 2),
     UNIT("local.get, i32x4.dot_i16x8_s", "\x20\x02\xFD\xBA\x01", 2),
-    UNIT("local.get, i8x16.popcnt, drop", "\x20\x02\xFD\x62\x1A", 3),
+    UNIT("i8x16.popcnt", "\xFD\x62", 1),
     UNIT("local.get, i8x16.bitmask, drop", "\x20\x02\xFD\x64\x1A", 3),
 };
 enum { UNITS = sizeof units / sizeof *units, MEMORY = 256, BUDGET_MOST = 1000000, ROUNDS = 400 };

@@ -29,11 +29,15 @@ static inline union slot number_slot(uint64_t n)
     return r;
 }
 
-/* The ones of each of eight bytes. GCC's builtin would be a call for each byte on plain x86-64. */
-static inline uint64_t ones_of_bytes(uint64_t x)
+/* The ones of each of eight bytes: half a byte, less itself halved once, twice and thrice, is the number of its ones. GCC's builtin would be a
+   call for each byte on plain x86-64. */
+static inline uint64_t byte_counts(uint64_t x)
 {
-    x -= x >> 1 & 0x5555555555555555;
-    x = (x & 0x3333333333333333) + (x >> 2 & 0x3333333333333333);
+    uint64_t halved = x;
+    for (int i = 0; i < 3; i++) {
+        halved = halved >> 1 & 0x7777777777777777;
+        x -= halved;
+    }
     return (x + (x >> 4)) & 0x0F0F0F0F0F0F0F0F;
 }
 
@@ -71,7 +75,7 @@ static inline uint64_t ones_of_bytes(uint64_t x)
         sp[-1] = number_slot(r);              \
         break;                                \
     }
-/* The lanes' signs, by the compiler's builtins for the chip. */
+/* The lanes' signs, by the compiler's builtins for the chip's vector unit. */
 #define SIGNS(op, e)                                                \
     case VECTOR + (op): {                                           \
         const __m128i a = _mm_loadu_si128((const __m128i *)&sp[-1]); \
@@ -79,7 +83,7 @@ static inline uint64_t ones_of_bytes(uint64_t x)
         break;                                                      \
     }
 
-/* What every shape has, at the same distance from its first number. */
+/* What every shape has beside its signs, at the same distance from its first number. */
 #define SHAPE(base, n, u, s)                                        \
     UNARY_LANES(base + 0x00, n, u, a.s[i] < 0 ? 0 - a.u[i] : a.u[i]) \
     UNARY_LANES(base + 0x01, n, u, 0 - a.u[i])                      \

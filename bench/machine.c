@@ -212,7 +212,7 @@ uint64_t plain_run(const uint8_t *s, size_t len, const uint8_t *args, size_t arg
         WIDENING(0xC0, 2, u64, u32, s32)
         PAIRWISE(0x7C, 8, u16, u8, s8)
         PAIRWISE(0x7E, 4, u32, u16, s16)
-        UNARY_LANES(0x62, 2, u64, ones_of_bytes(a.u64[i]))
+        UNARY_LANES(0x62, 2, u64, byte_counts(a.u64[i]))
         SIGNS(0x64, _mm_movemask_epi8(a))
         SIGNS(0x84, _mm_movemask_epi8(_mm_packs_epi16(a, _mm_setzero_si128())))
         SIGNS(0xA4, _mm_movemask_ps(_mm_castsi128_ps(a)))
