@@ -1,7 +1,10 @@
 // The check of a whole strip: its header, then its instructions one after the other.
+mod blocks;
 mod body;
 mod header;
+mod numbers;
 mod stack;
+mod turns;
 mod typing;
 
 ghost use mathlib.Core.Path.{_≡_};
@@ -17,7 +20,8 @@ pub fn check(strip: &[u8]) -> Answer
     }
     let locals = strip[5] as usize + strip[6] as usize;
     let results = strip[7] as usize;
-    body::body(strip, 8 + locals + results, locals, results)
+    let version = strip[3] as u16;
+    body::body(strip, version, 8 + locals + results, locals, results)
 }
 
 // An answer of the check: no steps.

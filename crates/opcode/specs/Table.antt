@@ -1,14 +1,14 @@
 -- The opcodes (01, "Instructions"; 002): which operation stands at each number after FD, and at each first byte that is not FD.
 use Prim.Native.Nat.{ℕ}
 use mathlib.Core.Bool.{cond}
-use mathlib.Core.List.{List, [], _∷_}
-use lib.Dec.{eqb}
+use mathlib.Core.List.{List, [], _∷_, _++_}
+use lib.Dec.{eqb, ltb}
 use lib.ListN.{getD}
 use Rattle.scalar.specs.Scalar.{S, U}
 use Rattle.operation.specs.Shape.{i8x16, i16x8, i32x4, i64x2}
 use Rattle.operation.specs.Op.{Low, High, Not, Abs, Neg, Popcnt, Extend, ExtaddPairwise, And, Andnot, Or, Xor, Swizzle, Eq, Ne, Lt, Gt, Le, Ge, Add, Sub, Mul, AddSat, SubSat, Min, Max, AvgrU, Q15mulrSatS, DotS, Narrow, Extmul, AnyTrue, AllTrue, Bitmask, Shl, Shr, Whole, Widen, Repeat, ZeroPad, Op, Load, LoadLane, Store, StoreLane, Const, Shuffle, Splat, ExtractLane, ReplaceLane, Unary, Binary, Bitselect, Test, Shift}
 
--- the nine that are opcodes by themselves
+-- those that are opcodes by themselves
 pub data Plain : Type 0 where
   End : Plain
   Drop : Plain
@@ -19,9 +19,19 @@ pub data Plain : Type 0 where
   I64Const : Plain
   I32Add : Plain
   I32Sub : Plain
+  I32Eqz : Plain
+  I32LtU : Plain
+
+-- those after which it may go on elsewhere
+pub data Control : Type 0 where
+  Block : Control
+  Loop : Control
+  Br : Control
+  BrIf : Control
 
 pub data Code : Type 0 where
   plain : Plain → Code
+  control : Control → Code
   vector : Op → Code
 
 -- carried here, one of the float instructions, or not assigned
@@ -297,29 +307,47 @@ vectors =
 unfoldable pub vectorAt : ℕ → Row
 vectorAt n = getD vectors n unassigned
 
-abbrev pub plains : List (ℕ × Plain)
+abbrev pub plains : List (ℕ × Code)
 plains =
-    (0x0B, End) ∷  -- end
-    (0x1A, Drop) ∷  -- drop
-    (0x20, LocalGet) ∷  -- local.get
-    (0x21, LocalSet) ∷  -- local.set
-    (0x22, LocalTee) ∷  -- local.tee
-    (0x41, I32Const) ∷  -- i32.const
-    (0x42, I64Const) ∷  -- i64.const
-    (0x6A, I32Add) ∷  -- i32.add
-    (0x6B, I32Sub) ∷  -- i32.sub
+    (0x0B, plain End) ∷  -- end
+    (0x1A, plain Drop) ∷  -- drop
+    (0x20, plain LocalGet) ∷  -- local.get
+    (0x21, plain LocalSet) ∷  -- local.set
+    (0x22, plain LocalTee) ∷  -- local.tee
+    (0x41, plain I32Const) ∷  -- i32.const
+    (0x42, plain I64Const) ∷  -- i64.const
+    (0x6A, plain I32Add) ∷  -- i32.add
+    (0x6B, plain I32Sub) ∷  -- i32.sub
     []
 
-abbrev pub lookUp : ℕ → List (ℕ × Plain) → Row
-lookUp b [] = unassigned
-lookUp b (p ∷ ps) = cond (eqb b (p .0)) (carried (plain (p .1))) (lookUp b ps)
+-- from version 2 on (02, C-13; Core 2.0, 5.4.1, 5.4.6)
+abbrev pub fromTwo : List (ℕ × Code)
+fromTwo =
+    (0x02, control Block) ∷  -- block
+    (0x03, control Loop) ∷  -- loop
+    (0x0C, control Br) ∷  -- br
+    (0x0D, control BrIf) ∷  -- br_if
+    (0x45, plain I32Eqz) ∷  -- i32.eqz
+    (0x49, plain I32LtU) ∷  -- i32.lt_u
+    []
 
-unfoldable pub plainAt : ℕ → Row
-plainAt b = lookUp b plains
+-- the latest version; its rows are those of every version and more
+abbrev pub latest : ℕ
+latest = 2
+
+abbrev pub plainsOf : ℕ → List (ℕ × Code)
+plainsOf ver = cond (ltb ver 2) plains (plains ++ fromTwo)
+
+abbrev pub lookUp : ℕ → List (ℕ × Code) → Row
+lookUp b [] = unassigned
+lookUp b (p ∷ ps) = cond (eqb b (p .0)) (carried (p .1)) (lookUp b ps)
+
+unfoldable pub plainAt : ℕ → ℕ → Row
+plainAt ver b = lookUp b (plainsOf ver)
 
 abbrev pub PREFIX : ℕ
 PREFIX = 0xFD
 
--- by the number after the prefix, or by a first byte that is not the prefix
-abbrev pub rowAt : ℕ → ℕ → Row
-rowAt first number = cond (eqb first PREFIX) (vectorAt number) (plainAt first)
+-- in a strip of this version, by the number after the prefix, or by a first byte that is not the prefix
+abbrev pub rowAt : ℕ → ℕ → ℕ → Row
+rowAt ver first number = cond (eqb first PREFIX) (vectorAt number) (plainAt ver first)

@@ -27,12 +27,14 @@ pub const BYTES: u8 = 7;
 
 pub const LANES: u8 = 8;
 
+pub const BLOCK_TYPE: u8 = 9;
+
 // Two more, of what is not carried.
-pub const FLOAT: u8 = 9;
+pub const FLOAT: u8 = 10;
 
-pub const UNASSIGNED: u8 = 10;
+pub const UNASSIGNED: u8 = 11;
 
-// The groups: the nine plain opcodes, then those of the enumeration of operations, then what is not carried.
+// The groups: version 1's plain opcodes, then those of the enumeration of operations, then what version 2 adds, then what is not carried.
 pub const GROUP_END: u8 = 0;
 
 pub const GROUP_DROP: u8 = 1;
@@ -78,6 +80,18 @@ pub const GROUP_BITSELECT: u8 = 20;
 pub const GROUP_TEST: u8 = 21;
 
 pub const GROUP_SHIFT: u8 = 22;
+
+pub const GROUP_I32_EQZ: u8 = 23;
+
+pub const GROUP_I32_LT_U: u8 = 24;
+
+pub const GROUP_BLOCK: u8 = 25;
+
+pub const GROUP_LOOP: u8 = 26;
+
+pub const GROUP_BR: u8 = 27;
+
+pub const GROUP_BR_IF: u8 = 28;
 
 // The first byte of the vector instructions.
 pub const PREFIX: u8 = 0xFD;
