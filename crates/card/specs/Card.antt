@@ -69,6 +69,14 @@ RESULT = 15
 abbrev pub TRAILING : ℕ
 TRAILING = 16
 
+-- blocks inside blocks too deep
+abbrev pub NEST : ℕ
+NEST = 17
+
+-- no such block
+abbrev pub LABEL : ℕ
+LABEL = 18
+
 -- the lent memory is too large
 abbrev pub ROOM : ℕ
 ROOM = 20

@@ -8,8 +8,9 @@ use native.Mathlib.Omega.{arith}
 use lib.Dec.{eqb}
 use borrow.Author.Tests.{eq-eqb, ne-eqb, lt-ltb, le-ltb}
 use Rattle.card.specs.Card.{DONE, OPCODE}
-use Rattle.opcode.specs.Table.{Row, carried, float, unassigned, rowAt}
-use Rattle.opcode.specs.Immediate.{Immediates, nothing, index, word, long, memory, memoryLane, laneIndex, sixteenBytes, sixteenLanes, immediates, movedBy, lanesOf}
+use Rattle.opcode.specs.BlockType.{isBlockType}
+use Rattle.opcode.specs.Table.{Row, carried, float, unassigned, latest, rowAt}
+use Rattle.opcode.specs.Immediate.{Immediates, nothing, index, blockType, word, long, memory, memoryLane, laneIndex, sixteenBytes, sixteenLanes, immediates, movedBy, lanesOf}
 use Rattle.opcode.specs.Number.{classNumber, FLOAT, UNASSIGNED, classOf, idOf, rowOf}
 use Rattle.opcode.proofs.Id.{row-of-id}
 use Rattle.opcode.proofs.Classes.{class-carried, class-float, class-unassigned}
@@ -58,18 +59,19 @@ AllBut kss x = Missed (Unit {0}) kss x
 
 -- decoding has an arm for every class but that of the unassigned; memory's two share one, which the code tells by `class < 6`
 abbrev pub decoded : List (List ℕ)
-decoded = (0 ∷ []) ∷ (1 ∷ []) ∷ (2 ∷ []) ∷ (3 ∷ []) ∷ (6 ∷ []) ∷ (7 ∷ []) ∷ (8 ∷ []) ∷ (9 ∷ []) ∷ []
+decoded = (0 ∷ []) ∷ (1 ∷ []) ∷ (2 ∷ []) ∷ (3 ∷ []) ∷ (6 ∷ []) ∷ (7 ∷ []) ∷ (8 ∷ []) ∷ (9 ∷ []) ∷ (10 ∷ []) ∷ []
 
 memory-or-none : (k : Immediates) → AllBut decoded (classNumber k) → (k ≡ memory) ⊎ (k ≡ memoryLane)
-memory-or-none nothing m = absurd (m .0 .0 .0 .0 .0 .0 .0 .1 refl)
-memory-or-none index m = absurd (m .0 .0 .0 .0 .0 .0 .1 refl)
-memory-or-none word m = absurd (m .0 .0 .0 .0 .0 .1 refl)
-memory-or-none long m = absurd (m .0 .0 .0 .0 .1 refl)
+memory-or-none nothing m = absurd (m .0 .0 .0 .0 .0 .0 .0 .0 .1 refl)
+memory-or-none index m = absurd (m .0 .0 .0 .0 .0 .0 .0 .1 refl)
+memory-or-none word m = absurd (m .0 .0 .0 .0 .0 .0 .1 refl)
+memory-or-none long m = absurd (m .0 .0 .0 .0 .0 .1 refl)
 memory-or-none memory m = inl refl
 memory-or-none memoryLane m = inr refl
-memory-or-none laneIndex m = absurd (m .0 .0 .0 .1 refl)
-memory-or-none sixteenBytes m = absurd (m .0 .0 .1 refl)
-memory-or-none sixteenLanes m = absurd (m .0 .1 refl)
+memory-or-none laneIndex m = absurd (m .0 .0 .0 .0 .1 refl)
+memory-or-none sixteenBytes m = absurd (m .0 .0 .0 .1 refl)
+memory-or-none sixteenLanes m = absurd (m .0 .0 .1 refl)
+memory-or-none blockType m = absurd (m .0 .1 refl)
 
 pub other-class : (r : Row) → AllBut decoded (classOf r) → 6 ≤ classOf r → r ≡ unassigned
 other-class (carried c) m l =
@@ -88,7 +90,7 @@ memory-class float m l = absurd (m .1 refl)
 memory-class unassigned m l = absurd (omega arith)
 
 -- an id stands for the row
-pub row-in : (first n id : ℕ) → first < 256 → id ≡ idOf first n → rowOf id ≡ rowAt first n
+pub row-in : (first n id : ℕ) → first < 256 → id ≡ idOf first n → rowOf id ≡ rowAt latest first n
 row-in first n id l e = ap rowOf e ∙ row-of-id first n l
 
 -- class is that of the row
@@ -138,13 +140,17 @@ module _ (r : Row) (i : Instr) where
     unfolding faultIn
     fault-lane c h = sym (fault-class r laneIndex c i ∙ rw (le-ltb (i .lane) (lanesOf r) (omega (arith, e))))
 
+  pub fault-block : (t : Bool) → t ≡ isBlockType (i .block) → classOf r ≡ classNumber blockType → cond t DONE card.KIND ≡ faultOf r i
+  unfolding faultIn
+  fault-block t e c = rw e (sym (fault-class r blockType c i))
+
   pub fault-lanes : (t : Bool) → t ≡ allBelow 32 (i .bytes) → classOf r ≡ classNumber sixteenLanes → cond t DONE card.LANE ≡ faultOf r i
   unfolding faultIn
   fault-lanes t e c = rw e (sym (fault-class r sixteenLanes c i))
 
 -- those without a lane index, an exponent or indices have nothing wrong
 abbrev pub judged : List (List ℕ)
-judged = (4 ∷ []) ∷ (5 ∷ []) ∷ (6 ∷ []) ∷ (8 ∷ []) ∷ (9 ∷ []) ∷ (10 ∷ []) ∷ []
+judged = (4 ∷ []) ∷ (5 ∷ []) ∷ (6 ∷ []) ∷ (8 ∷ []) ∷ (9 ∷ []) ∷ (10 ∷ []) ∷ (11 ∷ []) ∷ []
 
 pub fault-other : (r : Row) → AllBut judged (classOf r) → (i : Instr) → faultOf r i ≡ DONE
 unfolding faultOf faultIn
@@ -156,17 +162,18 @@ fault-other (carried c) m i = by (immediates c) m
     by index m = refl
     by word m = refl
     by long m = refl
-    by memory m = absurd (m .0 .0 .0 .0 .0 .1 refl)
-    by memoryLane m = absurd (m .0 .0 .0 .0 .1 refl)
-    by laneIndex m = absurd (m .0 .0 .0 .1 refl)
+    by memory m = absurd (m .0 .0 .0 .0 .0 .0 .1 refl)
+    by memoryLane m = absurd (m .0 .0 .0 .0 .0 .1 refl)
+    by laneIndex m = absurd (m .0 .0 .0 .0 .1 refl)
     by sixteenBytes m = refl
-    by sixteenLanes m = absurd (m .0 .0 .1 refl)
+    by sixteenLanes m = absurd (m .0 .0 .0 .1 refl)
+    by blockType m = absurd (m .0 .0 .1 refl)
 fault-other float m i = absurd (m .0 .1 refl)
 fault-other unassigned m i = absurd (m .1 refl)
 
 -- the others have no immediates
 abbrev pub carrying : List (List ℕ)
-carrying = (1 ∷ []) ∷ (2 ∷ []) ∷ (3 ∷ []) ∷ (4 ∷ []) ∷ (5 ∷ []) ∷ (6 ∷ []) ∷ (7 ∷ []) ∷ (8 ∷ []) ∷ []
+carrying = (1 ∷ []) ∷ (2 ∷ []) ∷ (3 ∷ []) ∷ (4 ∷ []) ∷ (5 ∷ []) ∷ (6 ∷ []) ∷ (7 ∷ []) ∷ (8 ∷ []) ∷ (9 ∷ []) ∷ []
 
 pub fields-other : (r : Row) → AllBut carrying (classOf r) → (i : Instr) → fieldsOf r i ≡ []
 unfolding fieldsOf immediateFields
@@ -174,13 +181,14 @@ fields-other (carried c) m i = by (immediates c) m
   where
     by : (k : Immediates) → AllBut carrying (classNumber k) → immediateFields k i ≡ []
     by nothing m = refl
-    by index m = absurd (m .0 .0 .0 .0 .0 .0 .0 .1 refl)
-    by word m = absurd (m .0 .0 .0 .0 .0 .0 .1 refl)
-    by long m = absurd (m .0 .0 .0 .0 .0 .1 refl)
-    by memory m = absurd (m .0 .0 .0 .0 .1 refl)
-    by memoryLane m = absurd (m .0 .0 .0 .1 refl)
-    by laneIndex m = absurd (m .0 .0 .1 refl)
-    by sixteenBytes m = absurd (m .0 .1 refl)
-    by sixteenLanes m = absurd (m .1 refl)
+    by index m = absurd (m .0 .0 .0 .0 .0 .0 .0 .0 .1 refl)
+    by word m = absurd (m .0 .0 .0 .0 .0 .0 .0 .1 refl)
+    by long m = absurd (m .0 .0 .0 .0 .0 .0 .1 refl)
+    by memory m = absurd (m .0 .0 .0 .0 .0 .1 refl)
+    by memoryLane m = absurd (m .0 .0 .0 .0 .1 refl)
+    by laneIndex m = absurd (m .0 .0 .0 .1 refl)
+    by sixteenBytes m = absurd (m .0 .0 .1 refl)
+    by sixteenLanes m = absurd (m .0 .1 refl)
+    by blockType m = absurd (m .1 refl)
 fields-other float m i = refl
 fields-other unassigned m i = refl

@@ -10,8 +10,8 @@ use lib.Seq.{sets-eq}
 use borrow.Author.Tests.{le-leb, lt-leb, eq-eqb, ne-eqb}
 use Rattle.card.specs.Card.{DONE, SMALL}
 use Rattle.leb128.specs.Shortest.{bytesOf}
-use Rattle.opcode.specs.Table.{Row}
-use Rattle.opcode.specs.Immediate.{index, word, long, memory, memoryLane, laneIndex, sixteenBytes, sixteenLanes}
+use Rattle.opcode.specs.Table.{Row, latest}
+use Rattle.opcode.specs.Immediate.{index, blockType, word, long, memory, memoryLane, laneIndex, sixteenBytes, sixteenLanes}
 use Rattle.opcode.specs.Number.{classNumber, classOf}
 use Rattle.instr.specs.Layout.{opcodeFields, immediateFields, fieldsOf, rowIn, layout}
 use Rattle.instr.specs.Encode.{written, encoding, answer}
@@ -49,6 +49,10 @@ module _ (r : Row) (i : Instr) where
   unfolding immediateFields
   bytes-lane e = ap written (fields-class r laneIndex e i)
 
+  pub bytes-block : classOf r ≡ classNumber blockType → written (fieldsOf r i) ≡ i .block ∷ []
+  unfolding immediateFields
+  bytes-block e = ap written (fields-class r blockType e i)
+
   pub bytes-sixteen : (classOf r ≡ classNumber sixteenBytes) ⊎ (classOf r ≡ classNumber sixteenLanes) → written (fieldsOf r i) ≡ i .bytes
   unfolding immediateFields
   bytes-sixteen (inl e) = ap written (fields-class r sixteenBytes e i) ∙ append-nil (i .bytes)
@@ -59,11 +63,11 @@ module _ (i : Instr) where
   head-bytes = written (opcodeFields (i .first) (i .number))
 
   abbrev tail-bytes : List ℕ
-  tail-bytes = written (fieldsOf (rowIn i) i)
+  tail-bytes = written (fieldsOf (rowIn latest i) i)
 
   pub encoding-is : encoding i ≡ head-bytes ++ tail-bytes
   unfolding encoding layout
-  encoding-is = written-append (opcodeFields (i .first) (i .number)) (fieldsOf (rowIn i) i)
+  encoding-is = written-append (opcodeFields (i .first) (i .number)) (fieldsOf (rowIn latest i) i)
 
   pub encoding-length : length (encoding i) ≡ length head-bytes + length tail-bytes
   encoding-length = ap length encoding-is ∙ length-append head-bytes tail-bytes

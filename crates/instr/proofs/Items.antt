@@ -1,15 +1,16 @@
 -- Each item of a file, by what stands at its place.
 use Prim.Native.Nat.{ℕ, _+_, _<_, _≤_}
-use mathlib.Core.Bool.{Bool}
+use mathlib.Core.Bool.{Bool, true, false}
 use mathlib.Core.List.{List}
 use mathlib.Core.Path.{_≡_, ap}
 use lib.ListN.{length, getD}
 use borrow.Author.Tests.{lt-ltb, le-ltb}
-use Rattle.card.specs.Card.{SHORT, LANE}
+use Rattle.card.specs.Card.{SHORT, KIND, LANE}
 use Rattle.leb128.specs.Number.{numberAt}
 use Rattle.leb128.specs.declared.read.Leb.{Leb}
+use Rattle.opcode.specs.BlockType.{isBlockType}
 use Rattle.instr.specs.Layout.{head}
-use Rattle.instr.specs.Decode.{got, no, itemOf, numberItem, byteAt, laneAt}
+use Rattle.instr.specs.Decode.{got, no, itemOf, numberItem, byteAt, laneAt, blockAt}
 use Rattle.instr.specs.Inner.Version.{rowBy, bodyBy, opcodeBy, decodeBy}
 use Rattle.instr.specs.declared.version.Version.{Version}
 
@@ -26,6 +27,18 @@ module _ (s : List ℕ) where
     pub byte-cut : length s ≤ p → byteAt s p ≡ no SHORT (length s)
     unfolding byteAt
     byte-cut h = rw (le-ltb p (length s) h)
+
+    pub block-good : p < length s → isBlockType (getD s p 0) ≡ true → blockAt s p ≡ got (getD s p 0) (p + 1)
+    unfolding blockAt
+    block-good h l = rw (byte-there h, l)
+
+    pub block-bad : p < length s → isBlockType (getD s p 0) ≡ false → blockAt s p ≡ no KIND p
+    unfolding blockAt
+    block-bad h l = rw (byte-there h, l)
+
+    pub block-cut : length s ≤ p → blockAt s p ≡ no SHORT (length s)
+    unfolding blockAt
+    block-cut h = rw (byte-cut h)
 
     module _ (n : ℕ) where
       pub lane-good : p < length s → getD s p 0 < n → laneAt n s p ≡ got (getD s p 0) (p + 1)

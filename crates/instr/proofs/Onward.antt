@@ -7,12 +7,13 @@ use native.Mathlib.Omega.{arith}
 use lib.Dec.{ltb, leb, eqb}
 use lib.ListN.{length, getD}
 use borrow.Author.Tests.{eqb-false}
-use Rattle.card.specs.Card.{DONE, SHORT, LANE, ALIGN}
+use Rattle.card.specs.Card.{DONE, SHORT, KIND, LANE, ALIGN}
 use Rattle.leb128.specs.Number.{numberAt}
 use Rattle.leb128.specs.Shortest.{bytesOf}
 use Rattle.leb128.specs.declared.read.Leb.{Leb}
 use Rattle.leb128.specs.declared.read.Leb.the-variants.{Val, Short, Number}
-use Rattle.instr.specs.Decode.{Item, got, no, andRead, itemOf, numberItem, byteAt, laneAt, lanesAt, sixteenAt}
+use Rattle.opcode.specs.BlockType.{isBlockType}
+use Rattle.instr.specs.Decode.{Item, got, no, andRead, itemOf, numberItem, byteAt, laneAt, blockAt, lanesAt, sixteenAt}
 use Rattle.instr.specs.Inner.Version.{judged, numberBy, exponentBy}
 use Rattle.instr.specs.declared.version.Version.{Version}
 
@@ -56,6 +57,13 @@ module _ (at : ℕ) where
         read-onward (cond (ltb p (length s)) (got (getD s p 0) (p + 1)) (no SHORT (length s))) _
         (cond-onward (ltb p (length s)) (getD s p 0) (p + 1) SHORT (length s) (omega arith) (λ z. omega (arith, z)))
         (λ b q l. cond-onward (ltb b n) b q LANE p l (λ z. omega (arith, z)))
+
+    pub block-onward : (p : ℕ) → at ≤ p → Onward at (blockAt s p)
+    unfolding blockAt byteAt
+    block-onward p h =
+        read-onward (cond (ltb p (length s)) (got (getD s p 0) (p + 1)) (no SHORT (length s))) _
+        (cond-onward (ltb p (length s)) (getD s p 0) (p + 1) SHORT (length s) (omega arith) (λ z. omega (arith, z)))
+        (λ b q l. cond-onward (isBlockType b) b q KIND p l (λ z. omega (arith, z)))
 
     pub lanes-onward : (k p : ℕ) → at ≤ p → Onward at (lanesAt k s p)
     unfolding lanesAt

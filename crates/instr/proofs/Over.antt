@@ -5,19 +5,20 @@ use mathlib.Core.List.{List}
 use mathlib.Core.Logic.{⊎-elim}
 use mathlib.Core.Path.{_≡_, refl, sym, ap, subst, _∙_}
 use native.Mathlib.Omega.{arith}
-use lib.Dec.{leb, eqb}
+use lib.Dec.{leb, ltb, eqb}
 use lib.ListN.{length, getD}
-use borrow.Author.Tests.{eq-eqb, ne-eqb}
-use Rattle.card.specs.Card.{DONE, OPCODE}
+use borrow.Author.Tests.{eq-eqb, ne-eqb, eqb-true}
+use Rattle.card.specs.Card.{DONE, SHORT, KIND, OPCODE}
 use Rattle.leb128.specs.Bytes.{bytes}
-use Rattle.opcode.specs.Table.{Row, carried, float, unassigned, PREFIX, rowAt}
-use Rattle.opcode.specs.Immediate.{Immediates, nothing, index, word, long, memory, memoryLane, laneIndex, sixteenBytes, sixteenLanes, immediates, movedBy, lanesOf}
+use Rattle.opcode.specs.BlockType.{isBlockType}
+use Rattle.opcode.specs.Table.{Code, Row, carried, float, unassigned}
+use Rattle.opcode.specs.Immediate.{Immediates, nothing, index, blockType, word, long, memory, memoryLane, laneIndex, sixteenBytes, sixteenLanes, immediates, movedBy, lanesOf}
 use Rattle.opcode.specs.Number.{classNumber, FLOAT, classOf, idOf, rowOf}
 use Rattle.opcode.specs.Entry.{entryOf}
 use Rattle.opcode.proofs.Id.{row-of-id}
 use Rattle.opcode.proofs.Classes.{class-carried, class-float}
 use Rattle.instr.specs.Layout.{Head, head}
-use Rattle.instr.specs.Decode.{refusal, Item, got, no, andThen, andRead, laneAt, lanesAt, sixteenAt, immediatesAt}
+use Rattle.instr.specs.Decode.{refusal, Item, got, no, andThen, andRead, byteAt, laneAt, blockAt, lanesAt, sixteenAt, immediatesAt}
 use Rattle.instr.specs.Scan.{scanOf}
 use Rattle.instr.specs.Inner.Version.{numberBy, exponentBy, immediatesBy, rowBy, bodyBy, opcodeBy, decodeBy}
 use Rattle.instr.specs.Inner.Over.{over, overMemory, overClass, overRow}
@@ -26,8 +27,9 @@ use Rattle.instr.specs.declared.Scanned.{Scanned}
 use Rattle.instr.specs.declared.version.Version.{Version}
 use Rattle.instr.proofs.Classes.{AllBut, decoded, other-class, memory-class}
 use Rattle.instr.proofs.Items.{decode-body}
-use Rattle.instr.proofs.Onward.{Onward, number-onward, exponent-onward, lane-onward, lanes-onward, sixteen-onward}
+use Rattle.instr.proofs.Onward.{Onward, number-onward, exponent-onward, lane-onward, block-onward, lanes-onward, sixteen-onward}
 use Rattle.instr.proofs.Numbers.{number-32}
+use Rattle.instr.proofs.Versions.{carried-by}
 use Rattle.card.specs.Card as card
 
 -- ---- by the class of the row
@@ -90,10 +92,23 @@ module _ (at : ℕ) where
           by (got v q) e = let t = number-32 ver false s p b v q e in omega (arith, t)
           by (no c l) e = tt
 
+      block-fits : Fits at (blockAt s p)
+      unfolding blockAt byteAt
+      block-fits = by (ltb p (length s))
+        where
+          judge : (t : Bool) → Fits at (cond t (got (getD s p 0) (p + 1)) (no KIND p))
+          judge true = (omega (arith, b p), omega arith)
+          judge false = tt
+
+          by : (t : Bool) → Fits at (andRead (cond t (got (getD s p 0) (p + 1)) (no SHORT (length s))) (λ v next. cond (isBlockType v) (got v next) (no KIND p)))
+          by true = judge (isBlockType (getD s p 0))
+          by false = tt
+
       class-fits : (k : Immediates) (m n : ℕ) → Fits at (overClass ver k m n s p)
       unfolding overClass
       class-fits nothing m n = (omega arith, h)
       class-fits index m n = index-fits
+      class-fits blockType m n = block-fits
       class-fits word m n = over-fits (numberBy ver true 32 s p) (number-onward at ver s true 32 p h)
       class-fits long m n = over-fits (numberBy ver true 64 s p) (number-onward at ver s true 64 p h)
       class-fits memory m n = memory-fits false m n p h
@@ -117,6 +132,14 @@ abbrev pub answered : ℕ → ℕ → Item → Scanned
 answered at e (got v next) = record { code = DONE; place = 0; len = next - at; entry = e; index = v }
 answered at e (no c l) = scanOf (refusal c l)
 
+-- a block type is not 0, and where there is none an index is told
+told-block : (v : ℕ) → cond (eqb v 0) 0 v ≡ v
+told-block v = by (eqb v 0) refl
+  where
+    by : (t : Bool) → eqb v 0 ≡ t → cond t 0 v ≡ v
+    by true e = sym (eqb-true v 0 e)
+    by false e = refl
+
 module _ (at : ℕ) (h : Head) where
   then-over : (i : Item) (f : ℕ → ℕ → Decoded) → ((v q : ℕ) → scanOf (f v q) ≡ answered at (entryOf (rowOf (idOf (h .first) (h .number)))) (got 0 q))
       → scanOf (andThen i f) ≡ answered at (entryOf (rowOf (idOf (h .first) (h .number)))) (over i)
@@ -138,6 +161,7 @@ module _ (at : ℕ) (h : Head) where
     unfolding immediatesBy immediatesAt overClass overMemory
     scan-class nothing m n = refl
     scan-class index m n = then-kept (numberBy ver false 32 s p) _ (λ v q. refl)
+    scan-class blockType m n = then-kept (blockAt s p) _ (λ v q. ap (λ (x : ℕ). answered at (entryOf (rowOf (idOf (h .first) (h .number)))) (got x q)) (told-block v))
     scan-class word m n = then-over (numberBy ver true 32 s p) _ (λ v q. refl)
     scan-class long m n = then-over (numberBy ver true 64 s p) _ (λ v q. refl)
     scan-class memory m n = then-read (exponentBy ver m s p) _ _ (λ a q. then-read (numberBy ver false 32 s q) _ _ (λ o r. refl))
@@ -155,16 +179,16 @@ module _ (at : ℕ) (h : Head) where
 
 -- a row that is refused has no entry to tell
 module _ (ver : Version) (s : List ℕ) (at p first n : ℕ) (l : first < 256) where
-  scan-either : (t : Bool) → answered at (entryOf (cond t unassigned (rowAt first n))) (overRow ver (cond t unassigned (rowAt first n)) s at p)
-      ≡ scanOf (bodyBy ver (cond t unassigned (rowAt first n)) s at p (head first n))
-  unfolding bodyBy overRow
-  scan-either true = refl
-  scan-either false =
-      ap (λ (r : Row). answered at (entryOf r) (overRow ver (rowAt first n) s at p)) (sym (row-of-id first n l)) ∙ sym (scan-row at (head first n) ver s p (rowAt first n))
+  scan-either : (r : Row) → ((c : Code) → r ≡ carried c → rowOf (idOf first n) ≡ carried c)
+      → answered at (entryOf r) (overRow ver r s at p) ≡ answered at (entryOf (rowOf (idOf first n))) (overRow ver r s at p)
+  unfolding overRow
+  scan-either (carried c) f = ap (λ (x : Row). answered at (entryOf x) (overRow ver (carried c) s at p)) (sym (f c refl))
+  scan-either float f = refl
+  scan-either unassigned f = refl
 
   scan-body : answered at (entryOf (rowBy ver first n)) (overRow ver (rowBy ver first n) s at p) ≡ scanOf (bodyBy ver (rowBy ver first n) s at p (head first n))
-  unfolding rowBy
-  scan-body = scan-either (eqb first PREFIX && leb (ver .vectors) n)
+  scan-body =
+      scan-either (rowBy ver first n) (λ c f. row-of-id first n l ∙ carried-by ver first n f) ∙ sym (scan-row at (head first n) ver s p (rowBy ver first n))
 
 -- a byte, a number and the rest were read
 pub scanned : (ver : Version) (s : List ℕ) (at : ℕ) → at < length s → bytes s → (n p : ℕ) → opcodeBy ver (getD s at 0) s (at + 1) ≡ got n p

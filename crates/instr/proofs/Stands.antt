@@ -13,15 +13,16 @@ use Rattle.card.specs.Card.{DONE}
 use Rattle.leb128.specs.Bytes.{bytes}
 use Rattle.leb128.specs.Number.{numberAt}
 use Rattle.leb128.specs.declared.read.Leb.the-variants.{Val}
+use Rattle.opcode.specs.BlockType.{isBlockType}
 use Rattle.opcode.specs.Table.{Row, carried, float, unassigned, PREFIX, rowAt}
-use Rattle.opcode.specs.Immediate.{Immediates, nothing, index, word, long, memory, memoryLane, laneIndex, sixteenBytes, sixteenLanes, immediates, movedBy, lanesOf}
-use Rattle.instr.specs.Layout.{Field, u32, s32, s64, raw, Writes, InOrder, opcodeFields, immediateFields, fieldsOf, rowIn, layout, Below, AllowedIn, Allowed, Head, head, zeros, instr, kept, keptOf, headOf, Typed, Stands, found}
-use Rattle.instr.specs.Decode.{done, andThen, byteAt, laneAt, exponentAt, lanesAt, sixteenAt, itemOf, numberItem, immediatesAt, bodyOf, opcodeNumber, decodeAt}
+use Rattle.opcode.specs.Immediate.{Immediates, nothing, index, blockType, word, long, memory, memoryLane, laneIndex, sixteenBytes, sixteenLanes, immediates, movedBy, lanesOf}
+use Rattle.instr.specs.Layout.{Field, u32, s32, s64, raw, Writes, InOrder, opcodeFields, immediateFields, fieldsOf, rowIn, layout, Below, AllowedIn, Allowed, Head, head, zeros, instr, kept, keptOf, headOf, blockInstr, Typed, Stands, found}
+use Rattle.instr.specs.Decode.{done, andThen, byteAt, laneAt, blockAt, exponentAt, lanesAt, sixteenAt, itemOf, numberItem, immediatesAt, bodyOf, opcodeNumber, decodeAt}
 use Rattle.instr.specs.declared.Instr.{Instr}
 use Rattle.instr.specs.declared.Decoded.{Decoded}
 use Rattle.instr.proofs.Decodes.{stands-decodes}
 use Rattle.instr.proofs.Fields.{in-order-append}
-use Rattle.instr.proofs.Finds.{Here, here-none, here-join, here-next, Good, then-got, NumIs, num-got, item-got, ByteIs, byte-got, LaneIs, lane-got, ExponentIs, exponent-got, LanesAre, lanes-got, SixteenAre, sixteen-got, part-bytes}
+use Rattle.instr.proofs.Finds.{Here, here-none, here-join, here-next, Good, then-got, NumIs, num-got, item-got, ByteIs, byte-got, LaneIs, lane-got, BlockIs, block-got, ExponentIs, exponent-got, LanesAre, lanes-got, SixteenAre, sixteen-got, part-bytes}
 
 zeros-bytes : (k : ℕ) → Below 256 (replicate k 0)
 zeros-bytes zero = tt
@@ -65,6 +66,7 @@ module _ (s : List ℕ) (b : bytes s) where
           align = a<;
           offset = o<;
           lane = l<;
+          block = omega arith;
           sixteen = refl;
           bytes = zeros-bytes 16;
         };
@@ -95,6 +97,7 @@ module _ (s : List ℕ) (b : bytes s) where
               align = z;
               offset = z;
               lane = omega arith;
+              block = omega arith;
               sixteen = e;
               bytes = u;
             };
@@ -104,14 +107,47 @@ module _ (s : List ℕ) (b : bytes s) where
           },
         )
 
+    read-block : (q v : ℕ) → v < 256 → isBlockType v ≡ true → Here s p q (λ bs. bs ≡ v ∷ []) → Good s (ReadIn blockType) (done at q (blockInstr h v))
+    unfolding immediateFields AllowedIn
+    read-block q v l t g =
+        let z : 0 < 2 ^ 32 = omega arith in (
+          omega arith,
+          λ _. record {
+            last = q;
+            len = refl;
+            place = refl;
+            first = refl;
+            number = refl;
+            typed = λ f n. record {
+              first = f;
+              number = n;
+              index = z;
+              word = z;
+              long = omega arith;
+              align = z;
+              offset = z;
+              lane = omega arith;
+              block = l;
+              sixteen = refl;
+              bytes = zeros-bytes 16;
+            };
+            allowed = t;
+            lacking = refl;
+            here = here-next s p q q (raw (v ∷ [])) [] g (here-none s q);
+          },
+        )
+
     immediates-got : (k : Immediates) → Good s (ReadIn k) (immediatesAt k m n s at p h)
-    unfolding immediatesAt immediateFields AllowedIn NumIs ExponentIs LaneIs ByteIs LanesAre SixteenAre
+    unfolding immediatesAt immediateFields AllowedIn NumIs ExponentIs LaneIs BlockIs ByteIs LanesAre SixteenAre
     immediates-got nothing =
         read nothing p 0 0 0 0 0 0 (omega arith) (omega arith) (omega arith) (omega arith) (omega arith) (omega arith) tt refl (here-none s p)
     immediates-got index =
         then-got s (NumIs s b false 32 p) (ReadIn index) (numberItem false 32 s p) _ (item-got s b false 32 p (omega arith))
         (λ v q a. read index q v 0 0 0 0 0 (a .0) (omega arith) (omega arith) (omega arith) (omega arith) (omega arith) tt refl
         (here-next s p q q (u32 v) [] (a .3) (here-none s q)))
+    immediates-got blockType =
+        then-got s (BlockIs s b p) (ReadIn blockType) (blockAt s p) _ (block-got s b p)
+        (λ v q a. read-block q v (a .1 .1) (a .0) (a .1 .3))
     immediates-got word =
         then-got s (NumIs s b true 32 p) (ReadIn word) (numberItem true 32 s p) _ (item-got s b true 32 p (omega arith))
         (λ v q a. read word q 0 v 0 0 0 0 (omega arith) (a .0) (omega arith) (omega arith) (omega arith) (omega arith) tt refl
@@ -153,101 +189,102 @@ module _ (s : List ℕ) (b : bytes s) where
   body-got at p h l float = (l, λ z. absurd (omega arith))
   body-got at p h l unassigned = (l, λ z. absurd (omega arith))
 
-  -- the instruction at a place
-  abbrev Whole : ℕ → Decoded → Type 0
-  Whole at d = (d .place ≡ 0) × Stands s at (d .instr) (d .len)
+  module _ (ver : ℕ) where
+    -- the instruction at a place
+    abbrev Whole : ℕ → Decoded → Type 0
+    Whole at d = (d .place ≡ 0) × Stands ver s at (d .instr) (d .len)
 
-  module _ (at p : ℕ) (r : Row) (h : Head) (d : Decoded) (w : Read at p h (Allowed r) (keptOf r h) (fieldsOf r) d) where
-    -- op: the opcode's fields; its bytes stand from at to p
-    whole : (op : List Field) → h .first < 2 ^ 8 → h .number < 2 ^ 32 → Here s at p (InOrder Writes op) → rowIn (d .instr) ≡ r → headOf (d .instr) ≡ h
-        → opcodeFields (d .instr .first) (d .instr .number) ≡ op → Whole at d
-    unfolding layout
-    whole op l n o e k f =
-        let j =
-        here-join s at p (w .last) (InOrder Writes op) (InOrder Writes (fieldsOf r (d .instr))) (InOrder Writes (op ++ fieldsOf r (d .instr)))
-        (λ xs ys a c. in-order-append Writes op (fieldsOf r (d .instr)) xs ys a c) o (w .here) in
-        let lay : layout (d .instr) ≡ op ++ fieldsOf r (d .instr) = ap₂ (λ (x : List Field) (y : Row). x ++ fieldsOf y (d .instr)) f e in (
-          w .place,
-          record {
-            typed = w .typed l n;
-            allowed = subst (λ (x : Row). Allowed x (d .instr)) (sym e) (w .allowed);
-            lacking = ap₂ (λ (x : Row) (y : Head). keptOf x y (d .instr)) e k ∙ w .lacking;
-            bytes = j .0;
-            rest = j .1;
-            here = j .2;
-            long = omega (arith, j .3, w .len);
-            fields = subst (λ (fs : List Field). InOrder Writes fs (j .0)) (sym lay) (j .4);
-          },
+    module _ (at p : ℕ) (r : Row) (h : Head) (d : Decoded) (w : Read at p h (Allowed r) (keptOf r h) (fieldsOf r) d) where
+      -- op: the opcode's fields; its bytes stand from at to p
+      whole : (op : List Field) → h .first < 2 ^ 8 → h .number < 2 ^ 32 → Here s at p (InOrder Writes op) → rowIn ver (d .instr) ≡ r → headOf (d .instr) ≡ h
+          → opcodeFields (d .instr .first) (d .instr .number) ≡ op → Whole at d
+      unfolding layout
+      whole op l n o e k f =
+          let j =
+          here-join s at p (w .last) (InOrder Writes op) (InOrder Writes (fieldsOf r (d .instr))) (InOrder Writes (op ++ fieldsOf r (d .instr)))
+          (λ xs ys a c. in-order-append Writes op (fieldsOf r (d .instr)) xs ys a c) o (w .here) in
+          let lay : layout ver (d .instr) ≡ op ++ fieldsOf r (d .instr) = ap₂ (λ (x : List Field) (y : Row). x ++ fieldsOf y (d .instr)) f e in (
+            w .place,
+            record {
+              typed = w .typed l n;
+              allowed = subst (λ (x : Row). Allowed x (d .instr)) (sym e) (w .allowed);
+              lacking = ap₂ (λ (x : Row) (y : Head). keptOf x y (d .instr)) e k ∙ w .lacking;
+              bytes = j .0;
+              rest = j .1;
+              here = j .2;
+              long = omega (arith, j .3, w .len);
+              fields = subst (λ (fs : List Field). InOrder Writes fs (j .0)) (sym lay) (j .4);
+            },
+          )
+
+    -- what an opcode's numbers fix
+    abbrev HeadIs : Instr → Head → List Field → Type 0
+    HeadIs i h op = (rowIn ver i ≡ rowAt ver (h .first) (h .number)) × (headOf i ≡ h) × (opcodeFields (i .first) (i .number) ≡ op)
+
+    head-vector : (i : Instr) (v n : ℕ) → i .first ≡ v → i .number ≡ n → eqb v PREFIX ≡ true → HeadIs i (head v n) (raw (v ∷ []) ∷ u32 n ∷ [])
+    head-vector i v n e f g =
+        let g′ : eqb (i .first) PREFIX ≡ true = ap (λ (x : ℕ). eqb x PREFIX) e ∙ g in
+        (ap₂ (rowAt ver) e f, rw g′ (ap₂ head e f), rw g′ (ap₂ (λ (x y : ℕ). raw (x ∷ []) ∷ u32 y ∷ []) e f))
+
+    head-plain : (i : Instr) (v : ℕ) → i .first ≡ v → i .number ≡ 0 → eqb v PREFIX ≡ false → HeadIs i (head v 0) (raw (v ∷ []) ∷ [])
+    head-plain i v e f g =
+        let g′ : eqb (i .first) PREFIX ≡ false = ap (λ (x : ℕ). eqb x PREFIX) e ∙ g in
+        (ap₂ (rowAt ver) e f, rw g′ (ap (λ (x : ℕ). head x 0) e), rw g′ (ap (λ (x : ℕ). raw (x ∷ []) ∷ []) e))
+
+    after-vector : (at p q v n : ℕ) → eqb v PREFIX ≡ true → ByteIs s b at v p → NumIs s b false 32 p n q → Good s (Whole at) (bodyOf (rowAt ver v n) s at q (head v n))
+    unfolding ByteIs NumIs
+    after-vector at p q v n e a c =
+        let d = bodyOf (rowAt ver v n) s at q (head v n) in
+        let g = body-got at q (head v n) (omega (arith, a .0)) (rowAt ver v n) in (
+          g .0,
+          λ z.
+              let r = g .1 z in
+              let t = head-vector (d .instr) v n (r .first) (r .number) e in
+              whole at q (rowAt ver v n) (head v n) d r (raw (v ∷ []) ∷ u32 n ∷ []) (a .1) (c .0)
+              (here-next s at p q (raw (v ∷ [])) (u32 n ∷ []) (a .3) (here-next s p q q (u32 n) [] (c .3) (here-none s q)))
+              (t .0) (t .1) (t .2),
         )
 
-  -- what an opcode's numbers fix
-  abbrev HeadIs : Instr → Head → List Field → Type 0
-  HeadIs i h op = (rowIn i ≡ rowAt (h .first) (h .number)) × (headOf i ≡ h) × (opcodeFields (i .first) (i .number) ≡ op)
+    after-plain : (at p v : ℕ) → eqb v PREFIX ≡ false → ByteIs s b at v p → Good s (Whole at) (bodyOf (rowAt ver v 0) s at p (head v 0))
+    unfolding ByteIs
+    after-plain at p v e a =
+        let d = bodyOf (rowAt ver v 0) s at p (head v 0) in
+        let g = body-got at p (head v 0) (omega (arith, a .0)) (rowAt ver v 0) in (
+          g .0,
+          λ z.
+              let r = g .1 z in
+              let t = head-plain (d .instr) v (r .first) (r .number) e in
+              whole at p (rowAt ver v 0) (head v 0) d r (raw (v ∷ []) ∷ []) (a .1) (omega arith)
+              (here-next s at p p (raw (v ∷ [])) [] (a .3) (here-none s p))
+              (t .0) (t .1) (t .2),
+        )
 
-  head-vector : (i : Instr) (v n : ℕ) → i .first ≡ v → i .number ≡ n → eqb v PREFIX ≡ true → HeadIs i (head v n) (raw (v ∷ []) ∷ u32 n ∷ [])
-  head-vector i v n e f g =
-      let g′ : eqb (i .first) PREFIX ≡ true = ap (λ (x : ℕ). eqb x PREFIX) e ∙ g in
-      (ap₂ rowAt e f, rw g′ (ap₂ head e f), rw g′ (ap₂ (λ (x y : ℕ). raw (x ∷ []) ∷ u32 y ∷ []) e f))
+    after-first : (at p v : ℕ) (t : Bool) → eqb v PREFIX ≡ t → ByteIs s b at v p
+        → Good s (Whole at) (andThen (itemOf (length s) p (cond t (numberAt false 32 s p) (Val 0 0))) (λ n q. bodyOf (rowAt ver v n) s at q (head v n)))
+    after-first at p v true e a =
+        then-got s (NumIs s b false 32 p) (Whole at) (itemOf (length s) p (numberAt false 32 s p)) _ (num-got s b false 32 p (omega arith))
+        (λ n q c. after-vector at p q v n e a c)
+    after-first at p v false e a = rw (add-zero p) (after-plain at p v e a)
 
-  head-plain : (i : Instr) (v : ℕ) → i .first ≡ v → i .number ≡ 0 → eqb v PREFIX ≡ false → HeadIs i (head v 0) (raw (v ∷ []) ∷ [])
-  head-plain i v e f g =
-      let g′ : eqb (i .first) PREFIX ≡ false = ap (λ (x : ℕ). eqb x PREFIX) e ∙ g in
-      (ap₂ rowAt e f, rw g′ (ap (λ (x : ℕ). head x 0) e), rw g′ (ap (λ (x : ℕ). raw (x ∷ []) ∷ []) e))
+    pub decode-got : (at : ℕ) → Good s (Whole at) (decodeAt ver s at)
+    unfolding decodeAt opcodeNumber
+    decode-got at =
+        then-got s (ByteIs s b at) (Whole at) (byteAt s at) _ (byte-got s b at)
+        (λ v p a. after-first at p v (eqb v PREFIX) refl a)
 
-  after-vector : (at p q v n : ℕ) → eqb v PREFIX ≡ true → ByteIs s b at v p → NumIs s b false 32 p n q → Good s (Whole at) (bodyOf (rowAt v n) s at q (head v n))
-  unfolding ByteIs NumIs
-  after-vector at p q v n e a c =
-      let d = bodyOf (rowAt v n) s at q (head v n) in
-      let g = body-got at q (head v n) (omega (arith, a .0)) (rowAt v n) in (
-        g .0,
-        λ z.
-            let r = g .1 z in
-            let t = head-vector (d .instr) v n (r .first) (r .number) e in
-            whole at q (rowAt v n) (head v n) d r (raw (v ∷ []) ∷ u32 n ∷ []) (a .1) (c .0)
-            (here-next s at p q (raw (v ∷ [])) (u32 n ∷ []) (a .3) (here-next s p q q (u32 n) [] (c .3) (here-none s q)))
-            (t .0) (t .1) (t .2),
-      )
+    pub decode-exact : (at : ℕ) (i : Instr) (n : ℕ) → (decodeAt ver s at ≡ found n i) ↔ Stands ver s at i n
+    decode-exact at i n = ((λ e. subst (Good s (Whole at)) e (decode-got at) .1 refl .1), stands-decodes ver s at i n)
 
-  after-plain : (at p v : ℕ) → eqb v PREFIX ≡ false → ByteIs s b at v p → Good s (Whole at) (bodyOf (rowAt v 0) s at p (head v 0))
-  unfolding ByteIs
-  after-plain at p v e a =
-      let d = bodyOf (rowAt v 0) s at p (head v 0) in
-      let g = body-got at p (head v 0) (omega (arith, a .0)) (rowAt v 0) in (
-        g .0,
-        λ z.
-            let r = g .1 z in
-            let t = head-plain (d .instr) v (r .first) (r .number) e in
-            whole at p (rowAt v 0) (head v 0) d r (raw (v ∷ []) ∷ []) (a .1) (omega arith)
-            (here-next s at p p (raw (v ∷ [])) [] (a .3) (here-none s p))
-            (t .0) (t .1) (t .2),
-      )
+    -- code 0 says all of it
+    pub decoded-stands : (at : ℕ) → decodeAt ver s at .code ≡ DONE → Stands ver s at (decodeAt ver s at .instr) (decodeAt ver s at .len)
+    decoded-stands at z = decode-got at .1 z .1
 
-  after-first : (at p v : ℕ) (t : Bool) → eqb v PREFIX ≡ t → ByteIs s b at v p
-      → Good s (Whole at) (andThen (itemOf (length s) p (cond t (numberAt false 32 s p) (Val 0 0))) (λ n q. bodyOf (rowAt v n) s at q (head v n)))
-  after-first at p v true e a =
-      then-got s (NumIs s b false 32 p) (Whole at) (itemOf (length s) p (numberAt false 32 s p)) _ (num-got s b false 32 p (omega arith))
-      (λ n q c. after-vector at p q v n e a c)
-  after-first at p v false e a = rw (add-zero p) (after-plain at p v e a)
-
-  pub decode-got : (at : ℕ) → Good s (Whole at) (decodeAt s at)
-  unfolding decodeAt opcodeNumber
-  decode-got at =
-      then-got s (ByteIs s b at) (Whole at) (byteAt s at) _ (byte-got s b at)
-      (λ v p a. after-first at p v (eqb v PREFIX) refl a)
-
-  pub decode-exact : (at : ℕ) (i : Instr) (n : ℕ) → (decodeAt s at ≡ found n i) ↔ Stands s at i n
-  decode-exact at i n = ((λ e. subst (Good s (Whole at)) e (decode-got at) .1 refl .1), stands-decodes s at i n)
-
-  -- code 0 says all of it
-  pub decoded-stands : (at : ℕ) → decodeAt s at .code ≡ DONE → Stands s at (decodeAt s at .instr) (decodeAt s at .len)
-  decoded-stands at z = decode-got at .1 z .1
-
-  -- a place lies in the file, or is its length
-  pub decoded-place : (at : ℕ) → decodeAt s at .place ≤ length s
-  decoded-place at = decode-got at .0
+    -- a place lies in the file, or is its length
+    pub decoded-place : (at : ℕ) → decodeAt ver s at .place ≤ length s
+    decoded-place at = decode-got at .0
 
 -- one instruction stands at a place at most
-pub stands-once : (s : List ℕ) (at : ℕ) (i j : Instr) (n m : ℕ) → Stands s at i n → Stands s at j m → (i ≡ j) × (n ≡ m)
-stands-once s at i j n m a b =
-    let e : found n i ≡ found m j = sym (stands-decodes s at i n a) ∙ stands-decodes s at j m b in
+pub stands-once : (ver : ℕ) (s : List ℕ) (at : ℕ) (i j : Instr) (n m : ℕ) → Stands ver s at i n → Stands ver s at j m → (i ≡ j) × (n ≡ m)
+stands-once ver s at i j n m a b =
+    let e : found n i ≡ found m j = sym (stands-decodes ver s at i n a) ∙ stands-decodes ver s at j m b in
     (ap (λ (d : Decoded). d .instr) e, ap (λ (d : Decoded). d .len) e)

@@ -1,4 +1,4 @@
--- What a version decodes, version 1 decodes to the same: with the table as it is, a version can only turn more away. One with a code for
+-- What the rules of a version decode, its table's version decodes to the same: rules beside the table can only turn more away. One with a code for
 -- padding takes shortest numbers only.
 use Prim.Native.Nat.{ℕ, _+_, _<_}
 use mathlib.Core.Bool.{Bool, true, false, cond, _&&_, _||_}
@@ -19,7 +19,7 @@ use Rattle.leb128.proofs.Bounds.{found}
 use Rattle.leb128.proofs.Forms.{bytes-write, bytes-shortest}
 use Rattle.leb128.proofs.Grammars.{same-bytes}
 use Rattle.opcode.specs.Table.{Row, carried, float, unassigned, PREFIX, rowAt}
-use Rattle.opcode.specs.Immediate.{Immediates, nothing, index, word, long, memory, memoryLane, laneIndex, sixteenBytes, sixteenLanes, immediates, movedBy, lanesOf}
+use Rattle.opcode.specs.Immediate.{Immediates, nothing, index, blockType, word, long, memory, memoryLane, laneIndex, sixteenBytes, sixteenLanes, immediates, movedBy, lanesOf}
 use Rattle.opcode.proofs.Every.{below-or-past}
 use Rattle.instr.specs.Layout.{Head, head}
 use Rattle.instr.specs.Decode.{Item, got, no, andThen, itemOf, numberItem, byteAt, exponentAt, immediatesAt, bodyOf, opcodeNumber, decodeAt}
@@ -86,6 +86,7 @@ module _ (ver : Version) where
     unfolding immediatesBy immediatesAt
     immediates-keep nothing = λ z. refl
     immediates-keep index = then-keeps (numberBy ver false 32 s p) (numberItem false 32 s p) _ _ (number-alike false 32 s p) (λ v q z. refl)
+    immediates-keep blockType = λ z. refl
     immediates-keep word = then-keeps (numberBy ver true 32 s p) (numberItem true 32 s p) _ _ (number-alike true 32 s p) (λ v q z. refl)
     immediates-keep long = then-keeps (numberBy ver true 64 s p) (numberItem true 64 s p) _ _ (number-alike true 64 s p) (λ v q z. refl)
     immediates-keep memory =
@@ -98,9 +99,9 @@ module _ (ver : Version) where
     immediates-keep sixteenBytes = λ z. refl
     immediates-keep sixteenLanes = λ z. refl
 
-  body-keeps : (b n : ℕ) (s : List ℕ) (at p : ℕ) (h : Head) → Keeps (bodyBy ver (rowBy ver b n) s at p h) (bodyOf (rowAt b n) s at p h)
+  body-keeps : (b n : ℕ) (s : List ℕ) (at p : ℕ) (h : Head) → Keeps (bodyBy ver (rowBy ver b n) s at p h) (bodyOf (rowAt (ver .number) b n) s at p h)
   unfolding rowBy bodyBy bodyOf
-  body-keeps b n s at p h = by (eqb b PREFIX && leb (ver .vectors) n) (rowAt b n)
+  body-keeps b n s at p h = by (eqb b PREFIX && leb (ver .vectors) n) (rowAt (ver .number) b n)
     where
       by : (t : Bool) (r : Row) → Keeps (bodyBy ver (cond t unassigned r) s at p h) (bodyOf r s at p h)
       by true r = λ z. absurd (omega (arith, z))
@@ -116,7 +117,7 @@ module _ (ver : Version) where
       by true = number-alike false 32 s p
       by false = inl (ap (got 0) (sym (add-zero p)))
 
-  pub decode-keeps : (s : List ℕ) (at : ℕ) → decodeBy ver s at .code ≡ DONE → decodeBy ver s at ≡ decodeAt s at
+  pub decode-keeps : (s : List ℕ) (at : ℕ) → decodeBy ver s at .code ≡ DONE → decodeBy ver s at ≡ decodeAt (ver .number) s at
   unfolding decodeBy decodeAt
   decode-keeps s at =
       then-keeps (byteAt s at) (byteAt s at) _ _ (inl refl)

@@ -22,7 +22,7 @@ one-fetch κs a e e′ r r′ p q = p ∙ sym q
 pub one-scan : (κs : _) (a : _) (e e′ : _) (r r′ : Scanned) → scan.Post κs a r e → scan.Post κs a r′ e′ → r ≡ r′
 one-scan κs a e e′ r r′ p q = p ∙ sym q
 
-pub one-encoding : (κs : _) (a : _) (e e′ : _) (r r′ : Encoded) → encode.Post κs a r e → encode.Post κs a r′ e′ → (r ≡ r′) × (now (e .1 .0) ≡ now (e′ .1 .0))
+pub one-encoding : (κs : _) (a : _) (e e′ : _) (r r′ : Encoded) → encode.Post κs a r e → encode.Post κs a r′ e′ → (r ≡ r′) × (now (e .1 .1 .0) ≡ now (e′ .1 .1 .0))
 one-encoding κs a e e′ r r′ p q = (p .0 ∙ sym (q .0), p .1 ∙ sym (q .1))
 
 pub one-length : (κs : _) (a : _) (e e′ : _) (n n′ : ℕ) → encoded-len.Post κs a n e → encoded-len.Post κs a n′ e′ → n ≡ n′

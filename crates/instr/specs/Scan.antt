@@ -1,4 +1,6 @@
--- What the check asks of an instruction: whether it can be decoded, what the table says of it, the local that it names, and its length.
+-- What the check asks of an instruction: whether it can be decoded, what the table says of it, the local or the block that it names or its block type, and its length.
+use mathlib.Core.Bool.{cond}
+use lib.Dec.{eqb}
 use Rattle.opcode.specs.Number.{idOf, rowOf}
 use Rattle.opcode.specs.Entry.{entryOf}
 use Rattle.instr.specs.declared.Decoded.{Decoded}
@@ -11,5 +13,5 @@ scanOf d =
       place = d .place;
       len = d .len;
       entry = entryOf (rowOf (idOf (d .instr .first) (d .instr .number)));
-      index = d .instr .index;
+      index = cond (eqb (d .instr .block) 0) (d .instr .index) (d .instr .block);
     }

@@ -2,6 +2,7 @@
 use crate::Decoded;
 use crate::Fetched;
 use crate::Instr;
+use crate::immediates::with_block;
 use crate::immediates::with_bytes;
 use crate::immediates::with_index;
 use crate::immediates::with_lane;
@@ -19,21 +20,24 @@ ghost use Rattle.opcode.specs.Table.{Row};
 ghost use Rattle.opcode.specs.Number.{idOf};
 ghost use Rattle.opcode.specs.Entry.{entryOf, movedIn};
 ghost use Rattle.instr.specs.Layout.{head, instr};
-ghost use Rattle.instr.specs.Decode.{refusal, done, decodeAt};
+ghost use Rattle.instr.specs.Decode.{refusal, done, decodeIn};
 ghost use Rattle.instr.specs.Fetch.{fetchOf};
 ghost use Rattle.instr.specs.Inner.Version.{item, opcodeBy, bodyBy, decodeBy};
 
-pub fn decode(s: &[u8], at: usize) -> Decoded
-    ensures { λ r. ⌜ r ≡ decodeAt (now (s .entry)) at ⌝ }
+pub fn decode(version: u16, s: &[u8], at: usize) -> Decoded
+    ensures { λ r. ⌜ r ≡ decodeIn version (now (s .entry)) at ⌝ }
 {
-    let f = fetch(s, at);
+    let f = fetch(version, s, at);
     f.decoded
 }
 
-pub fn fetch(s: &[u8], at: usize) -> Fetched
-    ensures { λ r. ⌜ r ≡ fetchOf (decodeAt (now (s .entry)) at) ⌝ }
+pub fn fetch(version: u16, s: &[u8], at: usize) -> Fetched
+    ensures { λ r. ⌜ r ≡ fetchOf (decodeIn version (now (s .entry)) at) ⌝ }
 {
-    fetch_by(crate::version::ONE, s, at)
+    if opcode::is_known(version) {
+        return fetch_by(crate::version::by_number(version), s, at);
+    }
+    not_found(refused(card::VERSION, 3))
 }
 
 // By a version's rules.
@@ -87,6 +91,7 @@ pub(crate) fn refused(code: u8, place: usize) -> Decoded
             align: 0,
             offset: 0,
             lane: 0,
+            block: 0,
             bytes: [0; 16],
         },
     }
@@ -122,6 +127,7 @@ pub(crate) fn whole(
             align,
             offset,
             lane,
+            block: 0,
             bytes,
         },
     }
@@ -174,6 +180,7 @@ fn body(
         opcode::LANE => with_lane(s, at, p, first, number, opcode::lanes(entry), 0, 0),
         opcode::BYTES => with_bytes(s, at, p, first, number),
         opcode::LANES => with_lanes(s, at, p, first, number),
+        opcode::BLOCK_TYPE => with_block(s, at, p, first, number),
         opcode::FLOAT => refused(card::FLOAT, at),
         _ => refused(card::OPCODE, at),
     }

@@ -1,5 +1,6 @@
 // Decoding what follows the opcode: one function for each class of immediates. `at` is the instruction's place, `p` that of its first immediate.
 use crate::Decoded;
+use crate::Instr;
 use crate::decoding::refused;
 use crate::decoding::whole;
 use crate::number::Read;
@@ -138,6 +139,37 @@ pub(crate) fn with_lane(
     } else {
         refused(card::LANE, p)
     }
+}
+
+// A block type is one byte.
+pub(crate) fn with_block(s: &[u8], at: usize, p: usize, first: u8, number: u32) -> Decoded
+    requires { ⌜ at ≤ p ⌝ }
+    ensures { λ r. ⌜ r ≡ immediatesAt Class.blockType 0 0 (now (s .entry)) at p (head first number) ⌝ }
+{
+    if s.len() <= p {
+        return refused(card::SHORT, s.len());
+    }
+    let block = s[p];
+    if crate::is_block_type(block) {
+        return Decoded {
+            code: card::DONE,
+            place: 0,
+            len: p + 1 - at,
+            instr: Instr {
+                first,
+                number,
+                index: 0,
+                word: 0,
+                long: 0,
+                align: 0,
+                offset: 0,
+                lane: 0,
+                block,
+                bytes: [0; 16],
+            },
+        };
+    }
+    refused(card::KIND, p)
 }
 
 pub(crate) fn with_bytes(s: &[u8], at: usize, p: usize, first: u8, number: u32) -> Decoded

@@ -1,4 +1,4 @@
-// One instruction: decoded from any place of some bytes, encoded in its shortest form.
+// One instruction: decoded from any place of some bytes, encoded in its shortest form. Each is told the version.
 mod decoding;
 mod encoding;
 mod immediates;
@@ -14,6 +14,7 @@ pub use scanning::scan;
 ghost use mathlib.Core.Path.{_≡_};
 ghost use Prim.Native.Nat.{_≤_, _^_};
 ghost use lib.Dec.{leb};
+ghost use Rattle.opcode.specs.BlockType.{isBlockType};
 
 // The opcode's two numbers and the immediates, those that the instruction lacks zero. `word` and `long` are the bits of a signed number.
 pub struct Instr {
@@ -25,6 +26,7 @@ pub struct Instr {
     pub align: u32,
     pub offset: u32,
     pub lane: u8,
+    pub block: u8,
     pub bytes: [u8; 16],
 }
 
@@ -42,7 +44,7 @@ pub struct Fetched {
     pub decoded: Decoded,
 }
 
-// What the check asks: what the table says of the instruction, and the local that it names.
+// What the check asks: what the table says of the instruction, and the local or block that it names or its block type.
 pub struct Scanned {
     pub code: u8,
     pub place: usize,
@@ -69,4 +71,23 @@ pub(crate) fn wide(x: u8) -> u32
     ensures { λ r. ⌜ r ≡ x ⌝ }
 {
     x as u32
+}
+
+// 40, or the kind of a block's one result.
+pub(crate) fn is_block_type(b: u8) -> bool
+    ensures { λ r. ⌜ r ≡ isBlockType b ⌝ }
+{
+    if b == 0x40 {
+        return true;
+    }
+    if b == opcode::kind::I32 {
+        return true;
+    }
+    if b == opcode::kind::I64 {
+        return true;
+    }
+    if b == opcode::kind::V128 {
+        return true;
+    }
+    false
 }

@@ -1,4 +1,4 @@
-// Scanning: as decoding, for those who ask only what the table says of the instruction, the local that it names and where the next one stands.
+// Scanning: as decoding, for those who ask only what the table says of the instruction, the local or block that it names or its block type, and where the next one stands.
 use crate::Scanned;
 use crate::decoding::opcode_number;
 use crate::immediates::good_lanes;
@@ -12,15 +12,18 @@ ghost use Prim.Native.Nat.{_≤_};
 ghost use lib.ListN.{length};
 ghost use Rattle.opcode.specs.Table.{Row};
 ghost use Rattle.opcode.specs.Entry.{entryOf, movedIn};
-ghost use Rattle.instr.specs.Decode.{refusal, laneAt, lanesAt, sixteenAt, decodeAt};
+ghost use Rattle.instr.specs.Decode.{refusal, laneAt, lanesAt, sixteenAt, blockAt, decodeIn};
 ghost use Rattle.instr.specs.Scan.{scanOf};
 ghost use Rattle.instr.specs.Inner.Version.{item, decodeBy};
 ghost use Rattle.instr.specs.Inner.Over.{over, overMemory, overRow};
 
-pub fn scan(s: &[u8], at: usize) -> Scanned
-    ensures { λ r. ⌜ r ≡ scanOf (decodeAt (now (s .entry)) at) ⌝ }
+pub fn scan(version: u16, s: &[u8], at: usize) -> Scanned
+    ensures { λ r. ⌜ r ≡ scanOf (decodeIn version (now (s .entry)) at) ⌝ }
 {
-    scan_by(crate::version::ONE, s, at)
+    if opcode::is_known(version) {
+        return scan_by(crate::version::by_number(version), s, at);
+    }
+    refused(card::VERSION, 3)
 }
 
 // By a version's rules.
@@ -87,6 +90,7 @@ fn immediates(version: Version, s: &[u8], at: usize, p: usize, entry: u64) -> Re
         opcode::LANE => lane(s, p, opcode::lanes(entry)),
         opcode::BYTES => bytes(s, p),
         opcode::LANES => lanes(s, p),
+        opcode::BLOCK_TYPE => block(s, p),
         opcode::FLOAT => Read::No(card::FLOAT, at),
         _ => Read::No(card::OPCODE, at),
     }
@@ -136,6 +140,20 @@ fn lane(s: &[u8], p: usize, lanes: u32) -> Read
         Read::Got(0, p + 1)
     } else {
         Read::No(card::LANE, p)
+    }
+}
+
+fn block(s: &[u8], p: usize) -> Read
+    ensures { λ r. ⌜ item r ≡ blockAt (now (s .entry)) p ⌝ }
+{
+    if s.len() <= p {
+        return Read::No(card::SHORT, s.len());
+    }
+    let b = s[p];
+    if crate::is_block_type(b) {
+        Read::Got(b as u64, p + 1)
+    } else {
+        Read::No(card::KIND, p)
     }
 }
 

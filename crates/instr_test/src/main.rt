@@ -261,6 +261,7 @@ fn small(
 ) {
     let mut out = [0xEEu8; 2];
     let e = instr::encode(
+        1,
         made(first, number, index, word, long, align, offset, lane, byte),
         &mut out,
     );
@@ -289,12 +290,13 @@ fn made(
         align,
         offset,
         lane,
+        block: 0,
         bytes: [byte; 16],
     }
 }
 
 fn told(s: &[u8], at: usize) -> usize {
-    let d = instr::decode(s, at);
+    let d = instr::decode(1, s, at);
     answer(d.code, d.place, d.len);
     let i = d.instr;
     decimal(i.first as u64);
@@ -308,8 +310,8 @@ fn told(s: &[u8], at: usize) -> usize {
     sixteen(i);
     end_line();
     written(i);
-    scanned(instr::scan(s, at));
-    fetched(instr::fetch(s, at));
+    scanned(instr::scan(1, s, at));
+    fetched(instr::fetch(1, s, at));
     d.len
 }
 
@@ -331,7 +333,7 @@ fn sixteen(i: Instr) {
 
 fn written(i: Instr) {
     let mut out = [0xEEu8; 24];
-    let e = instr::encode(i, &mut out);
+    let e = instr::encode(1, i, &mut out);
     answer(e.code, e.place, e.len);
     hex(&out);
     end_line();

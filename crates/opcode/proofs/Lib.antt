@@ -10,3 +10,4 @@ pub mod Effects
 pub mod Groups
 pub mod Entries
 pub mod Unique
+pub mod Versions

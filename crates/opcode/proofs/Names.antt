@@ -7,7 +7,7 @@ use mathlib.Core.Logic.{⊎-elim}
 use lib.Dec.{T}
 use lib.Text.{eqt, eqt→eq}
 use Rattle.operation.specs.Op.{Op}
-use Rattle.opcode.specs.Table.{plain, vector, Row, carried, float, unassigned, vectors, vectorAt, vectorName}
+use Rattle.opcode.specs.Table.{plain, control, vector, Row, carried, float, unassigned, vectors, vectorAt, vectorName}
 use Rattle.opcode.specs.Lists.{upFrom}
 use Rattle.opcode.specs.Names.{nameOfOp}
 use Rattle.opcode.proofs.Every.{every, below, below-or-past}
@@ -15,6 +15,7 @@ use Rattle.opcode.proofs.Rows.{vector-beyond}
 
 abbrev named : Row → String → Bool
 named (carried (plain p)) t = true
+named (carried (control k)) t = true
 named (carried (vector o)) t = eqt t (nameOfOp o)
 named float t = true
 named unassigned t = true

@@ -7,9 +7,16 @@ use lib.ListN.{length, getD, length-append, length-map, List·getD-append}
 use lib.Seq.{getD-append-add}
 use Rattle.limits.specs.Limits.{parameterLimit, localLimit, resultLimit}
 use Rattle.opcode.specs.Kind.{Kind, i32, kindByte}
-use Rattle.rules.specs.Header.{Header, Declares, mark, version, counts, headerBytes, locals, kinds}
+use Rattle.rules.specs.Header.{Version, one, two, Header, Declares, mark, versionBytes, counts, headerBytes, locals, kinds}
+
+version-small : {v : ℕ} → Version v → v ≤ 2
+version-small one = omega arith
+version-small two = omega arith
 
 module _ {s : List ℕ} {h : Header} (d : Declares s h) where
+  pub version-read : getD s 3 0 ≡ h .version
+  version-read = ap (λ (x : List ℕ). getD x 3 0) (d .bytes)
+
   pub parameter-count : getD s 5 0 ≡ length (h .parameters)
   parameter-count = ap (λ (x : List ℕ). getD x 5 0) (d .bytes)
 
@@ -32,7 +39,7 @@ module _ {s : List ℕ} {h : Header} (d : Declares s h) where
   -- the kind byte of a parameter
   pub parameter-kind : (j : ℕ) → j < length (h .parameters) → getD s (8 + j) 0 ≡ kindByte (getD (h .parameters) j i32)
   parameter-kind j l =
-      ap (λ (x : List ℕ). getD x (8 + j) 0) (d .bytes) ∙ getD-append-add (mark ++ version ++ counts h) (map kindByte (kinds h) ++ d .body) j 0
+      ap (λ (x : List ℕ). getD x (8 + j) 0) (d .bytes) ∙ getD-append-add (mark ++ versionBytes (h .version) ++ counts h) (map kindByte (kinds h) ++ d .body) j 0
       ∙ List·getD-append (map kindByte (kinds h)) (d .body) 0 j (omega (arith, length-map (kinds h) kindByte, all-kinds)) ∙ first (kinds h) j
       (omega (arith, all-kinds)) ∙ ap kindByte (List·getD-append (locals h) (h .results) i32 j (omega (arith, length-append (h .parameters) (h .further))) ∙ List·getD-append (h .parameters) (h .further) i32 j l)
     where
@@ -44,6 +51,7 @@ module _ {s : List ℕ} {h : Header} (d : Declares s h) where
   -- the three counts, small enough for any sum of them
   pub record Counts : Type 0 where
     pub long : 8 ≤ length s
+    pub version : getD s 3 0 ≤ 2
     pub parameters : getD s 5 0 ≤ parameterLimit
     pub further : getD s 6 0 ≤ localLimit
     pub results : getD s 7 0 ≤ resultLimit
@@ -53,6 +61,7 @@ module _ {s : List ℕ} {h : Header} (d : Declares s h) where
   counts-read =
       record {
         long = omega (arith, start, inside);
+        version = omega (arith, version-read, version-small (d .known));
         parameters = omega (arith, parameter-count, d .few .parameters);
         further = omega (arith, further-count, d .few .further);
         results = omega (arith, result-count, d .few .results);

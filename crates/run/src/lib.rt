@@ -1,5 +1,6 @@
 // A run with a budget: what is asked first, then the instructions.
 mod arguments;
+mod blocks;
 mod running;
 
 ghost use mathlib.Core.Path.{_≡_};
@@ -17,6 +18,14 @@ pub(crate) struct Locals {
     pub bytes: [u8; limits::LOCAL_BYTES],
     pub count: usize,
 }
+
+// The blocks that are open: three numbers for each, the outermost first.
+pub(crate) struct Labels {
+    pub marks: [usize; MARKS],
+    pub nest: usize,
+}
+
+pub(crate) const MARKS: usize = 3 * limits::NEST;
 
 pub fn run(strip: &[u8], args: &[u8], mem: &mut [u8], results: &mut [u8], budget: u32) -> Answer
     ensures { λ r. ⌜ Runs (now (strip .entry)) (now (args .entry)) (now (mem .entry)) (now (results .entry)) budget (leaves (r .code) (r .place) (r .steps) (now (mem .exit)) (now (results .exit))) ⌝ }

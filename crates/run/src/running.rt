@@ -1,18 +1,29 @@
 // The instructions, one after the other, until `end`, a trap or the budget.
 ghost use mathlib.Core.Path.{_≡_};
-ghost use Prim.Native.Nat.{_≤_};
-ghost use lib.ListN.{length, take};
+ghost use Prim.Native.Nat.{_+_, _*_, _≤_};
+ghost use lib.ListN.{length};
 ghost use Rattle.run.specs.Inner.Steps.{Ready, Drove};
-ghost use Rattle.run.specs.Meter.{leaves};
+ghost use Rattle.run.specs.Inner.Carried.{Carries, Going};
+ghost use Rattle.run.specs.Meter.{leaves, meter};
+ghost use Rattle.limits.specs.Limits.{slot, stackLimit, stackBytes};
 ghost use Rattle.opcode.specs.Number.{rowOf};
 ghost use Rattle.opcode.specs.Entry.{entryOf};
+ghost use Rattle.machine.specs.Memory.{part};
 ghost use Rattle.machine.specs.Inner.Fit.{Ready as Apt, DidBy};
+ghost use Rattle.rules.specs.Strip.{Valid};
+ghost use Rattle.standard.specs.Standard.{Config};
+use crate::Labels;
 use crate::Stack;
 use crate::arguments::locals_of;
+use crate::blocks;
 use card::Answer;
 use instr::Instr;
 use machine::Bounds;
 
+// Instructions are read by the latest version: one that a strip's own version has is the same there, and the check has asked for others.
+const LATEST: u16 = 2;
+
+// From the first instruction, with the arguments as locals and a zeroed stack.
 pub(crate) fn drive(
     strip: &[u8],
     args: &[u8],
@@ -28,8 +39,45 @@ pub(crate) fn drive(
         bytes: [0u8; limits::STACK_BYTES],
         depth: 0,
     };
+    let mut labels = Labels {
+        marks: [0usize; crate::MARKS],
+        nest: 0,
+    };
     let mut locals = locals_of(args, count);
-    let mut at = 8 + count + strip[7] as usize;
+    let at = 8 + count + strip[7] as usize;
+    go_on(
+        strip,
+        mem,
+        results,
+        budget,
+        at,
+        &mut stack.bytes,
+        0,
+        &mut labels.marks,
+        0,
+        &mut locals.bytes,
+    )
+}
+
+// From any place, with the stack, the open blocks and the locals there.
+pub(crate) fn go_on(
+    strip: &[u8],
+    mem: &mut [u8],
+    results: &mut [u8],
+    budget: u32,
+    place: usize,
+    stack: &mut [u8; limits::STACK_BYTES],
+    values: usize,
+    marks: &mut [usize; crate::MARKS],
+    levels: usize,
+    locals: &mut [u8; limits::LOCAL_BYTES],
+) -> Answer
+    requires { ⌜ Going (now strip) (now results) place values levels (now stack) (now marks) (now locals) (now mem) ⌝ }
+    ensures { λ r. ⌜ ((v : Valid (now (strip .entry))) (c : Config) → Carries (now (strip .entry)) (v .header) c place values levels (now (stack .entry)) (now (marks .entry)) (now (locals .entry)) (now (mem .entry)) → leaves (r .code) (r .place) (r .steps) (now (mem .exit)) (now (results .exit)) ≡ meter (now (strip .entry)) (v .header) budget 0 c (now (results .entry))) ⌝ }
+{
+    let mut at = place;
+    let mut depth = values;
+    let mut nest = levels;
     let mut steps: u32 = 0;
     loop {
         if steps == budget {
@@ -39,65 +87,61 @@ pub(crate) fn drive(
                 steps,
             };
         }
-        let f = instr::fetch(strip, at);
+        let f = instr::fetch(LATEST, strip, at);
         let d = f.decoded;
         let i = d.instr;
-        if opcode::group(f.entry) == opcode::GROUP_END {
-            put_results(&stack.bytes, results);
-            return Answer {
-                code: card::DONE,
-                place: 0,
-                steps: steps + 1,
-            };
-        }
-        let depth = stack.depth;
-        match machine::bounds(f.id, f.entry, i, &stack.bytes, depth, mem.len()) {
-            Bounds::Clear => {
-                stack.depth = exec(
-                    f.id,
-                    f.entry,
-                    i,
-                    &mut stack.bytes,
-                    depth,
-                    &mut locals.bytes,
-                    mem,
-                );
-                at += d.len;
-                steps += 1;
+        let group = opcode::group(f.entry);
+        if blocks::turns(group) {
+            let t = blocks::turn(
+                strip,
+                group,
+                i.index,
+                i.block,
+                at,
+                d.len,
+                stack,
+                depth,
+                marks,
+                nest,
+            );
+            if t.at == 0 {
+                put_results(stack, t.depth, results);
+                return Answer {
+                    code: card::DONE,
+                    place: 0,
+                    steps: steps + 1,
+                };
             }
-            Bounds::Past(_) => return Answer {
-                code: card::TRAP,
-                place: at,
-                steps,
-            },
+            at = t.at;
+            depth = t.depth;
+            nest = t.nest;
+            steps += 1;
+        } else {
+            match machine::bounds(f.id, f.entry, i, stack, depth, mem.len()) {
+                Bounds::Clear => {
+                    depth = machine::exec(f.id, f.entry, i, stack, depth, locals, mem);
+                    at += d.len;
+                    steps += 1;
+                }
+                Bounds::Past(_) => return Answer {
+                    code: card::TRAP,
+                    place: at,
+                    steps,
+                },
+            }
         }
     }
 }
 
-// The machine's own, lent the two arrays.
-fn exec(
-    id: u32,
-    entry: u64,
-    i: Instr,
-    stack: &mut [u8; limits::STACK_BYTES],
-    depth: usize,
-    locals: &mut [u8; limits::LOCAL_BYTES],
-    mem: &mut [u8],
-) -> usize
-    requires { ⌜ (entry ≡ entryOf (rowOf id)) × Apt id i (now stack) depth (now locals) (now mem) ⌝ }
-    ensures { λ r. ⌜ DidBy id i (now (stack .entry)) depth (now (locals .entry)) (now (mem .entry)) r (now (stack .exit)) (now (locals .exit)) (now (mem .exit)) ⌝ }
+// The values from a slot on, the lowest first.
+fn put_results(stack: &[u8], from: usize, out: &mut [u8])
+    requires { ⌜ (from ≤ stackLimit) × (slot * from + length (now out) ≤ length (now stack)) ⌝ }
+    ensures { λ r. ⌜ now (out .exit) ≡ part (length (now (out .entry))) (slot * from) (now (stack .entry)) ⌝ }
 {
-    machine::exec(id, entry, i, stack, depth, locals, mem)
-}
-
-// The stack's values, the lowest first.
-fn put_results(stack: &[u8], out: &mut [u8])
-    requires { ⌜ length (now out) ≤ length (now stack) ⌝ }
-    ensures { λ r. ⌜ now (out .exit) ≡ take (length (now (out .entry))) (now (stack .entry)) ⌝ }
-{
+    let first = limits::SLOT * from;
     let mut k: usize = 0;
     while k < out.len() {
-        out[k] = stack[k];
+        out[k] = stack[first + k];
         k += 1;
     }
 }

@@ -1,11 +1,11 @@
--- Inner: scanning goes over what follows the opcode, as Version has it for decoding, and keeps of it only the index of a local.
+-- Inner: scanning goes over what follows the opcode, as Version has it for decoding, and keeps of it only an index or a block type.
 use Prim.Native.Nat.{ℕ}
 use mathlib.Core.Bool.{Bool, true, false, cond}
 use mathlib.Core.List.{List}
 use Rattle.card.specs.Card.{OPCODE, FLOAT}
 use Rattle.opcode.specs.Table.{Row, carried, float, unassigned}
-use Rattle.opcode.specs.Immediate.{Immediates, nothing, index, word, long, memory, memoryLane, laneIndex, sixteenBytes, sixteenLanes, immediates, movedBy, lanesOf}
-use Rattle.instr.specs.Decode.{Item, got, no, andRead, laneAt, lanesAt, sixteenAt}
+use Rattle.opcode.specs.Immediate.{Immediates, nothing, index, blockType, word, long, memory, memoryLane, laneIndex, sixteenBytes, sixteenLanes, immediates, movedBy, lanesOf}
+use Rattle.instr.specs.Decode.{Item, got, no, andRead, laneAt, blockAt, lanesAt, sixteenAt}
 use Rattle.instr.specs.Inner.Version.{numberBy, exponentBy}
 use Rattle.instr.specs.declared.version.Version.{Version}
 
@@ -25,6 +25,7 @@ overMemory ver laned m n s p =
 unfoldable pub overClass : Version → Immediates → ℕ → ℕ → List ℕ → ℕ → Item
 overClass ver nothing m n s p = got 0 p
 overClass ver index m n s p = numberBy ver false 32 s p
+overClass ver blockType m n s p = blockAt s p
 overClass ver word m n s p = over (numberBy ver true 32 s p)
 overClass ver long m n s p = over (numberBy ver true 64 s p)
 overClass ver memory m n s p = overMemory ver false m n s p

@@ -1,5 +1,5 @@
--- Inner: decoding and encoding one instruction by a version's rules, as Decode and Encode have them for version 1. What differs is a
--- number that is padded, and which numbers after FD are assigned.
+-- Inner: decoding and encoding one instruction by a version's rules, as Decode and Encode have them for versions 1 and 2. What differs is a
+-- number that is padded, and which opcodes are assigned.
 use Prim.Native.Nat.{ℕ, _+_, _^_}
 use mathlib.Core.Bool.{Bool, true, false, cond, _&&_, _||_}
 use mathlib.Core.List.{List, _++_}
@@ -8,7 +8,7 @@ use lib.ListN.{length, drop}
 use Rattle.card.specs.Card.{DONE, OPCODE, FLOAT, ALIGN, SMALL}
 use Rattle.leb128.specs.Shortest.{bytesOf}
 use Rattle.opcode.specs.Table.{Row, carried, float, unassigned, PREFIX, rowAt}
-use Rattle.opcode.specs.Immediate.{Immediates, nothing, index, word, long, memory, memoryLane, laneIndex, sixteenBytes, sixteenLanes, immediates, movedBy, lanesOf}
+use Rattle.opcode.specs.Immediate.{Immediates, nothing, index, blockType, word, long, memory, memoryLane, laneIndex, sixteenBytes, sixteenLanes, immediates, movedBy, lanesOf}
 use Rattle.instr.specs.Layout.{Head, head, zeros, instr}
 use Rattle.instr.specs.Decode.{refusal, done, Item, got, no, andThen, andRead, numberItem, byteAt, laneAt, immediatesAt}
 use Rattle.instr.specs.Encode.{encoding, faultOf, answer}
@@ -19,9 +19,9 @@ use Rattle.instr.specs.declared.version.Version.{Version}
 use Rattle.instr.specs.declared.number.Read.{Read}
 use Rattle.instr.specs.declared.number.Read.the-variants.{Got, No}
 
--- version 1: padding is welcome, and FD has 256 numbers
-abbrev pub one : Version
-one = record { padded = DONE; vectors = 256 }
+-- versions 1 and 2: padding is welcome, and FD has 256 numbers
+abbrev pub of : ℕ → Version
+of v = record { number = v; padded = DONE; vectors = 256 }
 
 -- the code's answer as an item
 abbrev pub item : Read → Item
@@ -43,6 +43,7 @@ exponentBy ver m s at = andRead (numberBy ver false 32 s at) (λ a next. cond (l
 unfoldable pub immediatesBy : Version → Immediates → ℕ → ℕ → List ℕ → ℕ → ℕ → Head → Decoded
 immediatesBy ver nothing m n s at p h = immediatesAt nothing m n s at p h
 immediatesBy ver index m n s at p h = andThen (numberBy ver false 32 s p) (λ v q. done at q (instr h v 0 0 0 0 0 zeros))
+immediatesBy ver blockType m n s at p h = immediatesAt blockType m n s at p h
 immediatesBy ver word m n s at p h = andThen (numberBy ver true 32 s p) (λ v q. done at q (instr h 0 v 0 0 0 0 zeros))
 immediatesBy ver long m n s at p h = andThen (numberBy ver true 64 s p) (λ v q. done at q (instr h 0 0 v 0 0 0 zeros))
 immediatesBy ver memory m n s at p h =
@@ -58,9 +59,9 @@ immediatesBy ver laneIndex m n s at p h = immediatesAt laneIndex m n s at p h
 immediatesBy ver sixteenBytes m n s at p h = immediatesAt sixteenBytes m n s at p h
 immediatesBy ver sixteenLanes m n s at p h = immediatesAt sixteenLanes m n s at p h
 
--- the table's row, where the version assigns the number after FD
+-- the version's row, where it assigns the number after FD
 unfoldable pub rowBy : Version → ℕ → ℕ → Row
-rowBy ver first n = cond (eqb first PREFIX && leb (ver .vectors) n) unassigned (rowAt first n)
+rowBy ver first n = cond (eqb first PREFIX && leb (ver .vectors) n) unassigned (rowAt (ver .number) first n)
 
 unfoldable pub bodyBy : Version → Row → List ℕ → ℕ → ℕ → Head → Decoded
 bodyBy ver (carried c) s at p h = immediatesBy ver (immediates c) (movedBy (carried c)) (lanesOf (carried c)) s at p h

@@ -1,7 +1,7 @@
 -- Each class has its function; the class is the row's.
 use borrow.Author.Needs.{needs}
 use mathlib.Core.Path.{sym, _∙_, refl}
-use Rattle.opcode.specs.Immediate.{nothing, index, word, long, sixteenBytes, sixteenLanes}
+use Rattle.opcode.specs.Immediate.{nothing, index, blockType, word, long, sixteenBytes, sixteenLanes}
 use Rattle.opcode.proofs.Entries.{class-in, moved-in, lanes-in}
 use Rattle.instr.specs.Decode.{immediatesAt}
 use Rattle.instr.specs.Inner.Version.{immediatesBy}
@@ -35,6 +35,9 @@ with-bytes-requires c κs = search needs
 
 with-lanes-requires : tie.Need-with-lanes-requires
 with-lanes-requires c κs = search needs
+
+with-block-requires : tie.Need-with-block-requires
+with-block-requires c κs = search needs
 
 refused-requires : tie.Need-refused-requires
 refused-requires c κs = search needs
@@ -87,11 +90,16 @@ returns-7 c row is =
     c .with-lanes .ensures ∙ sym (body-class row sixteenLanes (class-at row _ (c .before .before .immediates .ensures ∙ class-in row is) (c .before .match .keys7)) _ _ _ _ _)
 
 returns-8 : tie.Need-returns-8
+unfolding immediatesBy immediatesAt
 returns-8 c row is =
-    c .refused .ensures ∙ sym (body-float row (class-at row _ (c .before .before .immediates .ensures ∙ class-in row is) (c .before .match .keys8)) _ _ _ _ _)
+    c .with-block .ensures ∙ sym (body-class row blockType (class-at row _ (c .before .before .immediates .ensures ∙ class-in row is) (c .before .match .keys8)) _ _ _ _ _)
 
 returns-9 : tie.Need-returns-9
 returns-9 c row is =
+    c .refused .ensures ∙ sym (body-float row (class-at row _ (c .before .before .immediates .ensures ∙ class-in row is) (c .before .match .keys9)) _ _ _ _ _)
+
+returns-10 : tie.Need-returns-10
+returns-10 c row is =
     let at-immediates = c .before .before .before .before .before in
     let at-match = c .before .before .before .before in
     let at-if1 = c .before .before .before in
@@ -99,8 +107,8 @@ returns-9 c row is =
     (c .before .lanes2 .ensures ∙ lanes-in row is) refl (at-match .match .rest)
     (at-if1 .if1 .taken)
 
-returns-10 : tie.Need-returns-10
-returns-10 c row is =
+returns-11 : tie.Need-returns-11
+returns-11 c row is =
     let at-immediates = c .before .before .before in
     c .refused2 .ensures ∙ sym (body-none row _ (at-immediates .immediates .ensures ∙ class-in row is) _ _ _ _ _ (c .before .before .match .rest) (c .before .if1 .left))
 
@@ -117,6 +125,7 @@ body-spec =
     with-lane-requires
     with-bytes-requires
     with-lanes-requires
+    with-block-requires
     refused-requires
     moved-requires
     lanes-requires-2
@@ -131,4 +140,5 @@ body-spec =
     returns-7
     returns-8
     returns-9
-    returns-10)
+    returns-10
+    returns-11)

@@ -1,7 +1,7 @@
 -- Each class has its function; the class is the row's.
 use borrow.Author.Needs.{needs}
 use mathlib.Core.Path.{sym, ap, _∙_}
-use Rattle.opcode.specs.Immediate.{nothing, index, word, long, laneIndex, sixteenBytes, sixteenLanes}
+use Rattle.opcode.specs.Immediate.{nothing, index, blockType, word, long, laneIndex, sixteenBytes, sixteenLanes}
 use Rattle.opcode.proofs.Entries.{class-in, moved-in, lanes-in}
 use Rattle.instr.specs.Inner.Over.{over, overClass}
 use Rattle.instr.proofs.Over.{over-class, over-float, over-none, over-memory}
@@ -37,6 +37,9 @@ bytes-requires c κs = search needs
 
 lanes-requires-2 : tie.Need-lanes-requires-2
 lanes-requires-2 c κs = search needs
+
+block-requires : tie.Need-block-requires
+block-requires c κs = search needs
 
 moved-requires : tie.Need-moved-requires
 moved-requires c κs = search needs
@@ -76,15 +79,19 @@ unfolding overClass
 returns-7 c row is = c .lanes2 .ensures ∙ sym (over-class _ _ _ _ _ sixteenLanes (sym (c .before .before .immediates .ensures ∙ class-in row is) ∙ c .before .match .keys7))
 
 returns-8 : tie.Need-returns-8
-returns-8 c row is = sym (over-float _ _ _ _ _ (sym (c .before .immediates .ensures ∙ class-in row is) ∙ c .match .keys8))
+unfolding overClass
+returns-8 c row is = c .block .ensures ∙ sym (over-class _ _ _ _ _ blockType (sym (c .before .before .immediates .ensures ∙ class-in row is) ∙ c .before .match .keys8))
 
 returns-9 : tie.Need-returns-9
-returns-9 c row is =
+returns-9 c row is = sym (over-float _ _ _ _ _ (sym (c .before .immediates .ensures ∙ class-in row is) ∙ c .match .keys9))
+
+returns-10 : tie.Need-returns-10
+returns-10 c row is =
     rw (c .before .before .moved .ensures ∙ moved-in row is, c .before .lanes3 .ensures ∙ lanes-in row is) at (c .memory .ensures)
     ∙ sym (over-memory _ _ _ _ _ _ (c .before .before .before .before .before .immediates .ensures ∙ class-in row is) (c .before .before .before .before .match .rest) (c .before .before .before .if1 .taken))
 
-returns-10 : tie.Need-returns-10
-returns-10 c row is = sym (over-none _ _ _ _ _ _ (c .before .before .immediates .ensures ∙ class-in row is) (c .before .match .rest) (c .if1 .left))
+returns-11 : tie.Need-returns-11
+returns-11 c row is = sym (over-none _ _ _ _ _ _ (c .before .before .immediates .ensures ∙ class-in row is) (c .before .match .rest) (c .if1 .left))
 
 pub immediates-spec : {M : Type 1} → statement M
 immediates-spec =
@@ -100,6 +107,7 @@ immediates-spec =
     lane-requires
     bytes-requires
     lanes-requires-2
+    block-requires
     moved-requires
     lanes-requires-3
     memory-requires
@@ -112,4 +120,5 @@ immediates-spec =
     returns-7
     returns-8
     returns-9
-    returns-10)
+    returns-10
+    returns-11)

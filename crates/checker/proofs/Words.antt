@@ -1,0 +1,85 @@
+-- A block's type and its word.
+use Prim.Native.Nat.{ℕ, _/_, _%_, _≤_, _<_}
+use mathlib.Core.Path.{_≡_, refl, sym, ap, subst, _∙_}
+use mathlib.Core.Bool.{Bool, true, false, _||_}
+use mathlib.Core.List.{map}
+use native.Mathlib.Omega.{arith}
+use borrow.Author.Tests.{eqb-true}
+use lib.Dec.{eqb}
+use lib.ListN.{length}
+use Rattle.operation.specs.Vector.{number}
+use Rattle.opcode.specs.Kind.{Kind, i32, i64, v128, kindByte}
+use Rattle.opcode.specs.BlockType.{isBlockType, blockResults}
+use Rattle.checker.specs.Inner.Blocks.{bit, word, topFirst, block}
+
+-- ---- block types
+
+data BlockType : ℕ → Type 0 where
+  empty : BlockType 0x40
+  kind : (k : Kind) → BlockType (kindByte k)
+
+block-type : (b : ℕ) → isBlockType b ≡ true → BlockType b
+block-type b e = by (eqb b 0x40) (eqb b 0x7F) (eqb b 0x7E) (eqb b 0x7B) refl refl refl refl e
+  where
+    by : (p q r t : Bool) → eqb b 0x40 ≡ p → eqb b 0x7F ≡ q → eqb b 0x7E ≡ r → eqb b 0x7B ≡ t → (((p || q) || r) || t) ≡ true → BlockType b
+    by true q r t ep eq er et z = subst BlockType (sym (eqb-true b 0x40 ep)) empty
+    by false true r t ep eq er et z = subst BlockType (sym (eqb-true b 0x7F eq)) (kind i32)
+    by false false true t ep eq er et z = subst BlockType (sym (eqb-true b 0x7E er)) (kind i64)
+    by false false false true ep eq er et z = subst BlockType (sym (eqb-true b 0x7B et)) (kind v128)
+    by false false false false ep eq er et z = absurd (let no : _≡_ {A = ℕ} 0 1 = cc in omega arith)
+
+-- a byte, 0 not among them, of one result at most
+record Typed-byte (b : ℕ) : Type 0 where
+  small : b < 256
+  some : b ≡ 0 → ⊥
+  few : length (blockResults b) ≤ 1
+  none : b ≡ 0x40 → 0 ≡ topFirst (blockResults b)
+  one : (b ≡ 0x40 → ⊥) → b ≡ topFirst (blockResults b)
+  up : number (map kindByte (blockResults b)) ≡ topFirst (blockResults b)
+
+type-facts : {b : ℕ} → BlockType b → Typed-byte b
+type-facts empty = record { small = omega arith; some = λ e. omega arith; few = omega arith; none = λ e. refl; one = λ f. absurd (f refl); up = refl }
+type-facts (kind i32) = record { small = omega arith; some = λ e. omega arith; few = omega arith; none = λ e. absurd (omega arith); one = λ f. refl; up = refl }
+type-facts (kind i64) = record { small = omega arith; some = λ e. omega arith; few = omega arith; none = λ e. absurd (omega arith); one = λ f. refl; up = refl }
+type-facts (kind v128) = record { small = omega arith; some = λ e. omega arith; few = omega arith; none = λ e. absurd (omega arith); one = λ f. refl; up = refl }
+
+pub type-small : (b : ℕ) → isBlockType b ≡ true → b < 256
+type-small b e = type-facts (block-type b e) .small
+
+pub type-some : (b : ℕ) → isBlockType b ≡ true → b ≡ 0 → ⊥
+type-some b e = type-facts (block-type b e) .some
+
+pub type-few : (b : ℕ) → isBlockType b ≡ true → length (blockResults b) ≤ 1
+type-few b e = type-facts (block-type b e) .few
+
+pub type-none : (b : ℕ) → isBlockType b ≡ true → b ≡ 0x40 → 0 ≡ topFirst (blockResults b)
+type-none b e = type-facts (block-type b e) .none
+
+pub type-one : (b : ℕ) → isBlockType b ≡ true → (b ≡ 0x40 → ⊥) → b ≡ topFirst (blockResults b)
+type-one b e = type-facts (block-type b e) .one
+
+pub type-up : (b : ℕ) → isBlockType b ≡ true → number (map kindByte (blockResults b)) ≡ topFirst (blockResults b)
+type-up b e = type-facts (block-type b e) .up
+
+-- ---- the parts of a word
+
+pub bit-small : (b : Bool) → bit b ≤ 1
+bit-small true = omega arith
+bit-small false = omega arith
+
+bit-of : (b : Bool) → eqb (bit b) 1 ≡ b
+bit-of true = refl
+bit-of false = refl
+
+module _ (floor type : ℕ) (loop dead : Bool) (lf : floor < 256) (lt : type < 256) {w : ℕ} (e : w ≡ word floor type loop dead) where
+  pub word-floor : w % 256 ≡ floor
+  word-floor = omega (arith, e, lf, lt, bit-small loop, bit-small dead)
+
+  pub word-type : w / 256 % 256 ≡ type
+  word-type = omega (arith, e, lf, lt, bit-small loop, bit-small dead)
+
+  pub word-loop : eqb (w / 65536 % 256) 1 ≡ loop
+  word-loop = ap (λ (x : ℕ). eqb x 1) (let z : w / 65536 % 256 ≡ bit loop = omega (arith, e, lf, lt, bit-small loop, bit-small dead) in z) ∙ bit-of loop
+
+  pub word-dead : eqb (w / 16777216) 1 ≡ dead
+  word-dead = ap (λ (x : ℕ). eqb x 1) (let z : w / 16777216 ≡ bit dead = omega (arith, e, lf, lt, bit-small loop, bit-small dead) in z) ∙ bit-of dead

@@ -1,0 +1,12 @@
+use Rattle.checker.proofs.Words.{word-dead}
+use Rattle.checker.proofs.blocks.dead_in.Statement.{statement}
+use Rattle.checker.proofs.blocks.dead_in.Tie as tie
+use Rattle.checker.proofs.blocks.dead_in.Reads as reads
+use Rattle.checker.proofs.blocks.dead_in.Lts as lts
+
+-- src/blocks.rt:38:1
+returns : tie.Need-returns
+returns c = λ floor type loop dead lf lt e. word-dead floor type loop dead lf lt e
+
+pub dead-in-spec : {M : Type 1} → statement M
+dead-in-spec = tie.close (tie.spec returns)

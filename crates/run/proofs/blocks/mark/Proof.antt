@@ -1,0 +1,78 @@
+-- Three numbers, one after the other.
+use native.Mathlib.Omega.{arith}
+use lib.ListN.{length-set}
+use borrow.Author.Needs.{needs}
+use Rattle.run.proofs.blocks.mark.Statement.{statement}
+use Rattle.run.proofs.blocks.mark.Tie as tie
+use Rattle.run.proofs.blocks.mark.Reads as reads
+use Rattle.run.proofs.blocks.mark.Lts as lts
+
+-- src/blocks.rt:100:11
+mul-marks : tie.Need-mul-marks
+mul-marks c = search needs
+
+-- src/blocks.rt:100:5
+mul-marks-2 : tie.Need-mul-marks-2
+mul-marks-2 c = search needs
+
+-- src/blocks.rt:100:5
+slice-write-marks : tie.Need-slice-write-marks
+slice-write-marks c = search needs
+
+-- src/blocks.rt:101:11
+mul-marks-3 : tie.Need-mul-marks-3
+mul-marks-3 c = search needs
+
+-- src/blocks.rt:101:11
+add-marks : tie.Need-add-marks
+add-marks c = search needs
+
+-- src/blocks.rt:101:5
+mul-marks-4 : tie.Need-mul-marks-4
+mul-marks-4 c = search needs
+
+-- src/blocks.rt:101:5
+slice-write-marks-2 : tie.Need-slice-write-marks-2
+slice-write-marks-2 c = simp length-set (omega arith)
+
+-- src/blocks.rt:102:11
+mul-marks-5 : tie.Need-mul-marks-5
+mul-marks-5 c = search needs
+
+-- src/blocks.rt:102:11
+add-marks-2 : tie.Need-add-marks-2
+add-marks-2 c = search needs
+
+-- src/blocks.rt:102:5
+mul-marks-6 : tie.Need-mul-marks-6
+mul-marks-6 c = search needs
+
+-- src/blocks.rt:102:5
+slice-write-marks-3 : tie.Need-slice-write-marks-3
+slice-write-marks-3 c = simp length-set (omega arith)
+
+-- src/blocks.rt:96:1
+same-length : tie.Need-same-length
+same-length c = search needs
+
+-- src/blocks.rt:96:1
+returns : tie.Need-returns
+returns c = search needs
+
+pub mark-spec : {M : Type 1} → statement M
+mark-spec =
+    tie.close
+    (tie.spec
+    mul-marks
+    mul-marks-2
+    slice-write-marks
+    mul-marks-3
+    add-marks
+    mul-marks-4
+    slice-write-marks-2
+    mul-marks-5
+    add-marks-2
+    mul-marks-6
+    slice-write-marks-3
+    same-length
+    returns)
