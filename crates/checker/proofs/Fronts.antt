@@ -12,7 +12,8 @@ use lib.Seq.{length-take-le, drop-cons}
 use Rattle.card.specs.Card.{DONE, SHORT, KIND}
 use Rattle.card.specs.declared.Answer.{Answer}
 use Rattle.opcode.specs.Kind.{Kind, i32, i64, v128, kindByte}
-use Rattle.rules.specs.Header.{Version, one, two, Header, Few, Declares, mark, kinds}
+use Rattle.opcode.specs.Table.{known}
+use Rattle.rules.specs.Header.{Version, Header, Few, Declares, mark, kinds}
 use Rattle.rules.specs.Breach.{front, Sized, Breach, kind, kinds-short}
 use Rattle.rules.proofs.Verdicts.{breach-coded}
 use Rattle.checker.specs.Inner.Kinds.{isKind}
@@ -56,22 +57,11 @@ module _ (s : List ℕ) (least : 8 ≤ length s) (m0 : getD s 0 0 ≡ 0x57) (m1 
 
 -- ---- the version
 
-pub other-none : (b : ℕ) → b ≡ 1 → OtherVersion b false
-other-none b e = record { other = λ z. absurd (let no : _≡_ {A = ℕ} 0 1 = cc in omega arith); carried = λ _. subst Version (sym e) one }
+pub other-none : (b : ℕ) → Version b → OtherVersion b false
+other-none b v = record { other = λ z. absurd (let no : _≡_ {A = ℕ} 0 1 = cc in omega arith); carried = λ _. v }
 
-pub other-by : (b : ℕ) (r : Bool) → (b ≡ 1 → ⊥) → r ≡ not (eqb b 2) → OtherVersion b r
-other-by b r f e = by (eqb b 2) refl e
-  where
-    neither : Version b → eqb b 2 ≡ false → ⊥
-    neither v z = is v refl
-      where
-        is : {x : ℕ} → Version x → b ≡ x → ⊥
-        is one q = f q
-        is two q = let no : _≡_ {A = ℕ} 0 1 = cc (sym (eq-eqb b 2 q) ∙ z) in omega arith
-
-    by : (t : Bool) → eqb b 2 ≡ t → r ≡ not t → OtherVersion b r
-    by true q z = record { other = λ y. absurd (let no : _≡_ {A = ℕ} 0 1 = cc in omega arith); carried = λ _. subst Version (sym (eqb-true b 2 q)) two }
-    by false q z = record { other = λ _ v. neither v q; carried = λ y. absurd (let no : _≡_ {A = ℕ} 0 1 = cc in omega arith) }
+pub other-one : (b : ℕ) → known b ≡ false → OtherVersion b true
+other-one b e = record { other = λ _ v. let no : _≡_ {A = ℕ} 0 1 = cc in omega arith; carried = λ z. absurd (let no : _≡_ {A = ℕ} 0 1 = cc in omega arith) }
 
 -- ---- the kind bytes
 

@@ -21,7 +21,7 @@ data BlockType : ℕ → Type 0 where
 block-type : (b : ℕ) → isBlockType b ≡ true → BlockType b
 block-type b e = by (eqb b 0x40) (eqb b 0x7F) (eqb b 0x7E) (eqb b 0x7B) refl refl refl refl e
   where
-    by : (p q r t : Bool) → eqb b 0x40 ≡ p → eqb b 0x7F ≡ q → eqb b 0x7E ≡ r → eqb b 0x7B ≡ t → (((p || q) || r) || t) ≡ true → BlockType b
+    by : (p q r t : Bool) → eqb b 0x40 ≡ p → eqb b 0x7F ≡ q → eqb b 0x7E ≡ r → eqb b 0x7B ≡ t → (p || (q || (r || (t || false)))) ≡ true → BlockType b
     by true q r t ep eq er et z = subst BlockType (sym (eqb-true b 0x40 ep)) empty
     by false true r t ep eq er et z = subst BlockType (sym (eqb-true b 0x7F eq)) (kind i32)
     by false false true t ep eq er et z = subst BlockType (sym (eqb-true b 0x7E er)) (kind i64)

@@ -48,14 +48,14 @@ pub(crate) fn header(strip: &[u8]) -> Answer
     kinds(strip, p + l + r)
 }
 
-// The versions that are carried.
+// A version's second byte is 0.
 fn is_other_version(b: u8) -> bool
     ensures { λ r. ⌜ OtherVersion b r ⌝ }
 {
-    if b == 1 {
+    if opcode::is_known(b as u16) {
         return false;
     }
-    b != 2
+    true
 }
 
 // The n kind bytes.

@@ -7,8 +7,6 @@ mod stack;
 mod turns;
 mod typing;
 
-pub use stack::Judged;
-pub use typing::judge;
 ghost use mathlib.Core.Path.{_≡_};
 ghost use Rattle.checker.specs.Check.{Checked};
 ghost use Rattle.checker.specs.Walk.{startOf};

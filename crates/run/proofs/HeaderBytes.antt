@@ -7,11 +7,7 @@ use lib.ListN.{length, getD, length-append, length-map, List·getD-append}
 use lib.Seq.{getD-append-add}
 use Rattle.limits.specs.Limits.{parameterLimit, localLimit, resultLimit}
 use Rattle.opcode.specs.Kind.{Kind, i32, kindByte}
-use Rattle.rules.specs.Header.{Version, one, two, Header, Declares, mark, versionBytes, counts, headerBytes, locals, kinds}
-
-version-small : {v : ℕ} → Version v → v ≤ 2
-version-small one = omega arith
-version-small two = omega arith
+use Rattle.rules.specs.Header.{Header, Declares, mark, versionBytes, counts, headerBytes, locals, kinds}
 
 module _ {s : List ℕ} {h : Header} (d : Declares s h) where
   pub version-read : getD s 3 0 ≡ h .version
@@ -51,7 +47,6 @@ module _ {s : List ℕ} {h : Header} (d : Declares s h) where
   -- the three counts, small enough for any sum of them
   pub record Counts : Type 0 where
     pub long : 8 ≤ length s
-    pub version : getD s 3 0 ≤ 2
     pub parameters : getD s 5 0 ≤ parameterLimit
     pub further : getD s 6 0 ≤ localLimit
     pub results : getD s 7 0 ≤ resultLimit
@@ -61,7 +56,6 @@ module _ {s : List ℕ} {h : Header} (d : Declares s h) where
   counts-read =
       record {
         long = omega (arith, start, inside);
-        version = omega (arith, version-read, version-small (d .known));
         parameters = omega (arith, parameter-count, d .few .parameters);
         further = omega (arith, further-count, d .few .further);
         results = omega (arith, result-count, d .few .results);

@@ -1,17 +1,17 @@
-use mathlib.Core.Path.{refl}
-use Rattle.checker.proofs.Fronts.{other-none, other-by}
+use mathlib.Core.Path.{sym, _∙_}
+use borrow.Author.Needs.{needs}
+use Rattle.checker.proofs.Fronts.{other-none, other-one}
 use Rattle.checker.proofs.header.is_other_version.Statement.{statement}
 use Rattle.checker.proofs.header.is_other_version.Tie as tie
-use Rattle.checker.proofs.header.is_other_version.Reads as reads
-use Rattle.checker.proofs.header.is_other_version.Lts as lts
 
--- src/header.rt:56:9
+is-known-requires : tie.Need-is-known-requires
+is-known-requires c κs = search needs
+
 returns : tie.Need-returns
-returns c = other-none (c .before .args .b) (c .if1 .taken)
+returns c = other-none (c .before .before .args .b) (sym (c .before .is-known .ensures) ∙ c .if1 .taken)
 
--- src/header.rt:52:1
 returns-2 : tie.Need-returns-2
-returns-2 c = other-by (c .before .args .b) _ (c .if1 .left) refl
+returns-2 c = other-one (c .before .before .args .b) (sym (c .before .is-known .ensures) ∙ c .if1 .left)
 
 pub is-other-version-spec : {M : Type 1} → statement M
-is-other-version-spec = tie.close (tie.spec returns returns-2)
+is-other-version-spec = tie.close (tie.spec is-known-requires returns returns-2)
