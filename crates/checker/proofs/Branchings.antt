@@ -11,7 +11,7 @@ use Rattle.operation.specs.Vector.{number}
 use Rattle.opcode.specs.Kind.{Kind, i32, kindByte}
 use Rattle.opcode.specs.Table.{Br, BrIf, control}
 use Rattle.instr.specs.declared.Instr.{Instr}
-use Rattle.rules.specs.Typing.{Frame, holding, deadened, allValues, branchKinds, Label, Has, known, Types, ordinary, branches, may-branch, Branches, br-branches, if-branches}
+use Rattle.rules.specs.Typing.{Frame, holding, deadened, allValues, branchKinds, Target, Has, all-known, Types, ordinary, branches, may-branch, Branches, br-branches, if-branches}
 use Rattle.rules.proofs.Typings.{control-untyped, label-once}
 use Rattle.rules.proofs.Sorts.{names-control, branches-plain}
 use Rattle.checker.specs.Inner.Kinds.{Holds}
@@ -23,7 +23,7 @@ use Rattle.checker.proofs.Nests.{nested-as, frames-case, no-such, frame
 
 -- ---- br
 
-br-needs : {ls : List Kind} {i : Instr} {f g : Frame} {fs fs′ : List Frame} → Types ls i (control Br) (f ∷ fs) fs′ → Label (f ∷ fs) (i .index) g → (below : List Kind) × Has f below (branchKinds g)
+br-needs : {ls : List Kind} {i : Instr} {f g : Frame} {fs fs′ : List Frame} → Types ls i (control Br) (f ∷ fs) fs′ → Target (f ∷ fs) (i .index) g → (below : List Kind) × Has f below (branchKinds g)
 br-needs (ordinary t h) l = absurd (control-untyped t refl)
 br-needs {f = f} (branches {below} m h) l = (below, subst (λ (x : Frame). Has f below (branchKinds x)) (label-once m l) h)
 
@@ -41,7 +41,7 @@ module _ {ls rs : List Kind} {i : Instr} {kinds blocks : List ℕ} {depth nest f
       let t = framed-top w in
       let x = under-below (under-it (allValues fs) (branchKinds (g .target)) f t (g .takes-is)) z in
       let none : floor + length {A = Kind} [] ≡ floor = omega arith in
-      let held : Holds kinds floor (allValues fs ++ []) = subst (λ (n : ℕ). Holds kinds n (allValues fs ++ [])) none (part t (known {below = []} {ins = f .values} refl)) in
+      let held : Holds kinds floor (allValues fs ++ []) = subst (λ (n : ℕ). Holds kinds n (allValues fs ++ [])) none (part t (all-known {below = []} {ins = f .values} refl)) in
       typed (branches (g .label) (x .1))
       (record {
         holds = held;
@@ -63,7 +63,7 @@ module _ {ls rs : List Kind} {i : Instr} {kinds blocks : List ℕ} {depth nest f
 
 -- ---- br_if
 
-if-needs : {ls : List Kind} {i : Instr} {f g : Frame} {fs fs′ : List Frame} → Types ls i (control BrIf) (f ∷ fs) fs′ → Label (f ∷ fs) (i .index) g
+if-needs : {ls : List Kind} {i : Instr} {f g : Frame} {fs fs′ : List Frame} → Types ls i (control BrIf) (f ∷ fs) fs′ → Target (f ∷ fs) (i .index) g
     → (below : List Kind) × Has f below (branchKinds g ++ i32 ∷ [])
 if-needs (ordinary t h) l = absurd (control-untyped t refl)
 if-needs {f = f} (may-branch {below} m h) l = (below, subst (λ (x : Frame). Has f below (branchKinds x ++ i32 ∷ [])) (label-once m l) h)

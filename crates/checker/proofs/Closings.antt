@@ -12,7 +12,7 @@ use Rattle.opcode.specs.Kind.{Kind, kindByte}
 use Rattle.opcode.specs.BlockType.{blockResults}
 use Rattle.opcode.specs.Table.{End, plain}
 use Rattle.instr.specs.declared.Instr.{Instr}
-use Rattle.rules.specs.Typing.{Frame, holding, allValues, Has, known, closes, Ends, ends}
+use Rattle.rules.specs.Typing.{Frame, holding, allValues, Has, all-known, closes, Ends, ends}
 use Rattle.rules.proofs.Typings.{has-once}
 use Rattle.checker.specs.Inner.Kinds.{Holds}
 use Rattle.checker.specs.Inner.Stack.{Top, Under, under, missing, Leaves, too-many, left}
@@ -55,7 +55,7 @@ module _ {rs : List Kind} {kinds blocks : List ℕ} {depth nest floor : ℕ} {de
       let t = closing-top in
       let none : floor + length {A = Kind} [] ≡ floor = omega arith in
       let same = append-nil (allValues (k .next ∷ k .rest)) in
-      subst (Holds kinds floor) same (subst (λ (n : ℕ). Holds kinds n (allValues (k .next ∷ k .rest) ++ [])) none (part t (known {below = []} {ins = k .top .values} refl)))
+      subst (Holds kinds floor) same (subst (λ (n : ℕ). Holds kinds n (allValues (k .next ∷ k .rest) ++ [])) none (part t (all-known {below = []} {ins = k .top .values} refl)))
 
   -- the outer floor is a byte
   pub closing-small : k .outer-floor < 256

@@ -15,7 +15,7 @@ use Rattle.opcode.specs.Effect.{Signature, _⇒_, effect}
 use Rattle.opcode.specs.Number.{packed, effectOf, groupOfCode, groupOf}
 use Rattle.opcode.proofs.Effects.{kind-range, unpacked, no-signature}
 use Rattle.opcode.proofs.Groups.{by-group}
-use Rattle.rules.specs.Typing.{Frame, Has, known, any, Local, first, later, Typed, by-signature, dropped, got, set, teed, Names, get-names, set-names, tee-names}
+use Rattle.rules.specs.Typing.{Frame, Has, all-known, any, Local, first, later, Typed, by-signature, dropped, got, set, teed, Names, get-names, set-names, tee-names}
 use Rattle.rules.proofs.Lists.{ends-once}
 use Rattle.rules.proofs.Typings.{local-once}
 use Rattle.checker.specs.Inner.Kinds.{Holds}
@@ -54,7 +54,7 @@ module _ (ls : List Kind) (n : ℕ) (c : Code) (f : Frame) where
   by-its-signature (some (ins ⇒ outs)) q z =
       let u = unpacked c q in
       subst (Effected ls n c f) (sym (ap packed q))
-      (typed-by (by-signature q) (record { few = u .few; one = u .one; known = u .known }) (only-these (λ ins′ outs′ t. one-signature q t)))
+      (typed-by (by-signature q) (record { few = u .few; one = u .one; some = u .known }) (only-these (λ ins′ outs′ t. one-signature q t)))
 
   pub effected-signature : (e : ℕ) → e ≡ effectOf (carried c) → (e ≡ 0 → ⊥) → Effected ls n c f e
   effected-signature e is z = subst (Effected ls n c f) (sym is) (by-its-signature (effect c) refl (λ o. z (is ∙ o)))
@@ -85,13 +85,13 @@ names-local c e g other f z q d = by (drops-or-names c (no-signature c (sym f �
     by (inr names) = names
 
 small-in : (k : Kind) → Small (k ∷ []) []
-small-in k = record { few = lit≤ tt; one = lit≤ tt; known = omega (arith, kind-range k) }
+small-in k = record { few = lit≤ tt; one = lit≤ tt; some = omega (arith, kind-range k) }
 
 small-out : (k : Kind) → Small [] (k ∷ [])
-small-out k = record { few = lit≤ tt; one = lit≤ tt; known = omega (arith, kind-range k) }
+small-out k = record { few = lit≤ tt; one = lit≤ tt; some = omega (arith, kind-range k) }
 
 small-both : (k : Kind) → Small (k ∷ []) (k ∷ [])
-small-both k = record { few = lit≤ tt; one = lit≤ tt; known = omega (arith, kind-range k) }
+small-both k = record { few = lit≤ tt; one = lit≤ tt; some = omega (arith, kind-range k) }
 
 drop-one : {ls : List Kind} {n : ℕ} {ins outs : List Kind} → Typed ls n (plain Drop) ins outs → (k : Kind) × (ins ≡ k ∷ [])
 drop-one (by-signature p) = absurd (let z : _≡_ {A = ℕ} 0 1 = cc in omega arith)
@@ -113,7 +113,7 @@ module _ (ls : List Kind) (n : ℕ) (f : Frame) (e : ℕ) where
   module _ {kinds : List ℕ} {depth floor : ℕ} {outer : List Kind} (t : Top kinds depth floor (f .dead) outer f) (c : Code) (g : ℕ) (q : g ≡ groupOf (carried c)) (is : g ≡ 1) where
     -- of no value any kind
     of-none : (ks : List Kind) → f .values ≡ ks → length ks ≡ 0 → (k : Kind) (below : List Kind) → Has f below (k ∷ []) → Has f below (i32 ∷ [])
-    of-none [] v z k below (known e) = absurd (let no : ⊥ = omega (arith, ap length v, ap length e, length-append below (k ∷ [])) in no)
+    of-none [] v z k below (all-known e) = absurd (let no : ⊥ = omega (arith, ap length v, ap length e, length-append below (k ∷ [])) in no)
     of-none [] v z k below (any u d e) = any (i32 ∷ []) d (ap (λ (x : List Kind). i32 ∷ x) v)
     of-none (j ∷ ks) v z k below h = absurd (let no : ⊥ = omega arith in no)
 
@@ -129,7 +129,7 @@ module _ (ls : List Kind) (n : ℕ) (f : Frame) (e : ℕ) where
 
     -- else that of the top one
     same-top : (front : List Kind) (k j : Kind) (below : List Kind) → f .values ≡ front ++ (k ∷ []) → Has f below (j ∷ []) → j ≡ k
-    same-top front k j below v (known e) =
+    same-top front k j below v (all-known e) =
         let tops = ends-once below front (j ∷ []) (k ∷ []) refl (sym e ∙ v) .1 in cc
     same-top front k j below v (any u d e) =
         let whole : (u ++ front) ++ (k ∷ []) ≡ [] ++ (j ∷ []) = append-assoc u front (k ∷ []) ∙ ap (λ (x : List Kind). u ++ x) (sym v) ∙ e in
@@ -192,7 +192,7 @@ same-dead t = record { holds = t .holds; floor-is = t .floor-is; dead-is = refl 
 module _ {ls : List Kind} {n : ℕ} {c : Code} {outer : List Kind} {f : Frame} {kinds : List ℕ} where
   pub gives-local : {e d : ℕ} → Effected ls n c f e → e ≡ 0 → Gives ls n c outer f kinds LOCAL d
   gives-local (undeclared names g) z = undeclared-local names g
-  gives-local (typed-by t small only) z = absurd (let no : ⊥ = omega (arith, small .known) in no)
+  gives-local (typed-by t small only) z = absurd (let no : ⊥ = omega (arith, small .some) in no)
 
   gives-by : {ins outs : List Kind} {code d : ℕ} → Typed ls n c ins outs → ((ins′ outs′ below : List Kind) → Typed ls n c ins′ outs′ → Has f below ins′ → Has f below ins)
       → Applies outer f ins outs kinds code d → Gives ls n c outer f kinds code d

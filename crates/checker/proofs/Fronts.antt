@@ -14,7 +14,7 @@ use Rattle.card.specs.declared.Answer.{Answer}
 use Rattle.opcode.specs.Kind.{Kind, i32, i64, v128, kindByte}
 use Rattle.opcode.specs.Table.{known}
 use Rattle.rules.specs.Header.{Version, Header, Few, Declares, mark, kinds}
-use Rattle.rules.specs.Breach.{front, Sized, Breach, kind, kinds-short}
+use Rattle.rules.specs.Breach.{preamble, Sized, Breach, kind, kinds-short}
 use Rattle.rules.proofs.Verdicts.{breach-coded}
 use Rattle.checker.specs.Inner.Kinds.{isKind}
 use Rattle.checker.specs.Inner.Parts.{OtherVersion, KindsSay, cut, other, all, Headed}
@@ -47,11 +47,11 @@ module _ (s : List ℕ) (least : 8 ≤ length s) (m0 : getD s 0 0 ≡ 0x57) (m1 
   pub marked : s ≡ mark ++ (getD s 3 0 ∷ getD s 4 0 ∷ getD s 5 0 ∷ getD s 6 0 ∷ getD s 7 0 ∷ drop 8 s)
   marked = cc (eight s least, m0, m1, m2)
 
-  pub fronted : getD s 4 0 ≡ 0 → s ≡ front (getD s 3 0) ++ getD s 5 0 ∷ getD s 6 0 ∷ getD s 7 0 ∷ drop 8 s
+  pub fronted : getD s 4 0 ≡ 0 → s ≡ preamble (getD s 3 0) ++ getD s 5 0 ∷ getD s 6 0 ∷ getD s 7 0 ∷ drop 8 s
   fronted v1 = cc (eight s least, m0, m1, m2, v1)
 
   -- another version in either byte
-  pub version-byte : (Version (getD s 3 0) → ⊥) ⊎ (getD s 4 0 ≡ 0 → ⊥) → (v : ℕ) (more : List ℕ) → Version v → s ≡ front v ++ more → ⊥
+  pub version-byte : (Version (getD s 3 0) → ⊥) ⊎ (getD s 4 0 ≡ 0 → ⊥) → (v : ℕ) (more : List ℕ) → Version v → s ≡ preamble v ++ more → ⊥
   version-byte (inl f) v more is e = f (subst Version (sym (ap (λ (x : List ℕ). getD x 3 0) e)) is)
   version-byte (inr f) v more is e = f (ap (λ (x : List ℕ). getD x 4 0) e)
 
@@ -125,12 +125,12 @@ said {s} {n} {c} {l} {r} a k = (subst (λ (x : ℕ). KindsSay s n x (r .place)) 
 
 -- ---- the whole
 
-module _ {s : List ℕ} (sized : Sized s) (v p l r : ℕ) (is : Version v) (few : Few p l r) (here : s ≡ front v ++ p ∷ l ∷ r ∷ drop 8 s) where
+module _ {s : List ℕ} (sized : Sized s) (v p l r : ℕ) (is : Version v) (few : Few p l r) (here : s ≡ preamble v ++ p ∷ l ∷ r ∷ drop 8 s) where
   abbrev headerOf : List Kind → Header
   headerOf ks = record { version = v; parameters = take p ks; further = take l (drop p ks); results = drop l (drop p ks) }
 
-  with-kinds : (t : List ℕ) → drop 8 s ≡ t → s ≡ front v ++ p ∷ l ∷ r ∷ t
-  with-kinds t e = here ∙ ap (λ (x : List ℕ). front v ++ p ∷ l ∷ r ∷ x) e
+  with-kinds : (t : List ℕ) → drop 8 s ≡ t → s ≡ preamble v ++ p ∷ l ∷ r ∷ t
+  with-kinds t e = here ∙ ap (λ (x : List ℕ). preamble v ++ p ∷ l ∷ r ∷ x) e
 
   declares-of : (ks : List Kind) (rest : List ℕ) → length ks ≡ p + l + r → drop 8 s ≡ map kindByte ks ++ rest → Declares s (headerOf ks)
   declares-of ks rest n e =
@@ -141,14 +141,14 @@ module _ {s : List ℕ} (sized : Sized s) (v p l r : ℕ) (is : Version v) (few 
       append-assoc (take p ks) (take l (drop p ks)) (drop l (drop p ks)) ∙ ap (λ (x : List Kind). take p ks ++ x) (take-append-drop l (drop p ks)) ∙ take-append-drop p ks in
       record {
         sized = sized .most;
-        known = is;
+        versioned = is;
         few = record { parameters = omega (arith, few .parameters); further = omega (arith, few .further); results = omega (arith, few .results) };
         body = rest;
         bytes = with-kinds (map kindByte (kinds (headerOf ks)) ++ rest) (e ∙ ap (λ (x : List Kind). map kindByte x ++ rest) (sym whole))
             ∙ counted (map kindByte (kinds (headerOf ks)) ++ rest) (sym lp) (sym ll) (sym lr);
       }
     where
-      counted : (t : List ℕ) {a b c : ℕ} → p ≡ a → l ≡ b → r ≡ c → front v ++ p ∷ l ∷ r ∷ t ≡ front v ++ a ∷ b ∷ c ∷ t
+      counted : (t : List ℕ) {a b c : ℕ} → p ≡ a → l ≡ b → r ≡ c → preamble v ++ p ∷ l ∷ r ∷ t ≡ preamble v ++ a ∷ b ∷ c ∷ t
       counted t ea eb ec = cc
 
   headed-by : {a : Answer} {c q : ℕ} → KindsSay s (p + l + r) c q → a .code ≡ c → a .place ≡ q → a .steps ≡ 0 → Headed s a

@@ -130,7 +130,7 @@ goes-of (typed {fs′} t g) z = (fs′, t, g)
 
 module _ {s : List ℕ} {v n takes : ℕ} {kinds blocks : List ℕ} {depth nest floor : ℕ} {dead : Bool} {at : ℕ} (w : Going s v n takes kinds blocks depth nest floor dead at) (d : Scanned) (is : d ≡ scanOf (decodeIn v s at)) where
   told : d ≡ scanOf (decodeAt (w .header .version) s at)
-  told = is ∙ ap (λ (x : ℕ). scanOf (decodeIn x s at)) (sym (w .version-is)) ∙ ap scanOf (decodes-known (w .header .version) (w .declares .known) s at)
+  told = is ∙ ap (λ (x : ℕ). scanOf (decodeIn x s at)) (sym (w .version-is)) ∙ ap scanOf (decodes-known (w .header .version) (w .declares .versioned) s at)
 
   pub refuses : (d .code ≡ DONE → ⊥) → Breach s (d .code) (d .place)
   refuses z =

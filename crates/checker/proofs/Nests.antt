@@ -9,7 +9,7 @@ use lib.Seq.{getD-set-other}
 use Rattle.limits.specs.Limits.{stackLimit, resultLimit}
 use Rattle.opcode.specs.Kind.{Kind}
 use Rattle.opcode.specs.BlockType.{isBlockType, blockResults}
-use Rattle.rules.specs.Typing.{Frame, allValues, branchKinds, Label, innermost, outer}
+use Rattle.rules.specs.Typing.{Frame, allValues, branchKinds, Target, innermost, outer}
 use Rattle.checker.specs.Inner.Stack.{Top}
 use Rattle.checker.specs.Inner.Blocks.{word, topFirst, Nested, strip, block, Framed, Labelled}
 use Rattle.checker.proofs.Words.{type-few}
@@ -102,7 +102,7 @@ closing {rs} {blocks} (block type {nest} {floor} {dead} {f} {g} {fs} n e t r) h 
 -- what a word says of its block
 pub record Worded (fs : List Frame) (n w : ℕ) : Type 0 where
   pub target : Frame
-  pub label : Label fs n target
+  pub label : Target fs n target
   pub floor : ℕ
   pub type : ℕ
   pub dead : Bool
@@ -154,10 +154,10 @@ module _ {rs : List Kind} {blocks : List ℕ} where
       }
 
   -- none beyond the strip
-  pub no-such : {nest floor : ℕ} {dead : Bool} {fs : List Frame} → Nested rs blocks nest floor dead fs → (n : ℕ) → nest < n → (g : Frame) → Label fs n g → ⊥
+  pub no-such : {nest floor : ℕ} {dead : Bool} {fs : List Frame} → Nested rs blocks nest floor dead fs → (n : ℕ) → nest < n → (g : Frame) → Target fs n g → ⊥
   no-such n k l g label = beyond label (omega (arith, nested-many n))
     where
-      beyond : {fs : List Frame} {k : ℕ} {g : Frame} → Label fs k g → length fs ≤ k → ⊥
+      beyond : {fs : List Frame} {k : ℕ} {g : Frame} → Target fs k g → length fs ≤ k → ⊥
       beyond innermost l = omega arith
       beyond (outer x) l = beyond x (omega arith)
 

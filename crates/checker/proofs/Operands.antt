@@ -9,7 +9,7 @@ use Rattle.limits.specs.Limits.{stackLimit}
 use Rattle.operation.specs.Vector.{number}
 use Rattle.opcode.specs.Kind.{Kind, kindByte}
 use Rattle.opcode.proofs.Effects.{kind-once, kind-range}
-use Rattle.rules.specs.Typing.{Frame, Has, known, any}
+use Rattle.rules.specs.Typing.{Frame, Has, all-known, any}
 use Rattle.rules.proofs.Lists.{ends-once}
 use Rattle.checker.specs.Inner.Stack.{Top, Under, under, missing}
 use Rattle.checker.proofs.Held.{split-last, held-at}
@@ -66,7 +66,7 @@ none-below floor base (k ∷ below) m z = absurd (let no : ⊥ = omega arith in 
 
 -- what is known and what is asked agree from the top down
 both : {f : Frame} {below ins : List Kind} → Has f below ins → (x : List Kind) × (y : List Kind) × (x ++ f .values ≡ y ++ ins)
-both {below = below} (known e) = ([], below, e)
+both {below = below} (all-known e) = ([], below, e)
 both (any u d e) = (u, [], e)
 
 module _ {ins outer : List Kind} {f : Frame} {kinds : List ℕ} {depth floor left base : ℕ} {dead : Bool} (t : Top kinds depth floor dead outer f) (some-left : left ≡ 0 → ⊥) where
@@ -116,7 +116,7 @@ module _ {ins outer : List Kind} {f : Frame} {kinds : List ℕ} {depth floor lef
       )
 
   none-under : Popped (f .values) ins floor left base → base ≡ floor → f .dead ≡ false → (b : List Kind) → Has f b ins → ⊥
-  none-under p z d b (known e) = too-few (p .ahead) (p .taken) (p .below) (p .parts) (p .stack) (p .digits) (p .many) z b e
+  none-under p z d b (all-known e) = too-few (p .ahead) (p .taken) (p .below) (p .parts) (p .stack) (p .digits) (p .many) z b e
   none-under p z d b (any u d′ e) = let no : _≡_ {A = ℕ} 0 1 = cc (sym d ∙ d′) in omega arith
 
 module _ {operands : ℕ} {kinds : List ℕ} {depth floor left base : ℕ} {dead : Bool} (w : Popping operands kinds depth floor dead left base) where
@@ -167,7 +167,7 @@ module _ {operands : ℕ} {kinds : List ℕ} {depth floor left base : ℕ} {dead
 
     popped-of : (ahead taken below : List Kind) → ins ≡ reverseAux ahead taken → f .values ≡ below ++ taken → number (map kindByte ahead) ≡ left → floor + length below ≡ base → left ≡ 0
         → Under f ins floor base
-    popped-of [] taken below p g d m z = subst (Under f ins floor) m (under below (known (g ∙ ap (λ (x : List Kind). below ++ x) (sym p))))
+    popped-of [] taken below p g d m z = subst (Under f ins floor) m (under below (all-known (g ∙ ap (λ (x : List Kind). below ++ x) (sym p))))
     popped-of (k ∷ ahead) taken below p g d m z = absurd (let no : ⊥ = omega (arith, kind-range k) in no)
 
     pub all-popped : left ≡ 0 → Under f ins floor base

@@ -6,7 +6,7 @@ use mathlib.Core.List.{List, [], _∷_, _++_}
 use Rattle.opcode.specs.Kind.{Kind}
 use Rattle.opcode.specs.Table.{Block, Loop, Br, BrIf, Code}
 use Rattle.instr.specs.declared.Instr.{Instr}
-use Rattle.rules.specs.Typing.{Frame, holding, allValues, Has, known, Typed, Types, ordinary, branches, may-branch, opens-block, opens-loop, closes}
+use Rattle.rules.specs.Typing.{Frame, holding, allValues, Has, all-known, Typed, Types, ordinary, branches, may-branch, opens-block, opens-loop, closes}
 use Rattle.rules.proofs.Sorts.{typed-local, branches-control}
 use Rattle.checker.specs.Inner.Stack.{Top}
 use Rattle.checker.specs.Inner.Blocks.{Nested, Framed}
@@ -28,7 +28,7 @@ module _ {ls : List Kind} {i : Instr} {c : Code} (o : Ordinary c) where
         → Judges ls rs i c (f ∷ fs) after blocks d nest floor dead code
     straight-by w (undeclared-local names never) = no-local names never
     straight-by w (lacking {ins = ins} t never) =
-        untyped (o .not-end) (typed-local {ls = ls} {i = i} (ordinary {below = []} {f = record { loop = false; results = []; values = ins; dead = false }} {fs = []} t (known refl)))
+        untyped (o .not-end) (typed-local {ls = ls} {i = i} (ordinary {below = []} {f = record { loop = false; results = []; values = ins; dead = false }} {fs = []} t (all-known refl)))
         (λ b. let x = branches-control b in absurd (o .not-control (x .0) (x .1))) (λ fs′ u. only-ordinary o never u)
     straight-by w (overfull below t h big) = too-deep (ordinary {below = below} t h) big
     straight-by {f} {fs} {d = d} w (does {outs = outs} below t h small g) =

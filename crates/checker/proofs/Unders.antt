@@ -8,7 +8,7 @@ use native.Mathlib.Omega.{arith}
 use lib.ListN.{length, length-append}
 use Rattle.limits.specs.Limits.{stackLimit}
 use Rattle.opcode.specs.Kind.{Kind}
-use Rattle.rules.specs.Typing.{Frame, Has, known, any}
+use Rattle.rules.specs.Typing.{Frame, Has, all-known, any}
 use Rattle.checker.specs.Inner.Kinds.{Holds}
 use Rattle.checker.specs.Inner.Stack.{Top, Under, under, missing}
 use Rattle.checker.proofs.Held.{held-part}
@@ -20,7 +20,7 @@ module _ {f : Frame} {ins : List Kind} {floor : ℕ} where
 
 -- the values below are some of those there
 fewer : {f : Frame} {below ins : List Kind} → Has f below ins → (above : List Kind) × (f .values ≡ below ++ above)
-fewer {ins = ins} (known e) = (ins, e)
+fewer {ins = ins} (all-known e) = (ins, e)
 fewer {f} (any u d e) = (f .values, refl)
 
 module _ {kinds : List ℕ} {depth floor : ℕ} {dead : Bool} {outer : List Kind} {f : Frame} (t : Top kinds depth floor dead outer f) where

@@ -14,7 +14,7 @@ use Rattle.instr.specs.declared.Decoded.{Decoded}
 use Rattle.instr.specs.Decode.{decodeAt}
 use Rattle.instr.proofs.Decodes.{stands-decodes}
 use Rattle.rules.specs.Header.{Header, locals}
-use Rattle.rules.specs.Typing.{Frame, allValues, Label, Local, Types, Names, Opens, Branches, Ends}
+use Rattle.rules.specs.Typing.{Frame, allValues, Target, Local, Types, Names, Opens, Branches, Ends}
 use Rattle.rules.specs.Strip.{Reads, Within}
 use Rattle.rules.proofs.Ranks.{asked, Kept, none-asked, more, Stop}
 use Rattle.rules.proofs.Typings.{types-once}
@@ -33,7 +33,7 @@ module _ (s : List ℕ) (h : Header) (p : ℕ) (fs : List Frame) where
   NestP i c = Opens c → length fs ≤ nestLimit
 
   abbrev pub LabelP : Instr → Code → Type 0
-  LabelP i c = Branches c → (g : Frame) × Label fs (i .index) g
+  LabelP i c = Branches c → (g : Frame) × Target fs (i .index) g
 
   abbrev pub OperandsP : Instr → Code → Type 0
   OperandsP i c = (c ≡ plain End) ⊎ ((fs′ : List Frame) × Types (locals h) i c fs fs′)
@@ -80,7 +80,7 @@ module _ (s : List ℕ) (h : Header) (p : ℕ) (fs : List Frame) where
           broken = λ q. let few = q i c n r o in omega (arith, few, g);
         }
 
-    pub no-label : Branches c → ((g : Frame) → Label fs (i .index) g → ⊥) → Stop Asked 3
+    pub no-label : Branches c → ((g : Frame) → Target fs (i .index) g → ⊥) → Stop Asked 3
     no-label b never =
         record {
           kept =

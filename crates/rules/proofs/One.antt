@@ -12,7 +12,7 @@ use Rattle.opcode.proofs.Versions.{one-straight}
 use Rattle.instr.specs.declared.Instr.{Instr}
 use Rattle.instr.specs.Layout.{rowIn}
 use Rattle.rules.specs.Header.{Header, Declares, headerBytes, locals}
-use Rattle.rules.specs.Typing.{Frame, opened, holding, allValues, Typed, Has, known, any, Types, ordinary, branches, may-branch, opens-block, opens-loop, closes}
+use Rattle.rules.specs.Typing.{Frame, opened, holding, allValues, Typed, Has, all-known, any, Types, ordinary, branches, may-branch, opens-block, opens-loop, closes}
 use Rattle.rules.specs.Strip.{Reads, Within, Reaches, front, past}
 
 -- over any stack below, as version 1 had it
@@ -44,7 +44,7 @@ module _ (s : List ℕ) (h : Header) (old : h .version ≡ 1) where
   no-control {i = i} {x = x} r e = one-straight (i .first) (i .number) x (ap (λ (v : ℕ). rowIn v i) (sym old) ∙ r .does ∙ ap carried e)
 
   had-by : {f : Frame} {κs below ins : List Kind} → f ≡ holding (opened false (h .results)) κs → Has f below ins → κs ≡ below ++ ins
-  had-by whole (known q) = sym (ap (λ (g : Frame). g .values) whole) ∙ q
+  had-by whole (all-known q) = sym (ap (λ (g : Frame). g .values) whole) ∙ q
   had-by whole (any u d q) = absurd (let z : _≡_ {A = ℕ} 0 1 = cc (d, ap (λ (g : Frame). g .dead) whole) in omega arith)
 
   -- one instruction
@@ -75,5 +75,5 @@ module _ (s : List ℕ) (h : Header) (old : h .version ≡ 1) where
   reaches-one (front-one d) = front d
   reaches-one (past-one {p = p} {n = n} {κs = κs} {κs′} reached r t l) =
       subst (λ (ks : List Kind). Reaches s h (p + n) (alone h ks)) (sym (t .has))
-      (past (reaches-one reached) r (ordinary {below = t .below} {f = holding (opened false (h .results)) κs} (t .typed) (known (t .had)))
+      (past (reaches-one reached) r (ordinary {below = t .below} {f = holding (opened false (h .results)) κs} (t .typed) (all-known (t .had)))
       (record { blocks = omega arith; values = subst (λ (ks : List Kind). length ks ≤ stackLimit) (t .has) l }))

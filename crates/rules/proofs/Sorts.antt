@@ -7,7 +7,7 @@ use lib.ListN.{length}
 use Rattle.opcode.specs.Kind.{Kind}
 use Rattle.opcode.specs.Table.{End, Control, Block, Loop, Br, BrIf, Plain, Code, plain, control}
 use Rattle.instr.specs.declared.Instr.{Instr}
-use Rattle.rules.specs.Typing.{Frame, allValues, Label, Local, Typed, by-signature, dropped, got, set, teed, Types, ordinary, branches, may-branch, opens-block, opens-loop, closes, Names, get-names, set-names, tee-names, Opens, block-opens, loop-opens, Branches, br-branches, if-branches, Ends, ends}
+use Rattle.rules.specs.Typing.{Frame, allValues, Target, Local, Typed, by-signature, dropped, got, set, teed, Types, ordinary, branches, may-branch, opens-block, opens-loop, closes, Names, get-names, set-names, tee-names, Opens, block-opens, loop-opens, Branches, br-branches, if-branches, Ends, ends}
 use Rattle.rules.proofs.Typings.{end-untyped, control-untyped}
 
 -- ---- sorts
@@ -70,7 +70,7 @@ module _ {ls : List Kind} {i : Instr} where
   typed-local opens-loop names = absurd (names-control names refl)
   typed-local (closes x) names = absurd (end-nameless names refl)
 
-  pub typed-label : {c : Code} {fs fs′ : List Frame} → Types ls i c fs fs′ → Branches c → (g : Frame) × Label fs (i .index) g
+  pub typed-label : {c : Code} {fs fs′ : List Frame} → Types ls i c fs fs′ → Branches c → (g : Frame) × Target fs (i .index) g
   typed-label (ordinary t x) b = absurd (control-untyped t (branches-control b .1))
   typed-label (branches {g = g} l x) b = (g, l)
   typed-label (may-branch {g = g} l x) b = (g, l)

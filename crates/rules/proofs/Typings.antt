@@ -9,14 +9,14 @@ use Rattle.opcode.specs.Kind.{Kind, i32}
 use Rattle.opcode.specs.Table.{End, Control, Block, Loop, Br, BrIf, Code, plain, control}
 use Rattle.opcode.specs.Effect.{Signature, _⇒_}
 use Rattle.instr.specs.declared.Instr.{Instr}
-use Rattle.rules.specs.Typing.{Frame, holding, branchKinds, Label, innermost, outer, Local, first, later, Typed, by-signature, dropped, got, set, teed, Has, known, any, Types, ordinary, branches, may-branch, opens-block, opens-loop, closes}
+use Rattle.rules.specs.Typing.{Frame, holding, branchKinds, Target, innermost, outer, Local, first, later, Typed, by-signature, dropped, got, set, teed, Has, all-known, any, Types, ordinary, branches, may-branch, opens-block, opens-loop, closes}
 use Rattle.rules.proofs.Lists.{ends-once}
 
 pub local-once : {ls : List Kind} {n : ℕ} {k k′ : Kind} → Local ls n k → Local ls n k′ → k ≡ k′
 local-once first first = refl
 local-once (later a) (later b) = local-once a b
 
-pub label-once : {fs : List Frame} {n : ℕ} {g g′ : Frame} → Label fs n g → Label fs n g′ → g ≡ g′
+pub label-once : {fs : List Frame} {n : ℕ} {g g′ : Frame} → Target fs n g → Target fs n g′ → g ≡ g′
 label-once innermost innermost = refl
 label-once (outer a) (outer b) = label-once a b
 
@@ -64,10 +64,10 @@ empty (k ∷ ks) e = absurd (let z : ⊥ = omega arith in z)
 
 -- what lies below as many
 pub has-once : {f : Frame} {a b ins ins′ : List Kind} → length ins ≡ length ins′ → Has f a ins → Has f b ins′ → a ≡ b
-has-once {a = a} {b} {ins} {ins′} l (known e) (known e′) = ends-once a b ins ins′ l (sym e ∙ e′) .0
-has-once {f} {a = a} {ins = ins} l (known e) (any u d e′) =
+has-once {a = a} {b} {ins} {ins′} l (all-known e) (all-known e′) = ends-once a b ins ins′ l (sym e ∙ e′) .0
+has-once {f} {a = a} {ins = ins} l (all-known e) (any u d e′) =
     empty a (omega (arith, l, ap length e, length-append a ins, ap length e′, length-append u (f .values)))
-has-once {f} {b = b} {ins′ = ins′} l (any u d e) (known e′) =
+has-once {f} {b = b} {ins′ = ins′} l (any u d e) (all-known e′) =
     sym (empty b (omega (arith, l, ap length e′, length-append b ins′, ap length e, length-append u (f .values))))
 has-once l (any u d e) (any u′ d′ e′) = refl
 

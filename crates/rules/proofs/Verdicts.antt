@@ -9,7 +9,7 @@ use Rattle.opcode.specs.Kind.{Kind, kindByte}
 use Rattle.rules.specs.Header.{Version, Header, Few}
 use Rattle.rules.specs.Typing.{Frame}
 use Rattle.rules.specs.Strip.{Valid}
-use Rattle.rules.specs.Breach.{Sized, front, Refused, Breach, long, stub, unmarked, other-version, parameters, further, results, kind, kinds-short, short, block-type, opcode, float, number, lane, align, local, nest, label, operand, deep, result, trailing, Says, valid, breach}
+use Rattle.rules.specs.Breach.{Sized, preamble, Refused, Breach, long, stub, unmarked, other-version, parameters, further, results, kind, kinds-short, short, block-type, opcode, float, number, lane, align, local, nest, label, operand, deep, result, trailing, Says, valid, breach}
 use Rattle.rules.proofs.Ranks.{Stop, stop-once}
 use Rattle.rules.proofs.Headers.{declares-once}
 use Rattle.rules.proofs.Onward.{declared, reached-within}
@@ -41,7 +41,7 @@ record KindEnd (s : List ℕ) (code place : ℕ) : Type 0 where
   r : ℕ
   ks : List Kind
   t : List ℕ
-  here : s ≡ front v ++ p ∷ l ∷ r ∷ map kindByte ks ++ t
+  here : s ≡ preamble v ++ p ∷ l ∷ r ∷ map kindByte ks ++ t
   few : Few p l r
   no-kind : NoKind t
   missing-some : length ks < p + l + r
@@ -123,7 +123,7 @@ of-breach {s} (kinds-short v p l r ks z w e few m) =
       r = r;
       ks = ks;
       t = [];
-      here = e ∙ ap (λ (x : List ℕ). front v ++ p ∷ l ∷ r ∷ x) (sym (append-nil (map kindByte ks)));
+      here = e ∙ ap (λ (x : List ℕ). preamble v ++ p ∷ l ∷ r ∷ x) (sym (append-nil (map kindByte ks)));
       few = few;
       no-kind = none-left;
       missing-some = m;

@@ -10,12 +10,12 @@ use Rattle.opcode.specs.Table.{End, Code, plain}
 use Rattle.instr.specs.declared.Instr.{Instr}
 use Rattle.instr.specs.Decode.{decodeAt}
 use Rattle.rules.specs.Header.{Version, Header, Few, mark, versionBytes, locals}
-use Rattle.rules.specs.Typing.{Frame, allValues, Label, Local, Types, Names, Opens, Branches, Ends}
+use Rattle.rules.specs.Typing.{Frame, allValues, Target, Local, Types, Names, Opens, Branches, Ends}
 use Rattle.rules.specs.Strip.{Reads, Reaches, Valid}
 
 -- the bytes before the counts
-abbrev pub front : ℕ → List ℕ
-front v = mark ++ versionBytes v
+abbrev pub preamble : ℕ → List ℕ
+preamble v = mark ++ versionBytes v
 
 -- of a length at which anything else is asked
 pub record Sized (s : List ℕ) : Type 0 where
@@ -41,13 +41,13 @@ pub data Breach (s : List ℕ) : ℕ → ℕ → Type 0 where
   long : fileLimit < length s → Breach s LONG 0
   stub : length s < 8 → Breach s SHORT (length s)
   unmarked : Sized s → ((rest : List ℕ) → s ≡ mark ++ rest → ⊥) → Breach s MARK 0
-  other-version : (rest : List ℕ) → Sized s → s ≡ mark ++ rest → ((v : ℕ) (more : List ℕ) → Version v → s ≡ front v ++ more → ⊥) → Breach s VERSION 3
-  parameters : (v p : ℕ) (rest : List ℕ) → Sized s → Version v → s ≡ front v ++ p ∷ rest → parameterLimit < p → Breach s COUNT 5
-  further : (v p l : ℕ) (rest : List ℕ) → Sized s → Version v → s ≡ front v ++ p ∷ l ∷ rest → p ≤ parameterLimit → localLimit < l → Breach s COUNT 6
-  results : (v p l r : ℕ) (rest : List ℕ) → Sized s → Version v → s ≡ front v ++ p ∷ l ∷ r ∷ rest → p ≤ parameterLimit → l ≤ localLimit → resultLimit < r → Breach s COUNT 7
-  kind : (v p l r b : ℕ) (ks : List Kind) (rest : List ℕ) → Sized s → Version v → s ≡ front v ++ p ∷ l ∷ r ∷ map kindByte ks ++ b ∷ rest → Few p l r
+  other-version : (rest : List ℕ) → Sized s → s ≡ mark ++ rest → ((v : ℕ) (more : List ℕ) → Version v → s ≡ preamble v ++ more → ⊥) → Breach s VERSION 3
+  parameters : (v p : ℕ) (rest : List ℕ) → Sized s → Version v → s ≡ preamble v ++ p ∷ rest → parameterLimit < p → Breach s COUNT 5
+  further : (v p l : ℕ) (rest : List ℕ) → Sized s → Version v → s ≡ preamble v ++ p ∷ l ∷ rest → p ≤ parameterLimit → localLimit < l → Breach s COUNT 6
+  results : (v p l r : ℕ) (rest : List ℕ) → Sized s → Version v → s ≡ preamble v ++ p ∷ l ∷ r ∷ rest → p ≤ parameterLimit → l ≤ localLimit → resultLimit < r → Breach s COUNT 7
+  kind : (v p l r b : ℕ) (ks : List Kind) (rest : List ℕ) → Sized s → Version v → s ≡ preamble v ++ p ∷ l ∷ r ∷ map kindByte ks ++ b ∷ rest → Few p l r
       → length ks < p + l + r → ((k : Kind) → b ≡ kindByte k → ⊥) → Breach s KIND (8 + length ks)
-  kinds-short : (v p l r : ℕ) (ks : List Kind) → Sized s → Version v → s ≡ front v ++ p ∷ l ∷ r ∷ map kindByte ks → Few p l r → length ks < p + l + r
+  kinds-short : (v p l r : ℕ) (ks : List Kind) → Sized s → Version v → s ≡ preamble v ++ p ∷ l ∷ r ∷ map kindByte ks → Few p l r → length ks < p + l + r
       → Breach s SHORT (length s)
   short : {place : ℕ} → Refused s SHORT place → Breach s SHORT place
   block-type : {place : ℕ} → Refused s KIND place → Breach s KIND place
@@ -59,9 +59,9 @@ pub data Breach (s : List ℕ) : ℕ → ℕ → Type 0 where
   local : {h : Header} {p : ℕ} {fs : List Frame} {i : Instr} {c : Code} → At s h p fs i c → Names c → ((k : Kind) → Local (locals h) (i .index) k → ⊥)
       → Breach s LOCAL p
   nest : {h : Header} {p : ℕ} {fs : List Frame} {i : Instr} {c : Code} → At s h p fs i c → Opens c → nestLimit < length fs → Breach s NEST p
-  label : {h : Header} {p : ℕ} {fs : List Frame} {i : Instr} {c : Code} → At s h p fs i c → Branches c → ((g : Frame) → Label fs (i .index) g → ⊥) → Breach s LABEL p
+  label : {h : Header} {p : ℕ} {fs : List Frame} {i : Instr} {c : Code} → At s h p fs i c → Branches c → ((g : Frame) → Target fs (i .index) g → ⊥) → Breach s LABEL p
   operand : {h : Header} {p : ℕ} {fs : List Frame} {i : Instr} {c : Code} → At s h p fs i c → (c ≡ plain End → ⊥) → (Names c → (k : Kind) × Local (locals h) (i .index) k)
-      → (Branches c → (g : Frame) × Label fs (i .index) g) → ((fs′ : List Frame) → Types (locals h) i c fs fs′ → ⊥) → Breach s OPERAND p
+      → (Branches c → (g : Frame) × Target fs (i .index) g) → ((fs′ : List Frame) → Types (locals h) i c fs fs′ → ⊥) → Breach s OPERAND p
   deep : {h : Header} {p : ℕ} {fs fs′ : List Frame} {i : Instr} {c : Code} → At s h p fs i c → Types (locals h) i c fs fs′ → stackLimit < length (allValues fs′)
       → Breach s DEEP p
   result : {h : Header} {p : ℕ} {fs : List Frame} {i : Instr} → At s h p fs i (plain End) → (Ends fs → ⊥) → Breach s RESULT p

@@ -46,7 +46,7 @@ pub record Few (p l r : ℕ) : Type 0 where
 -- the strip s declares h, and its instructions are these bytes
 pub record Declares (s : List ℕ) (h : Header) : Type 0 where
   pub sized : length s ≤ fileLimit
-  pub known : Version (h .version)
+  pub versioned : Version (h .version)
   pub few : Few (length (h .parameters)) (length (h .further)) (length (h .results))
   pub body : List ℕ
   pub bytes : s ≡ headerBytes h ++ body

@@ -41,9 +41,9 @@ allValues [] = []
 allValues (f ∷ fs) = allValues fs ++ f .values
 
 -- a branch of this number goes to g
-pub data Label : List Frame → ℕ → Frame → Type 0 where
-  innermost : {g : Frame} {fs : List Frame} → Label (g ∷ fs) zero g
-  outer : {f g : Frame} {fs : List Frame} {n : ℕ} → Label fs n g → Label (f ∷ fs) (suc n) g
+pub data Target : List Frame → ℕ → Frame → Type 0 where
+  innermost : {g : Frame} {fs : List Frame} → Target (g ∷ fs) zero g
+  outer : {f g : Frame} {fs : List Frame} {n : ℕ} → Target fs n g → Target (f ∷ fs) (suc n) g
 
 -- ---- operands
 
@@ -62,7 +62,7 @@ pub data Typed (ls : List Kind) (n : ℕ) : Code → List Kind → List Kind →
 
 -- these kinds are on top, over those below: all are known; or the code is dead, none are below, and the first of them are any
 pub data Has (f : Frame) : List Kind → List Kind → Type 0 where
-  known : {below ins : List Kind} → f .values ≡ below ++ ins → Has f below ins
+  all-known : {below ins : List Kind} → f .values ≡ below ++ ins → Has f below ins
   any : (unknown : List Kind) {ins : List Kind} → f .dead ≡ true → unknown ++ f .values ≡ ins → Has f [] ins
 
 -- ---- one instruction: the frames before and after it
@@ -72,10 +72,10 @@ pub data Types (ls : List Kind) (i : Instr) : Code → List Frame → List Frame
   ordinary : {c : Code} {ins outs below : List Kind} {f : Frame} {fs : List Frame} → Typed ls (i .index) c ins outs → Has f below ins
       → Types ls i c (f ∷ fs) (holding f (below ++ outs) ∷ fs)
   -- br: what follows is dead
-  branches : {below : List Kind} {f g : Frame} {fs : List Frame} → Label (f ∷ fs) (i .index) g → Has f below (branchKinds g)
+  branches : {below : List Kind} {f g : Frame} {fs : List Frame} → Target (f ∷ fs) (i .index) g → Has f below (branchKinds g)
       → Types ls i (control Br) (f ∷ fs) (deadened f ∷ fs)
   -- br_if: an i32 on top, and what the branch takes is left
-  may-branch : {below : List Kind} {f g : Frame} {fs : List Frame} → Label (f ∷ fs) (i .index) g → Has f below (branchKinds g ++ i32 ∷ [])
+  may-branch : {below : List Kind} {f g : Frame} {fs : List Frame} → Target (f ∷ fs) (i .index) g → Has f below (branchKinds g ++ i32 ∷ [])
       → Types ls i (control BrIf) (f ∷ fs) (holding f (below ++ branchKinds g) ∷ fs)
   opens-block : {fs : List Frame} → Types ls i (control Block) fs (opened false (blockResults (i .block)) ∷ fs)
   opens-loop : {fs : List Frame} → Types ls i (control Loop) fs (opened true (blockResults (i .block)) ∷ fs)

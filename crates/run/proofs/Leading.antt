@@ -64,7 +64,7 @@ module _ {s : List ℕ} (v : Valid s) {σ : State} {ls : List Label} {index dept
   below-nest ne = lt-of-le-ne target-most ne
 
   pub version-fits : known (getD s 3 0) ≡ true
-  version-fits = subst (λ (n : ℕ). known n ≡ true) (sym (version-read (declared (v .reached)))) (declared (v .reached) .known)
+  version-fits = subst (λ (n : ℕ). known n ≡ true) (sym (version-read (declared (v .reached)))) (declared (v .reached) .versioned)
 
   -- ---- out of the strip
 

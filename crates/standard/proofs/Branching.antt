@@ -9,7 +9,7 @@ use Rattle.opcode.specs.Kind.{Kind}
 use Rattle.machine.specs.Value.{Value, kindOf, AllInRange}
 use Rattle.machine.specs.Exec.{State, ofKinds}
 use Rattle.rules.specs.Header.{Header, locals}
-use Rattle.rules.specs.Typing.{Frame, opened, holding, branchKinds, Label as Target, innermost, outer}
+use Rattle.rules.specs.Typing.{Frame, opened, holding, branchKinds, Target, innermost, outer}
 use Rattle.rules.specs.Strip.{Reaches, Valid}
 use Rattle.standard.specs.Closing.{close}
 use Rattle.standard.specs.Standard.{Label, Config, Stage, going, ended, halted, withStack, along, resume, jump, branch}

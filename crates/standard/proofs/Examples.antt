@@ -19,7 +19,7 @@ use Rattle.instr.specs.Decode.{numberItem, byteAt, blockAt, immediatesAt, bodyO
 use Rattle.machine.specs.Value.{I32}
 use Rattle.machine.specs.Exec.{popI32, popAny, goOn, local, alike, ofKinds}
 use Rattle.rules.specs.Header.{Header, headerBytes, locals}
-use Rattle.rules.specs.Typing.{Frame, opened, holding, deadened, innermost, outer, first, later, by-signature, got, set, known, Types, ordinary, branches, may-branch, opens-block, opens-loop, closes, ends}
+use Rattle.rules.specs.Typing.{Frame, opened, holding, deadened, innermost, outer, first, later, by-signature, got, set, all-known, Types, ordinary, branches, may-branch, opens-block, opens-loop, closes, ends}
 use Rattle.rules.specs.Strip.{Within, Reaches, front, past, Valid}
 use Rattle.standard.specs.Closing.{closeWithin, close}
 use Rattle.standard.specs.Standard.{Stage, going, ended, halted, step, runs, begin}
@@ -64,15 +64,15 @@ next : {p : ℕ} {fs fs′ : List Frame} {c : Code} → Reaches sum h p fs → d
 next {p} reached done does t w = past reached (record { stands = decoded-stands sum (are-bytes sum tt) 2 p done; does = does }) t w
 
 r0 : Reaches sum h 11 (S [] ∷ [])
-r0 = front (record { sized = lit≤ tt; known = refl; few = record { parameters = lit≤ tt; further = lit≤ tt; results = lit≤ tt }; body = drop 11 sum; bytes = refl })
+r0 = front (record { sized = lit≤ tt; versioned = refl; few = record { parameters = lit≤ tt; further = lit≤ tt; results = lit≤ tt }; body = drop 11 sum; bytes = refl })
 
 r1 : Reaches sum h 13 (S (i32 ∷ []) ∷ [])
 unfolding numberItem byteAt blockAt immediatesAt bodyOf opcodeNumber decodeAt plainAt lastOf before intOf numberAt
-r1 = next {p = 11} r0 refl refl (ordinary {below = []} (by-signature refl) (known refl)) (record { blocks = lit≤ tt; values = lit≤ tt })
+r1 = next {p = 11} r0 refl refl (ordinary {below = []} (by-signature refl) (all-known refl)) (record { blocks = lit≤ tt; values = lit≤ tt })
 
 r2 : Reaches sum h 15 (S [] ∷ [])
 unfolding numberItem byteAt blockAt immediatesAt bodyOf opcodeNumber decodeAt plainAt lastOf before intOf numberAt
-r2 = next {p = 13} r1 refl refl (ordinary {below = []} (set first) (known refl)) (record { blocks = lit≤ tt; values = lit≤ tt })
+r2 = next {p = 13} r1 refl refl (ordinary {below = []} (set first) (all-known refl)) (record { blocks = lit≤ tt; values = lit≤ tt })
 
 r3 : Reaches sum h 17 (B [] ∷ S [] ∷ [])
 unfolding numberItem byteAt blockAt immediatesAt bodyOf opcodeNumber decodeAt plainAt lastOf before intOf numberAt
@@ -84,63 +84,63 @@ r4 = next {p = 17} r3 refl refl (opens-loop) (record { blocks = lit≤ tt; value
 
 r5 : Reaches sum h 21 (L (i32 ∷ []) ∷ B [] ∷ S [] ∷ [])
 unfolding numberItem byteAt blockAt immediatesAt bodyOf opcodeNumber decodeAt plainAt lastOf before intOf numberAt
-r5 = next {p = 19} r4 refl refl (ordinary {below = []} (got first) (known refl)) (record { blocks = lit≤ tt; values = lit≤ tt })
+r5 = next {p = 19} r4 refl refl (ordinary {below = []} (got first) (all-known refl)) (record { blocks = lit≤ tt; values = lit≤ tt })
 
 r6 : Reaches sum h 22 (L (i32 ∷ []) ∷ B [] ∷ S [] ∷ [])
 unfolding numberItem byteAt blockAt immediatesAt bodyOf opcodeNumber decodeAt plainAt lastOf before intOf numberAt
-r6 = next {p = 21} r5 refl refl (ordinary {below = []} (by-signature refl) (known refl)) (record { blocks = lit≤ tt; values = lit≤ tt })
+r6 = next {p = 21} r5 refl refl (ordinary {below = []} (by-signature refl) (all-known refl)) (record { blocks = lit≤ tt; values = lit≤ tt })
 
 r7 : Reaches sum h 24 (L [] ∷ B [] ∷ S [] ∷ [])
 unfolding numberItem byteAt blockAt immediatesAt bodyOf opcodeNumber decodeAt plainAt lastOf before intOf numberAt
-r7 = next {p = 22} r6 refl refl (may-branch {below = []} {f = L (i32 ∷ [])} {g = B []} (outer innermost) (known refl)) (record { blocks = lit≤ tt; values = lit≤ tt })
+r7 = next {p = 22} r6 refl refl (may-branch {below = []} {f = L (i32 ∷ [])} {g = B []} (outer innermost) (all-known refl)) (record { blocks = lit≤ tt; values = lit≤ tt })
 
 r8 : Reaches sum h 26 (L (i32 ∷ []) ∷ B [] ∷ S [] ∷ [])
 unfolding numberItem byteAt blockAt immediatesAt bodyOf opcodeNumber decodeAt plainAt lastOf before intOf numberAt
-r8 = next {p = 24} r7 refl refl (ordinary {below = []} (got (later first)) (known refl)) (record { blocks = lit≤ tt; values = lit≤ tt })
+r8 = next {p = 24} r7 refl refl (ordinary {below = []} (got (later first)) (all-known refl)) (record { blocks = lit≤ tt; values = lit≤ tt })
 
 r9 : Reaches sum h 28 (L (i32 ∷ i32 ∷ []) ∷ B [] ∷ S [] ∷ [])
 unfolding numberItem byteAt blockAt immediatesAt bodyOf opcodeNumber decodeAt plainAt lastOf before intOf numberAt
-r9 = next {p = 26} r8 refl refl (ordinary {below = i32 ∷ []} (got first) (known refl)) (record { blocks = lit≤ tt; values = lit≤ tt })
+r9 = next {p = 26} r8 refl refl (ordinary {below = i32 ∷ []} (got first) (all-known refl)) (record { blocks = lit≤ tt; values = lit≤ tt })
 
 r10 : Reaches sum h 29 (L (i32 ∷ []) ∷ B [] ∷ S [] ∷ [])
 unfolding numberItem byteAt blockAt immediatesAt bodyOf opcodeNumber decodeAt plainAt lastOf before intOf numberAt
-r10 = next {p = 28} r9 refl refl (ordinary {below = []} (by-signature refl) (known refl)) (record { blocks = lit≤ tt; values = lit≤ tt })
+r10 = next {p = 28} r9 refl refl (ordinary {below = []} (by-signature refl) (all-known refl)) (record { blocks = lit≤ tt; values = lit≤ tt })
 
 r11 : Reaches sum h 31 (L [] ∷ B [] ∷ S [] ∷ [])
 unfolding numberItem byteAt blockAt immediatesAt bodyOf opcodeNumber decodeAt plainAt lastOf before intOf numberAt
-r11 = next {p = 29} r10 refl refl (ordinary {below = []} (set (later first)) (known refl)) (record { blocks = lit≤ tt; values = lit≤ tt })
+r11 = next {p = 29} r10 refl refl (ordinary {below = []} (set (later first)) (all-known refl)) (record { blocks = lit≤ tt; values = lit≤ tt })
 
 r12 : Reaches sum h 33 (L (i32 ∷ []) ∷ B [] ∷ S [] ∷ [])
 unfolding numberItem byteAt blockAt immediatesAt bodyOf opcodeNumber decodeAt plainAt lastOf before intOf numberAt
-r12 = next {p = 31} r11 refl refl (ordinary {below = []} (got first) (known refl)) (record { blocks = lit≤ tt; values = lit≤ tt })
+r12 = next {p = 31} r11 refl refl (ordinary {below = []} (got first) (all-known refl)) (record { blocks = lit≤ tt; values = lit≤ tt })
 
 r13 : Reaches sum h 35 (L (i32 ∷ i32 ∷ []) ∷ B [] ∷ S [] ∷ [])
 unfolding numberItem byteAt blockAt immediatesAt bodyOf opcodeNumber decodeAt plainAt lastOf before intOf numberAt
-r13 = next {p = 33} r12 refl refl (ordinary {below = i32 ∷ []} (by-signature refl) (known refl)) (record { blocks = lit≤ tt; values = lit≤ tt })
+r13 = next {p = 33} r12 refl refl (ordinary {below = i32 ∷ []} (by-signature refl) (all-known refl)) (record { blocks = lit≤ tt; values = lit≤ tt })
 
 r14 : Reaches sum h 36 (L (i32 ∷ []) ∷ B [] ∷ S [] ∷ [])
 unfolding numberItem byteAt blockAt immediatesAt bodyOf opcodeNumber decodeAt plainAt lastOf before intOf numberAt
-r14 = next {p = 35} r13 refl refl (ordinary {below = []} (by-signature refl) (known refl)) (record { blocks = lit≤ tt; values = lit≤ tt })
+r14 = next {p = 35} r13 refl refl (ordinary {below = []} (by-signature refl) (all-known refl)) (record { blocks = lit≤ tt; values = lit≤ tt })
 
 r15 : Reaches sum h 38 (L [] ∷ B [] ∷ S [] ∷ [])
 unfolding numberItem byteAt blockAt immediatesAt bodyOf opcodeNumber decodeAt plainAt lastOf before intOf numberAt
-r15 = next {p = 36} r14 refl refl (ordinary {below = []} (set first) (known refl)) (record { blocks = lit≤ tt; values = lit≤ tt })
+r15 = next {p = 36} r14 refl refl (ordinary {below = []} (set first) (all-known refl)) (record { blocks = lit≤ tt; values = lit≤ tt })
 
 r16 : Reaches sum h 40 (deadened (L []) ∷ B [] ∷ S [] ∷ [])
 unfolding numberItem byteAt blockAt immediatesAt bodyOf opcodeNumber decodeAt plainAt lastOf before intOf numberAt
-r16 = next {p = 38} r15 refl refl (branches {below = []} {f = L []} {g = L []} innermost (known refl)) (record { blocks = lit≤ tt; values = lit≤ tt })
+r16 = next {p = 38} r15 refl refl (branches {below = []} {f = L []} {g = L []} innermost (all-known refl)) (record { blocks = lit≤ tt; values = lit≤ tt })
 
 r17 : Reaches sum h 41 (B [] ∷ S [] ∷ [])
 unfolding numberItem byteAt blockAt immediatesAt bodyOf opcodeNumber decodeAt plainAt lastOf before intOf numberAt
-r17 = next {p = 40} r16 refl refl (closes (known refl)) (record { blocks = lit≤ tt; values = lit≤ tt })
+r17 = next {p = 40} r16 refl refl (closes (all-known refl)) (record { blocks = lit≤ tt; values = lit≤ tt })
 
 r18 : Reaches sum h 42 (S [] ∷ [])
 unfolding numberItem byteAt blockAt immediatesAt bodyOf opcodeNumber decodeAt plainAt lastOf before intOf numberAt
-r18 = next {p = 41} r17 refl refl (closes (known refl)) (record { blocks = lit≤ tt; values = lit≤ tt })
+r18 = next {p = 41} r17 refl refl (closes (all-known refl)) (record { blocks = lit≤ tt; values = lit≤ tt })
 
 r19 : Reaches sum h 44 (S (i32 ∷ []) ∷ [])
 unfolding numberItem byteAt blockAt immediatesAt bodyOf opcodeNumber decodeAt plainAt lastOf before intOf numberAt
-r19 = next {p = 42} r18 refl refl (ordinary {below = []} (got (later first)) (known refl)) (record { blocks = lit≤ tt; values = lit≤ tt })
+r19 = next {p = 42} r18 refl refl (ordinary {below = []} (got (later first)) (all-known refl)) (record { blocks = lit≤ tt; values = lit≤ tt })
 
 pub sum-valid : Valid sum
 unfolding numberItem byteAt blockAt immediatesAt bodyOf opcodeNumber decodeAt plainAt lastOf before intOf numberAt
@@ -152,7 +152,7 @@ sum-valid =
       final = decodeAt 2 sum 44 .instr;
       reached = r19;
       ends = record { stands = decoded-stands sum (are-bytes sum tt) 2 44 refl; does = refl };
-      whole = ends (known refl);
+      whole = ends (all-known refl);
       last = refl;
     }
 

@@ -8,7 +8,7 @@ use lib.ListN.{length, length-map, length-append, length-reverse}
 use Rattle.opcode.specs.Kind.{Kind}
 use Rattle.machine.specs.Value.{kindOf}
 use Rattle.rules.specs.Header.{Header}
-use Rattle.rules.specs.Typing.{Frame, holding, allValues, Label as Target, innermost, outer, Has, known, any}
+use Rattle.rules.specs.Typing.{Frame, holding, allValues, Target, innermost, outer, Has, all-known, any}
 use Rattle.standard.specs.Standard.{Label, countUnder}
 use Rattle.standard.specs.Safety.{Nested, outermost, inside}
 
@@ -30,9 +30,9 @@ module _ {s : List ℕ} {h : Header} where
   pub nested-none : {f : Frame} {ls : List Label} → Nested s h (f ∷ []) ls → ls ≡ []
   nested-none (outermost a b) = refl
 
--- in code that is not dead all is known
+-- in code that is not dead all is all-known
 pub live-has : {f : Frame} {below ins : List Kind} → f .dead ≡ false → Has f below ins → f .values ≡ below ++ ins
-live-has l (known e) = e
+live-has l (all-known e) = e
 live-has l (any u d e) = absurd (let z : _≡_ {A = ℕ} 0 1 = cc in omega arith)
 
 pub no-target : {n : ℕ} {g : Frame} {fs : List Frame} → Target fs n g → fs ≡ [] → ⊥

@@ -13,7 +13,7 @@ use Rattle.instr.specs.declared.Instr.{Instr}
 use Rattle.machine.specs.Value.{Value, I32, I64, V128, kindOf}
 use Rattle.machine.specs.Exec.{State, ofKinds}
 use Rattle.rules.specs.Header.{Header}
-use Rattle.rules.specs.Typing.{Frame, branchKinds, Label as Target, innermost, outer}
+use Rattle.rules.specs.Typing.{Frame, branchKinds, Target, innermost, outer}
 use Rattle.rules.specs.Strip.{Reads}
 use Rattle.standard.specs.Closing.{close}
 use Rattle.standard.specs.Standard.{Label, Config, Stage, going, ended, halted, withStack, along, resume, jump, branch, branchIf}

@@ -17,7 +17,7 @@ use Rattle.instr.specs.Decode.{decodeAt}
 use Rattle.machine.specs.Value.{Value, I32, kindOf}
 use Rattle.machine.specs.Exec.{State, stuck, ofKinds, exec}
 use Rattle.rules.specs.Header.{Header, Declares, locals}
-use Rattle.rules.specs.Typing.{Frame, branchKinds, allValues, Label as Target, Local, Has, known, Types, ordinary, branches, may-branch, opens-block, opens-loop, closes, Names, Opens, block-opens, loop-opens, Branches, br-branches, if-branches, Ends, ends}
+use Rattle.rules.specs.Typing.{Frame, branchKinds, allValues, Target, Local, Has, all-known, Types, ordinary, branches, may-branch, opens-block, opens-loop, closes, Names, Opens, block-opens, loop-opens, Branches, br-branches, if-branches, Ends, ends}
 use Rattle.rules.specs.Strip.{Reads, Reaches}
 use Rattle.rules.specs.Breach.{Refused, At, Breach, long, stub, unmarked, other-version, parameters, further, results, kind, kinds-short, short, block-type, opcode, float, number, lane, align, local, nest, label, operand, deep, result, trailing}
 use Rattle.rules.proofs.Headers.{declares-once}
@@ -68,7 +68,7 @@ module _ {s : List ℕ} {h : Header} (c : Config) {f : Frame} {fs : List Frame} 
   other-results r never = stuck-here (step-does h c r ∙ by (c .labels) (fits .nested))
     where
       no-match : f .values ≡ f .results → ⊥
-      no-match e = never (ends (known e))
+      no-match e = never (ends (all-known e))
 
       by : {gs : List Frame} (ls : List Label) → Nested s h (f ∷ gs) ls → stepPlain h c n i End ls ≡ halted
       by ls (outermost a b) = ap (after c n) (end-stuck (h .results) i (c .state) (locals h) (fits .held) (f .values) (fits .stacked) (λ e. no-match (e ∙ sym b)))
@@ -101,7 +101,7 @@ module _ {s : List ℕ} {h : Header} (c : Config) {f : Frame} {fs : List Frame} 
       if-or r (if-stuck s h c n (i .index) (c .state .stack) (λ a st e.
       lacking-branch s h (withStack (c .state) st) (reverse (map kindOf st)) (sym (reverse-reverse (map kindOf st))) (fits .nested) t
       (λ below q.
-      never _ (may-branch {below = below} t (known (
+      never _ (may-branch {below = below} t (all-known (
       under-top (f .values) i32 (map kindOf st) (ap (map kindOf) (sym e) ∙ fits .stacked)
       ∙ ap (λ (ks : List Kind). ks ++ i32 ∷ []) q ∙ append-assoc below (branchKinds g) (i32 ∷ [])))))))
 
@@ -109,16 +109,16 @@ module _ {s : List ℕ} {h : Header} (c : Config) {f : Frame} {fs : List Frame} 
       → (Branches k → (g : Frame) × Target (f ∷ fs) (i .index) g) → Never k → StuckHere s h c
   missing (plain p) r e names labels never =
       by-itself r e (λ x q. let z : _≡_ {A = ℕ} 0 1 = cc (q) in omega arith)
-      (untyped-stuck (h .results) i (c .state) (locals h) (fits .held) (f .values) (fits .stacked) (plain p) e names (λ below ins outs t q. never _ (ordinary {below = below} t (known q))))
+      (untyped-stuck (h .results) i (c .state) (locals h) (fits .held) (f .values) (fits .stacked) (plain p) e names (λ below ins outs t q. never _ (ordinary {below = below} t (all-known q))))
   missing (control Block) r e names labels never = absurd (never _ opens-block)
   missing (control Loop) r e names labels never = absurd (never _ opens-loop)
   missing (control Br) r e names labels never =
       let g = labels br-branches in
-      stuck-here (step-does h c r ∙ lacking-branch s h (c .state) (f .values) (fits .stacked) (fits .nested) (g .1) (λ below q. never _ (branches {below = below} (g .1) (known q))))
+      stuck-here (step-does h c r ∙ lacking-branch s h (c .state) (f .values) (fits .stacked) (fits .nested) (g .1) (λ below q. never _ (branches {below = below} (g .1) (all-known q))))
   missing (control BrIf) r e names labels never = let g = labels if-branches in lacking-if r (g .0) (g .1) never
   missing (vector o) r e names labels never =
       by-itself r e (λ x q. let z : _≡_ {A = ℕ} 0 1 = cc (q) in omega arith)
-      (untyped-stuck (h .results) i (c .state) (locals h) (fits .held) (f .values) (fits .stacked) (vector o) e names (λ below ins outs t q. never _ (ordinary {below = below} t (known q))))
+      (untyped-stuck (h .results) i (c .state) (locals h) (fits .held) (f .values) (fits .stacked) (vector o) e names (λ below ins outs t q. never _ (ordinary {below = below} t (all-known q))))
 
 -- ---- the stack is full
 

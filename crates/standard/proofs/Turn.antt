@@ -15,7 +15,7 @@ use Rattle.instr.specs.declared.Instr.{Instr}
 use Rattle.machine.specs.Value.{Value, I32, I64, V128, kindOf, AllInRange}
 use Rattle.machine.specs.Exec.{State, Outcome, goes, done, stuck, ofKinds, exec}
 use Rattle.rules.specs.Header.{Header, locals}
-use Rattle.rules.specs.Typing.{Frame, opened, holding, branchKinds, allValues, Label as Target, Typed, Has, Types, ordinary, branches, may-branch, opens-block, opens-loop, closes, Ends, ends}
+use Rattle.rules.specs.Typing.{Frame, opened, holding, branchKinds, allValues, Target, Typed, Has, Types, ordinary, branches, may-branch, opens-block, opens-loop, closes, Ends, ends}
 use Rattle.rules.specs.Strip.{Reads, Within, Reaches, past, Valid}
 use Rattle.rules.proofs.Typings.{end-untyped, control-untyped}
 use Rattle.standard.specs.Standard.{Label, Config, Stage, going, ended, halted, withStack, countUnder, after, enter, leave, branch, branchIf, stepPlain, stepCode, step}

@@ -8,7 +8,7 @@ use Rattle.limits.specs.Limits.{resultLimit}
 use Rattle.operation.specs.Vector.{number}
 use Rattle.opcode.specs.Kind.{Kind, kindByte}
 use Rattle.opcode.specs.BlockType.{isBlockType, blockResults}
-use Rattle.rules.specs.Typing.{Frame, allValues, branchKinds, Label}
+use Rattle.rules.specs.Typing.{Frame, allValues, branchKinds, Target}
 use Rattle.rules.specs.Strip.{Within}
 use Rattle.checker.specs.Inner.Kinds.{Holds}
 
@@ -39,6 +39,6 @@ pub record Framed (rs : List Kind) (kinds blocks : List ℕ) (depth nest floor :
 -- a branch of this number goes to a block that takes these kinds
 pub record Labelled (fs : List Frame) (n takes : ℕ) : Type 0 where
   pub target : Frame
-  pub label : Label fs n target
+  pub label : Target fs n target
   pub takes-is : topFirst (branchKinds target) ≡ takes
   pub few : length (branchKinds target) ≤ resultLimit

@@ -14,7 +14,7 @@ use Rattle.opcode.specs.Effect.{_⇒_}
 use Rattle.opcode.specs.Number.{packed}
 use Rattle.opcode.specs.Entry.{entryOf, groupIn}
 use Rattle.instr.specs.declared.Instr.{Instr}
-use Rattle.rules.specs.Typing.{Frame, allValues, Label, Local, Typed, Has, Types, Names, Opens, Branches, Ends}
+use Rattle.rules.specs.Typing.{Frame, allValues, Target, Local, Typed, Has, Types, Names, Opens, Branches, Ends}
 use Rattle.checker.specs.Inner.Kinds.{Holds}
 use Rattle.checker.specs.Inner.Stack.{Small}
 use Rattle.checker.specs.Inner.Blocks.{topFirst, Framed}
@@ -50,8 +50,8 @@ pub data Gives (ls : List Kind) (n : ℕ) (c : Code) (outer : List Kind) (f : Fr
 pub data Judges (ls rs : List Kind) (i : Instr) (c : Code) (fs : List Frame) (kinds blocks : List ℕ) (depth nest floor : ℕ) (dead : Bool) : ℕ → Type 0 where
   no-local : Names c → ((k : Kind) → Local ls (i .index) k → ⊥) → Judges ls rs i c fs kinds blocks depth nest floor dead LOCAL
   too-nested : Opens c → nestLimit < length fs → Judges ls rs i c fs kinds blocks depth nest floor dead NEST
-  no-label : Branches c → ((g : Frame) → Label fs (i .index) g → ⊥) → Judges ls rs i c fs kinds blocks depth nest floor dead LABEL
-  untyped : (c ≡ plain End → ⊥) → (Names c → (k : Kind) × Local ls (i .index) k) → (Branches c → (g : Frame) × Label fs (i .index) g)
+  no-label : Branches c → ((g : Frame) → Target fs (i .index) g → ⊥) → Judges ls rs i c fs kinds blocks depth nest floor dead LABEL
+  untyped : (c ≡ plain End → ⊥) → (Names c → (k : Kind) × Local ls (i .index) k) → (Branches c → (g : Frame) × Target fs (i .index) g)
       → ((fs′ : List Frame) → Types ls i c fs fs′ → ⊥) → Judges ls rs i c fs kinds blocks depth nest floor dead OPERAND
   no-results : c ≡ plain End → (Ends fs → ⊥) → Judges ls rs i c fs kinds blocks depth nest floor dead RESULT
   too-deep : {fs′ : List Frame} → Types ls i c fs fs′ → stackLimit < length (allValues fs′) → Judges ls rs i c fs kinds blocks depth nest floor dead DEEP

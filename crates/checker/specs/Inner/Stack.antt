@@ -28,7 +28,7 @@ pub data Under (f : Frame) (ins : List Kind) (floor : ℕ) : ℕ → Type 0 wher
 pub record Small (ins outs : List Kind) : Type 0 where
   pub few : length ins ≤ 3
   pub one : length outs ≤ 1
-  pub known : 0 < packed (some (ins ⇒ outs))
+  pub some : 0 < packed (some (ins ⇒ outs))
 
 -- kinds left over those below: a code, and the stack's depth then
 pub data Leaves (below outs : List Kind) (kinds : List ℕ) : ℕ → ℕ → Type 0 where
