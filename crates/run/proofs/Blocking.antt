@@ -68,13 +68,14 @@ branching (vector (Test o)) t a b c = absurd (let z : _≡_ {A = ℕ} 0 1 = cc (
 branching (vector (Shift o)) t a b c = absurd (let z : _≡_ {A = ℕ} 0 1 = cc (t) in omega arith)
 
 block-few : (b : ℕ) → length (blockResults b) ≤ 1
-block-few b = by (eqb b (kindByte i32)) (eqb b (kindByte i64)) (eqb b (kindByte v128))
+block-few b = by (eqb b 0x40) (eqb b (kindByte i32)) (eqb b (kindByte i64)) (eqb b (kindByte v128))
   where
-    by : (t u w : Bool) → length (cond t (i32 ∷ []) (cond u (i64 ∷ []) (cond w (v128 ∷ []) []))) ≤ 1
-    by true u w = omega arith
-    by false true w = omega arith
-    by false false true = omega arith
-    by false false false = omega arith
+    by : (r t u w : Bool) → length (cond r [] (cond t (i32 ∷ []) (cond u (i64 ∷ []) (cond w (v128 ∷ []) [])))) ≤ 1
+    by true t u w = omega arith
+    by false true u w = omega arith
+    by false false true w = omega arith
+    by false false false true = omega arith
+    by false false false false = omega arith
 
 -- the strip's `end`, not stuck
 ended-by : {s : List ℕ} {h : Header} {m : ℕ} (c : Config) (n : ℕ) (t : Bool) (vs : List Value) → Safe s h m (after c n (cond t (done vs) stuck)) → after c n (cond t (done vs) stuck) ≡ ended vs (c .state .memory)

@@ -91,7 +91,7 @@ shared-slice-read-close c = omega (arith, counts (c .before .before .before .bef
 
 -- src/blocks.rt:161:31
 cast-close : tie.Need-cast-close
-cast-close c = omega (arith, counts (c .before .before .before .before .before .before .before .before .pre .valid) (c .before .before .before .before .before .before .before .before .pre .leads))
+cast-close c = omega (arith, c .shared-slice-known7 .given 3 .fits)
 
 -- src/blocks.rt:161:61
 sub-close : tie.Need-sub-close

@@ -1,5 +1,9 @@
 -- Each kind's byte by itself.
-use mathlib.Core.Path.{sym, ap}
+use mathlib.Core.Path.{_≡_, refl, sym, ap}
+use mathlib.Core.Bool.{Bool, true, false, cond}
+use mathlib.Core.List.{List, []}
+use lib.Dec.{eqb}
+use Rattle.opcode.specs.Kind.{Kind}
 use Prim.Native.Nat.{ℕ}
 use lib.ListN.{length}
 use borrow.Author.Tests.{ne-eqb}
@@ -17,7 +21,11 @@ returns-3 : tie.Need-returns-3
 returns-3 c = sym (ap (λ (b : ℕ). length (blockResults b)) (c .match .keys3))
 
 returns-4 : tie.Need-returns-4
-returns-4 c = rw (ne-eqb _ _ (c .match .rest .0 .0 .1), ne-eqb _ _ (c .match .rest .0 .1), ne-eqb _ _ (c .match .rest .1))
+returns-4 c = rw (ne-eqb _ _ (c .match .rest .0 .0 .1), ne-eqb _ _ (c .match .rest .0 .1), ne-eqb _ _ (c .match .rest .1)) (neither (eqb (c .before .args .block) 0x40))
+  where
+    neither : (t : Bool) → 0 ≡ length (cond {A = List Kind} t [] [])
+    neither true = refl
+    neither false = refl
 
 pub results-of-spec : {M : Type 1} → statement M
 results-of-spec = tie.close (tie.spec returns returns-2 returns-3 returns-4)
