@@ -45,8 +45,8 @@ module _ (ver : ℕ) {k : Bool} (is : k ≡ known ver) where
   fault-unknown i e = rw (it-is-not e)
 
   -- what was asked of the id
-  pub fault-known : (i : Instr) (id : ℕ) {c : ℕ} → not k ≡ false → rowOf id ≡ rowIn ver i → c ≡ faultOf (rowOf id) i → c ≡ fault ver i
-  fault-known i id e g f = f ∙ rw (it-is e, g)
+  pub fault-by : (i : Instr) (id : ℕ) {c : ℕ} → not k ≡ false → rowOf id ≡ rowIn ver i → c ≡ faultOf (rowOf id) i → c ≡ fault ver i
+  fault-by i id e g f = f ∙ rw (it-is e, g)
 
 -- an instruction with nothing wrong is one that the version has, and the latest too
 module _ (ver : ℕ) (i : Instr) (id : ℕ) {c : ℕ} (e : rowOf id ≡ rowIn ver i) (f : c ≡ faultOf (rowOf id) i) where

@@ -4,7 +4,7 @@ use native.Mathlib.Omega.{arith}
 use denote.Ref.{now}
 use Rattle.opcode.specs.Number.{rowOf}
 use Rattle.opcode.proofs.Entries.{class-in}
-use Rattle.instr.proofs.Versions.{fault-unknown, fault-known, class-by}
+use Rattle.instr.proofs.Versions.{fault-unknown, fault-by, class-by}
 use Rattle.instr.proofs.Forms.{encoding-length, is-fault, is-small, is-done}
 use borrow.Author.Needs.{needs}
 use Rattle.instr.proofs.encoding.encode.Statement.{statement}
@@ -25,7 +25,7 @@ fault-of-requires c κs = search needs
 
 returns-2 : tie.Need-returns-2
 returns-2 c = let a = c .before .before .before .before .before .before .args in
-    is-fault (a .i) (a .version) _ _ (fault-known (a .version) (c .before .before .before .before .is-known .ensures) (a .i) _ (c .before .before .before .if1 .left) (c .before .before .id-in .ensures) (c .before .fault-of .ensures)) (c .if2 .taken)
+    is-fault (a .i) (a .version) _ _ (fault-by (a .version) (c .before .before .before .before .is-known .ensures) (a .i) _ (c .before .before .before .if1 .left) (c .before .before .id-in .ensures) (c .before .fault-of .ensures)) (c .if2 .taken)
 
 entry-requires : tie.Need-entry-requires
 entry-requires c κs = search needs
@@ -45,7 +45,7 @@ add-n c = search needs
 
 returns-3 : tie.Need-returns-3
 returns-3 c = let a = c .before .before .before .before .before .before .before .before .before .before .before .args in
-    is-small (a .i) (a .version) _ (sym (fault-known (a .version) (c .before .before .before .before .before .before .before .before .before .is-known .ensures) (a .i) _ (c .before .before .before .before .before .before .before .before .if1 .left) (c .before .before .before .before .before .before .before .id-in .ensures) (c .before .before .before .before .before .before .fault-of .ensures)) ∙ c .before .before .before .before .before .if2 .left)
+    is-small (a .i) (a .version) _ (sym (fault-by (a .version) (c .before .before .before .before .before .before .before .before .before .is-known .ensures) (a .i) _ (c .before .before .before .before .before .before .before .before .if1 .left) (c .before .before .before .before .before .before .before .id-in .ensures) (c .before .before .before .before .before .before .fault-of .ensures)) ∙ c .before .before .before .before .before .if2 .left)
     (omega (arith, c .if3 .taken, encoding-length (a .i), c .before .before .opcode-len .ensures .0, c .before .immediates-len .ensures .0))
 
 put-opcode-requires : tie.Need-put-opcode-requires
@@ -62,7 +62,7 @@ same-length c = search needs
 
 returns-4 : tie.Need-returns-4
 returns-4 c = let a = c .before .before .before .before .before .before .before .before .before .before .before .before .before .before .before .before .before .before .before .args in
-    is-done (a .i) (a .version) (now (a .out)) (sym (fault-known (a .version) (c .before .before .before .before .before .before .before .before .before .before .before .before .before .before .before .before .before .is-known .ensures) (a .i) _ (c .before .before .before .before .before .before .before .before .before .before .before .before .before .before .before .before .if1 .left) (c .before .before .before .before .before .before .before .before .before .before .before .before .before .before .before .id-in .ensures) (c .before .before .before .before .before .before .before .before .before .before .before .before .before .before .fault-of .ensures)) ∙ c .before .before .before .before .before .before .before .before .before .before .before .before .before .if2 .left)
+    is-done (a .i) (a .version) (now (a .out)) (sym (fault-by (a .version) (c .before .before .before .before .before .before .before .before .before .before .before .before .before .before .before .before .before .is-known .ensures) (a .i) _ (c .before .before .before .before .before .before .before .before .before .before .before .before .before .before .before .before .if1 .left) (c .before .before .before .before .before .before .before .before .before .before .before .before .before .before .before .id-in .ensures) (c .before .before .before .before .before .before .before .before .before .before .before .before .before .before .fault-of .ensures)) ∙ c .before .before .before .before .before .before .before .before .before .before .before .before .before .if2 .left)
     (omega (arith, c .before .before .before .before .before .before .before .before .if3 .left, encoding-length (a .i), c .before .before .before .before .before .before .before .before .before .before .opcode-len .ensures .0, c .before .before .before .before .before .before .before .before .before .immediates-len .ensures .0)) (c .before .before .before .before .before .before .put-opcode .ensures) (c .before .before .put-immediates .ensures)
 
 pub encode-spec : {M : Type 1} → statement M
