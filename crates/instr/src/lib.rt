@@ -89,7 +89,7 @@ pub(crate) fn wide(x: u8) -> u32
 pub(crate) fn is_block_type(b: u8) -> bool
     ensures { λ r. ⌜ r ≡ isBlockType b ⌝ }
 {
-    if b == 0x40 {
+    if b == opcode::kind::EMPTY {
         return true;
     }
     if b == opcode::kind::I32 {
