@@ -10,3 +10,5 @@ pub mod Heads
 pub mod Verdicts
 pub mod Strips
 pub mod One
+pub mod Dead
+pub mod Core

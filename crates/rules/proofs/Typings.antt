@@ -1,6 +1,7 @@
 -- An instruction leaves one stack at most, and inside blocks too.
 use Prim.Native.Nat.{ℕ, _+_}
 use mathlib.Core.Path.{_≡_, refl, ap, ap₂, sym, _∙_}
+use mathlib.Core.Bool.{false}
 use mathlib.Core.List.{List, [], _∷_, _++_}
 use mathlib.Core.Option.{Option, some}
 use native.Mathlib.Omega.{arith}
@@ -57,6 +58,11 @@ control-untyped dropped e = let z : _≡_ {A = ℕ} 0 1 = cc in omega arith
 control-untyped (got l) e = let z : _≡_ {A = ℕ} 0 1 = cc in omega arith
 control-untyped (set l) e = let z : _≡_ {A = ℕ} 0 1 = cc in omega arith
 control-untyped (teed l) e = let z : _≡_ {A = ℕ} 0 1 = cc in omega arith
+
+-- in live code all is known
+pub live-has : {f : Frame} {below ins : List Kind} → f .dead ≡ false → Has f below ins → f .values ≡ below ++ ins
+live-has l (all-known e) = e
+live-has l (any k d e) = absurd (let z : _≡_ {A = ℕ} 0 1 = cc in omega arith)
 
 empty : (ks : List Kind) → length ks ≡ 0 → ks ≡ []
 empty [] e = refl

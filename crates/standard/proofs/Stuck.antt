@@ -164,7 +164,7 @@ too-deep c {fs = fs} live fits n i r few (may-branch {below = below} {f = f} {g 
     ))
 too-deep c {f} {fs} live fits n i r few opens-block g = absurd (omega (arith, few, g, length-append (allValues (f ∷ fs)) []))
 too-deep c {f} {fs} live fits n i r few opens-loop g = absurd (omega (arith, few, g, length-append (allValues (f ∷ fs)) []))
-too-deep c live fits n i r few (closes {f = f} {g = g′} {fs = gs} x) g =
+too-deep c live fits n i r few (closes {f = f} {g = g′} {fs = gs} (ends x)) g =
     absurd (omega (
       arith,
       few,

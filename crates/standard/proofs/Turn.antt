@@ -164,7 +164,7 @@ module _ {s : List ℕ} (v : Valid s) (c : Config) where
       decided fits live (i .index) n below l (live-has (live .0) x) (past reached r (may-branch l x) w) (c .state .stack) (fits .stacked) (fits .stack-range)
   typed-safe {n = n} {i} fits live reached r opens-block w = entered false i n fits live w (past reached r opens-block w)
   typed-safe {n = n} {i} fits live reached r opens-loop w = entered true i n fits live w (past reached r opens-loop w)
-  typed-safe {n = n} {i} fits live reached r (closes x) w = left n i fits (live .1) (live-has (live .0) x) (past reached r (closes x) w)
+  typed-safe {n = n} {i} fits live reached r (closes (ends x)) w = left n i fits (live .1) (live-has (live .0) x) (past reached r (closes (ends x)) w)
 
   -- the strip's `end`
   ended-safe : (n : ℕ) (i : Instr) {f : Frame} → Fits s h f [] c → Live (f ∷ []) → Ends (f ∷ []) → Good (stepPlain h c n i End (c .labels))
