@@ -108,49 +108,17 @@ fresh {b} {ks} w = w .whole ∙ ap (λ (u : List Kind). over u (opened b ks)) (w
 
 -- ---- `end`, a block's and the strip's
 
+pub ends-given : {f : Frame} {fs : List Frame} → Ends (f ∷ fs) → (g : Frame) × Fills f g × (g .values ≡ g .results)
+ends-given {f} (ends x) = let k = given [] (λ l. refl) x in (over (k .under) f, filled (k .under) (k .none-live), k .has)
+
 pub ends-taken : {f g : Frame} {fs : List Frame} → Fills f g → g .values ≡ g .results → Ends (f ∷ fs)
 ends-taken {f} w e =
     let k = taken [] (f .results) w (e ∙ ap (λ (x : Frame). x .results) (w .whole)) in
     ends (subst (λ (ks : List Kind). Has f ks (f .results)) (no-front (k .under) (k .below) (sym (k .left)) .1) (k .has))
 
-pub ends-given : {f : Frame} {fs : List Frame} → Ends (f ∷ fs) → (g : Frame) × Fills f g × (g .values ≡ g .results)
-ends-given {f} (ends x) = let k = given [] (λ l. refl) x in (over (k .under) f, filled (k .under) (k .none-live), k .has)
-
 -- ---- one instruction
 
--- ALL THAT CORE ALLOWS: what any whole stack lets an instruction do is typed, and what is then known is left over it
-pub dead-taken : {ls : List Kind} {i : Instr} {c : Code} {fs gs gs′ : List Frame} → AllFill fs gs → Allows ls i c gs gs′ → Typable ls i c fs gs′
-dead-taken (each {f = f} {fs = fs} w ws) (plainly {ins = ins} {outs} v t e) =
-    let k = taken v ins w e in
-    record { after = holding f (k .below ++ outs) ∷ fs; typed = ordinary t (k .has); fill = each (held (k .under) (k .below) w (k .left) refl (k .none-live)) ws }
-dead-taken (each {f = f} {fs = fs} w ws) (br {g = t} v u l e) =
-    let m = to-frame (each w ws) l in
-    let k = taken v (branchKinds t) w e in
-    record {
-      after = deadened f ∷ fs;
-      typed = branches (m .1) (subst (λ (ks : List Kind). Has f (k .below) ks) (sym (m .2)) (k .has));
-      fill = each (after-br u w) ws;
-    }
-dead-taken (each {f = f} {fs = fs} w ws) (br-if {g = t} v l e) =
-    let m = to-frame (each w ws) l in
-    let k = taken v (branchKinds t ++ i32 ∷ []) w e in
-    record {
-      after = holding f (k .below ++ branchKinds (m .0)) ∷ fs;
-      typed = may-branch (m .1) (subst (λ (ks : List Kind). Has f (k .below) (ks ++ i32 ∷ [])) (sym (m .2)) (k .has));
-      fill = each (held (k .under) (k .below) w (k .left) (sym (m .2)) (k .none-live)) ws;
-    }
-dead-taken {i = i} {fs = fs} ws block =
-    record { after = opened false (blockResults (i .block)) ∷ fs; typed = opens-block; fill = each (filled [] (λ l. refl)) ws }
-dead-taken {i = i} {fs = fs} ws loop =
-    record { after = opened true (blockResults (i .block)) ∷ fs; typed = opens-loop; fill = each (filled [] (λ l. refl)) ws }
-dead-taken (each {f = f} w (each {f = f′} {fs = fs} w′ ws)) (end e) =
-    record {
-      after = holding f′ (f′ .values ++ f .results) ∷ fs;
-      typed = closes (ends-taken w e);
-      fill = each (held (w′ .under) (f′ .values) w′ (ap (λ (x : Frame). x .values) (w′ .whole)) (ap (λ (x : Frame). x .results) (w .whole)) (w′ .none-live)) ws;
-    }
-
--- AND NO MORE: whatever is over what is known after it, some whole stack leads there
+-- NO MORE THAN CORE ALLOWS: to every stack that the frames after it stand for, some stack leads that the frames before it stand for
 pub dead-given : {ls : List Kind} {i : Instr} {c : Code} {fs fs′ gs′ : List Frame} → Types ls i c fs fs′ → AllFill fs′ gs′ → Possible ls i c fs gs′
 dead-given {ls} {i} {c} (ordinary {ins = ins} {outs} {below} {f} {fs} t x) (each {gs = gs} w ws) =
     let k = given (w .under) (w .none-live) x in
@@ -197,6 +165,38 @@ dead-given {ls} {i} (closes {f = f} {g} x) (each {gs = gs} w ws) =
           subst (λ (y : Frame). Allows ls i (plain End) (k .0 ∷ over (w .under) g ∷ gs) (y ∷ gs))
           (ap (holding (over (w .under) g)) (ap (λ (x : Frame). (w .under ++ g .values) ++ x .results) (k .1 .whole) ∙ append-assoc (w .under) (g .values) (f .results)) ∙ sym (w .whole))
           (end (k .2));
+    }
+
+-- ALL THAT CORE ALLOWS: what an instruction may do from some stack that the frames stand for is typed, and what it leaves the frames after it stand for
+pub dead-taken : {ls : List Kind} {i : Instr} {c : Code} {fs gs gs′ : List Frame} → AllFill fs gs → Allows ls i c gs gs′ → Typable ls i c fs gs′
+dead-taken (each {f = f} {fs = fs} w ws) (plainly {ins = ins} {outs} v t e) =
+    let k = taken v ins w e in
+    record { after = holding f (k .below ++ outs) ∷ fs; typed = ordinary t (k .has); fill = each (held (k .under) (k .below) w (k .left) refl (k .none-live)) ws }
+dead-taken (each {f = f} {fs = fs} w ws) (br {g = t} v u l e) =
+    let m = to-frame (each w ws) l in
+    let k = taken v (branchKinds t) w e in
+    record {
+      after = deadened f ∷ fs;
+      typed = branches (m .1) (subst (λ (ks : List Kind). Has f (k .below) ks) (sym (m .2)) (k .has));
+      fill = each (after-br u w) ws;
+    }
+dead-taken (each {f = f} {fs = fs} w ws) (br-if {g = t} v l e) =
+    let m = to-frame (each w ws) l in
+    let k = taken v (branchKinds t ++ i32 ∷ []) w e in
+    record {
+      after = holding f (k .below ++ branchKinds (m .0)) ∷ fs;
+      typed = may-branch (m .1) (subst (λ (ks : List Kind). Has f (k .below) (ks ++ i32 ∷ [])) (sym (m .2)) (k .has));
+      fill = each (held (k .under) (k .below) w (k .left) (sym (m .2)) (k .none-live)) ws;
+    }
+dead-taken {i = i} {fs = fs} ws block =
+    record { after = opened false (blockResults (i .block)) ∷ fs; typed = opens-block; fill = each (filled [] (λ l. refl)) ws }
+dead-taken {i = i} {fs = fs} ws loop =
+    record { after = opened true (blockResults (i .block)) ∷ fs; typed = opens-loop; fill = each (filled [] (λ l. refl)) ws }
+dead-taken (each {f = f} w (each {f = f′} {fs = fs} w′ ws)) (end e) =
+    record {
+      after = holding f′ (f′ .values ++ f .results) ∷ fs;
+      typed = closes (ends-taken w e);
+      fill = each (held (w′ .under) (f′ .values) w′ (ap (λ (x : Frame). x .values) (w′ .whole)) (ap (λ (x : Frame). x .results) (w .whole)) (w′ .none-live)) ws;
     }
 
 -- ---- live code
