@@ -18,6 +18,9 @@ pub mod Full
 pub mod Places
 pub mod Sticking
 pub mod Stuck
+pub mod Inhabited
 pub mod Straight
 pub mod Examples
 pub mod Over
+pub mod Outcomes
+pub mod One
