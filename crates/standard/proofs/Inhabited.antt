@@ -1,17 +1,20 @@
 -- Every place that a strip reaches in live code has a sound state: what is said of all sound states there is said of some.
-use Prim.Native.Nat.{ℕ, zero, suc, _+_}
+use Prim.Native.Nat.{ℕ, _≤_}
 use mathlib.Core.Path.{_≡_, refl, ap}
 use mathlib.Core.Bool.{Bool, false}
 use mathlib.Core.List.{List, [], _∷_, _++_, map, reverse}
 use native.Mathlib.Omega.{arith}
+use Rattle.card.specs.Card.{LOCAL, TRAILING}
 use Rattle.opcode.specs.Kind.{Kind}
 use Rattle.opcode.specs.Table.{Code}
 use Rattle.instr.specs.declared.Instr.{Instr}
 use Rattle.rules.specs.Header.{Header, locals}
 use Rattle.rules.specs.Typing.{Frame, opened, Types, ordinary, branches, may-branch, opens-block, opens-loop, closes}
 use Rattle.rules.specs.Strip.{Reads, Within, Reaches, front, past}
+use Rattle.rules.specs.Breach.{Breach}
 use Rattle.standard.specs.Standard.{Label, Config, zeroOf}
-use Rattle.standard.specs.Safety.{Live, Nested, outermost, inside, Fits, Sound}
+use Rattle.standard.specs.Safety.{Live, Nested, outermost, inside, Fits, Sound, StuckHere}
+use Rattle.standard.proofs.Stuck.{stuck-exact}
 use Rattle.standard.proofs.Begin.{zero-kinds, all-range}
 
 data Opened (s : List ℕ) (h : Header) : List Frame → Type 0 where
@@ -56,3 +59,10 @@ live-inhabited {h = h} {p = p} {f = f} {fs = fs} reached live =
       live = live;
       fits = record { stacked = zero-kinds (reverse (f .values)); nested = n .1; held = zero-kinds (locals h); stack-range = all-range [] (reverse (f .values)) tt; local-range = all-range [] (locals h) tt; memory-range = λ k. omega arith };
     })
+
+-- so where a rule is broken in live code, some sound state is stuck
+pub stuck-inhabited : {s : List ℕ} {h : Header} {code p : ℕ} {f : Frame} {fs : List Frame} → Breach s code p → LOCAL ≤ code → (code ≡ TRAILING → ⊥) → Reaches s h p (f ∷ fs)
+    → Live (f ∷ fs) → (c : Config) × (c .place ≡ p) × Sound s h c × StuckHere s h c
+stuck-inhabited b lo hi reached live =
+    let it = live-inhabited reached live in
+    (it .0, it .1, it .2, stuck-exact b lo hi (it .0) (it .1) (it .2))

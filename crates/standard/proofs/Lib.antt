@@ -9,6 +9,7 @@ pub mod Steps
 pub mod Closings
 pub mod Nestings
 pub mod Unwinding
+pub mod Labels
 pub mod Tops
 pub mod Branching
 pub mod Turn
