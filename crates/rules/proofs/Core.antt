@@ -1,7 +1,6 @@
 -- A strip that keeps the rules passes Core's validation, and one that passes it is turned away only for a limit that Core has not: 14 or 17.
 use Prim.Native.Nat.{ℕ, _+_, _≤_, _<_}
-use mathlib.Core.Path.{_≡_, refl}
-use mathlib.Core.Bool.{false}
+use mathlib.Core.Path.{refl}
 use mathlib.Core.List.{List, [], _∷_}
 use mathlib.Core.Logic.{_⊎_, inl, inr, ⊎-elim}
 use native.Mathlib.Omega.{arith}
@@ -15,7 +14,7 @@ use Rattle.rules.specs.Header.{Header, locals}
 use Rattle.rules.specs.Typing.{Frame, allValues, Types, ordinary, branches, may-branch, opens-block, opens-loop, closes, Opens, block-opens, loop-opens}
 use Rattle.rules.specs.Strip.{Reads, Reaches, front, past, Valid}
 use Rattle.rules.specs.Breach.{At, deep, nest}
-use Rattle.rules.specs.Core.{Fills, AllFill, none, each, Passes, from-front, one-more, CoreValid, Typable, Allows, PastLimit, too-deep, too-nested}
+use Rattle.rules.specs.Core.{AllFill, none, each, Passes, from-front, one-more, CoreValid, Typable, Allows, PastLimit, too-deep, too-nested}
 use Rattle.rules.proofs.Sorts.{typed-opens}
 use Rattle.rules.proofs.Onward.{reached-within}
 use Rattle.rules.proofs.Dead.{filled, fresh, dead-taken, dead-given, ends-taken, ends-given}

@@ -4,13 +4,14 @@ use Prim.Native.Nat.{ℕ}
 use mathlib.Core.Path.{_≡_, refl, ap, ap₂, sym, _∙_, subst}
 use mathlib.Core.Bool.{Bool, true, false}
 use mathlib.Core.List.{List, [], _∷_, _++_, append-assoc, append-nil}
+use mathlib.Core.Logic.{_↔_}
 use native.Mathlib.Omega.{arith}
 use Rattle.opcode.specs.Kind.{Kind, i32}
 use Rattle.opcode.specs.BlockType.{blockResults}
 use Rattle.opcode.specs.Table.{End, Block, Loop, Br, BrIf, Code, plain, control}
 use Rattle.instr.specs.declared.Instr.{Instr}
 use Rattle.rules.specs.Typing.{Frame, opened, holding, deadened, branchKinds, Target, innermost, outer, Has, all-known, any, Types, ordinary, branches, may-branch, opens-block, opens-loop, closes, Ends, ends}
-use Rattle.rules.specs.Core.{over, Fills, AllFill, none, each, Typable, Possible, Allows, ordinary as plainly, br, br-if, block, loop, end}
+use Rattle.rules.specs.Core.{over, Fills, AllFill, each, Typable, Possible, Allows, ordinary as plainly, br, br-if, block, loop, end}
 use Rattle.rules.proofs.Typings.{live-has}
 
 -- ---- two ways to part one list
@@ -116,9 +117,12 @@ ends-taken {f} w e =
     let k = taken [] (f .results) w (e ∙ ap (λ (x : Frame). x .results) (w .whole)) in
     ends (subst (λ (ks : List Kind). Has f ks (f .results)) (no-front (k .under) (k .below) (sym (k .left)) .1) (k .has))
 
+pub ends-exact : {f : Frame} {fs : List Frame} → Ends (f ∷ fs) ↔ ((g : Frame) × Fills f g × (g .values ≡ g .results))
+ends-exact = (ends-given, λ it. ends-taken (it .1) (it .2))
+
 -- ---- one instruction
 
--- NO MORE THAN CORE ALLOWS: to every stack that the frames after it stand for, some stack leads that the frames before it stand for
+-- no more than Core allows: to whatever the frames after it stand for, something leads that the frames before it stand for
 pub dead-given : {ls : List Kind} {i : Instr} {c : Code} {fs fs′ gs′ : List Frame} → Types ls i c fs fs′ → AllFill fs′ gs′ → Possible ls i c fs gs′
 dead-given {ls} {i} {c} (ordinary {ins = ins} {outs} {below} {f} {fs} t x) (each {gs = gs} w ws) =
     let k = given (w .under) (w .none-live) x in
@@ -167,7 +171,7 @@ dead-given {ls} {i} (closes {f = f} {g} x) (each {gs = gs} w ws) =
           (end (k .2));
     }
 
--- ALL THAT CORE ALLOWS: what an instruction may do from some stack that the frames stand for is typed, and what it leaves the frames after it stand for
+-- all that Core allows: from whatever the frames stand for, and to what the frames after it stand for
 pub dead-taken : {ls : List Kind} {i : Instr} {c : Code} {fs gs gs′ : List Frame} → AllFill fs gs → Allows ls i c gs gs′ → Typable ls i c fs gs′
 dead-taken (each {f = f} {fs = fs} w ws) (plainly {ins = ins} {outs} v t e) =
     let k = taken v ins w e in
@@ -199,6 +203,10 @@ dead-taken (each {f = f} w (each {f = f′} {fs = fs} w′ ws)) (end e) =
       fill = each (held (w′ .under) (f′ .values) w′ (ap (λ (x : Frame). x .values) (w′ .whole)) (ap (λ (x : Frame). x .results) (w .whole)) (w′ .none-live)) ws;
     }
 
+-- DEAD CODE IS TYPED BY CORE'S ANY-KIND STACK: by what some stack that the frames stand for lets it do, and what it may leave is what the frames after it stand for
+pub dead-exact : {ls : List Kind} {i : Instr} {c : Code} {fs gs′ : List Frame} → Typable ls i c fs gs′ ↔ Possible ls i c fs gs′
+dead-exact = (λ t. dead-given (t .typed) (t .fill), λ p. dead-taken (p .fill) (p .allowed))
+
 -- ---- live code
 
 -- IN LIVE CODE NOTHING IS ANY: a frame stands for itself alone
@@ -211,8 +219,7 @@ live-ends : {f : Frame} {fs : List Frame} → f .dead ≡ false → Ends (f ∷ 
 live-ends l (ends x) = live-has l x
 
 module _ {ls : List Kind} {i : Instr} where
-  -- whatever is dead around it
-  pub live-given : {c : Code} {f : Frame} {fs fs′ : List Frame} → f .dead ≡ false → (c ≡ control Br → ⊥) → Types ls i c (f ∷ fs) fs′ → Allows ls i c (f ∷ fs) fs′
+  live-given : {c : Code} {f : Frame} {fs fs′ : List Frame} → f .dead ≡ false → (c ≡ control Br → ⊥) → Types ls i c (f ∷ fs) fs′ → Allows ls i c (f ∷ fs) fs′
   live-given l n (ordinary {below = below} t x) = plainly below t (live-has l x)
   live-given l n (branches t x) = absurd (n refl)
   live-given l n (may-branch {below = below} t x) = br-if below t (live-has l x)
@@ -220,10 +227,14 @@ module _ {ls : List Kind} {i : Instr} where
   live-given l n opens-loop = loop
   live-given l n (closes x) = end (live-ends l x)
 
-  pub live-taken : {c : Code} {fs fs′ : List Frame} → (c ≡ control Br → ⊥) → Allows ls i c fs fs′ → Types ls i c fs fs′
+  live-taken : {c : Code} {fs fs′ : List Frame} → (c ≡ control Br → ⊥) → Allows ls i c fs fs′ → Types ls i c fs fs′
   live-taken n (plainly below t e) = ordinary {below = below} t (all-known e)
   live-taken n (br below u t e) = absurd (n refl)
   live-taken n (br-if below t e) = may-branch {below = below} t (all-known e)
   live-taken n block = opens-block
   live-taken n loop = opens-loop
   live-taken n (end e) = closes (ends (all-known e))
+
+  -- so it is typed by its known values, whatever is dead around it
+  pub live-exact : {c : Code} {f : Frame} {fs fs′ : List Frame} → f .dead ≡ false → (c ≡ control Br → ⊥) → Types ls i c (f ∷ fs) fs′ ↔ Allows ls i c (f ∷ fs) fs′
+  live-exact l n = (live-given l n, live-taken n)

@@ -32,7 +32,7 @@ pub data Allows (ls : List Kind) (i : Instr) : Code → List Frame → List Fram
 
 -- ---- what frames stand for
 
--- all is known, and these are under the values
+-- these are under the values, and all is known
 abbrev pub over : List Kind → Frame → Frame
 over u f = record { loop = f .loop; results = f .results; values = u ++ f .values; dead = false }
 
@@ -42,17 +42,18 @@ pub record Fills (f g : Frame) : Type 0 where
   pub whole : g ≡ over under f
   pub none-live : f .dead ≡ false → under ≡ []
 
+-- so all of them
 pub data AllFill : List Frame → List Frame → Type 0 where
   none : AllFill [] []
   each : {f g : Frame} {fs gs : List Frame} → Fills f g → AllFill fs gs → AllFill (f ∷ fs) (g ∷ gs)
 
--- the rules let it do what Core lets it do from fs to gs′: they are left
+-- by the rules: it is typed, and gs′ is what the frames after it stand for
 pub record Typable (ls : List Kind) (i : Instr) (c : Code) (fs gs′ : List Frame) : Type 0 where
   pub after : List Frame
   pub typed : Types ls i c fs after
   pub fill : AllFill after gs′
 
--- Core lets it come to gs′ from some stacks that fs stands for
+-- by Core: from what the frames stand for it may come to gs′
 pub record Possible (ls : List Kind) (i : Instr) (c : Code) (fs gs′ : List Frame) : Type 0 where
   pub before : List Frame
   pub fill : AllFill fs before
