@@ -1,5 +1,5 @@
 -- An instruction leaves one stack at most, and inside blocks too.
-use Prim.Native.Nat.{ℕ, _+_}
+use Prim.Native.Nat.{ℕ}
 use mathlib.Core.Path.{_≡_, refl, ap, ap₂, sym, _∙_}
 use mathlib.Core.Bool.{false}
 use mathlib.Core.List.{List, [], _∷_, _++_}
@@ -7,7 +7,7 @@ use mathlib.Core.Option.{Option, some}
 use native.Mathlib.Omega.{arith}
 use lib.ListN.{length, length-append}
 use Rattle.opcode.specs.Kind.{Kind, i32}
-use Rattle.opcode.specs.Table.{End, Control, Block, Loop, Br, BrIf, Code, plain, control}
+use Rattle.opcode.specs.Table.{End, Control, Code, plain, control}
 use Rattle.opcode.specs.Effect.{Signature, _⇒_}
 use Rattle.instr.specs.declared.Instr.{Instr}
 use Rattle.rules.specs.Typing.{Frame, holding, branchKinds, Target, innermost, outer, Local, first, later, Typed, by-signature, dropped, got, set, teed, Has, all-known, any, Types, ordinary, branches, may-branch, opens-block, opens-loop, closes}

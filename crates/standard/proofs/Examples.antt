@@ -22,7 +22,7 @@ use Rattle.rules.specs.Header.{Header, headerBytes, locals}
 use Rattle.rules.specs.Typing.{Frame, opened, holding, deadened, innermost, outer, first, later, by-signature, got, set, all-known, Types, ordinary, branches, may-branch, opens-block, opens-loop, closes, ends}
 use Rattle.rules.specs.Strip.{Within, Reaches, front, past, Valid}
 use Rattle.standard.specs.Closing.{closeWithin, close}
-use Rattle.standard.specs.Standard.{Stage, going, ended, halted, step, runs, begin}
+use Rattle.standard.specs.Standard.{ended, halted, step, runs, begin}
 
 -- two further locals and one result, all i32
 abbrev h : Header

@@ -2,10 +2,10 @@
 use Prim.Native.Nat.{ℕ, _+_, _≤_, _<_}
 use mathlib.Core.Path.{_≡_, refl, ap, sym, _∙_, subst}
 use mathlib.Core.Bool.{Bool, true, false, cond}
-use mathlib.Core.List.{List, _∷_, map, reverse}
+use mathlib.Core.List.{List, _∷_}
 use mathlib.Core.Option.{Option, none, some}
 use native.Mathlib.Omega.{arith}
-use lib.ListN.{length, getD, length-map, length-append, length-reverse}
+use lib.ListN.{length, getD}
 use lib.Dec.{ltb}
 use borrow.Author.Tests.{lt-ltb, ltb-true}
 use Rattle.operation.specs.Op.{Op, Load, LoadLane, Store, StoreLane, Const, Shuffle, Splat, ExtractLane, ReplaceLane, Unary, Binary, Bitselect, Test, Shift}
@@ -14,7 +14,7 @@ use Rattle.opcode.specs.Kind.{Kind}
 use Rattle.opcode.specs.Table.{End, Drop, LocalGet, LocalSet, LocalTee, I32Const, I64Const, I32Add, I32Sub, I32Eqz, I32LtU, Code, plain, control, vector}
 use Rattle.opcode.specs.Effect.{Signature, _⇒_, signature, effect}
 use Rattle.instr.specs.declared.Instr.{Instr}
-use Rattle.machine.specs.Value.{Value, I32, I64, V128, kindOf}
+use Rattle.machine.specs.Value.{Value, I32, I64, V128}
 use Rattle.machine.specs.Exec.{State, Outcome, goes, stuck, push, goOn, local, execVector, exec}
 use Rattle.rules.specs.Typing.{Typed, by-signature, dropped, got, set, teed}
 use Rattle.standard.specs.Standard.{Config, going, halted, countUnder, after}

@@ -1,8 +1,8 @@
 -- Every place that a strip reaches in live code has a sound state: what is said of all sound states there is said of some.
 use Prim.Native.Nat.{ℕ, _≤_}
-use mathlib.Core.Path.{_≡_, refl, ap}
+use mathlib.Core.Path.{_≡_, refl}
 use mathlib.Core.Bool.{Bool, false}
-use mathlib.Core.List.{List, [], _∷_, _++_, map, reverse}
+use mathlib.Core.List.{List, [], _∷_, map, reverse}
 use native.Mathlib.Omega.{arith}
 use Rattle.card.specs.Card.{LOCAL, TRAILING}
 use Rattle.opcode.specs.Kind.{Kind}
@@ -10,10 +10,10 @@ use Rattle.opcode.specs.Table.{Code}
 use Rattle.instr.specs.declared.Instr.{Instr}
 use Rattle.rules.specs.Header.{Header, locals}
 use Rattle.rules.specs.Typing.{Frame, opened, Types, ordinary, branches, may-branch, opens-block, opens-loop, closes}
-use Rattle.rules.specs.Strip.{Reads, Within, Reaches, front, past}
+use Rattle.rules.specs.Strip.{Reaches, front, past}
 use Rattle.rules.specs.Breach.{Breach}
 use Rattle.standard.specs.Standard.{Label, Config, zeroOf}
-use Rattle.standard.specs.Safety.{Live, Nested, outermost, inside, Fits, Sound, StuckHere}
+use Rattle.standard.specs.Safety.{Live, Nested, outermost, inside, Sound, StuckHere}
 use Rattle.standard.proofs.Stuck.{stuck-exact}
 use Rattle.standard.proofs.Begin.{zero-kinds, all-range}
 

@@ -16,7 +16,6 @@ pub mod Turn
 pub mod Begin
 pub mod Never
 pub mod Full
-pub mod Places
 pub mod Sticking
 pub mod Stuck
 pub mod Inhabited

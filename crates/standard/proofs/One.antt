@@ -1,10 +1,9 @@
 -- A strip of version 1 runs as before C-13: no labels, and one stack. The machine of version 1 by itself, and that its steps are the same.
 use Prim.Native.Nat.{ℕ, zero, suc, _+_}
-use mathlib.Core.Path.{_≡_, refl, ap, sym, _∙_}
+use mathlib.Core.Path.{_≡_, refl, ap, _∙_}
 use mathlib.Core.Bool.{Bool, true, false, cond}
 use mathlib.Core.List.{List, [], _++_, map}
 use native.Mathlib.Nat.{add-zero}
-use native.Mathlib.Omega.{arith}
 use lib.Dec.{eqb, ltb}
 use lib.ListN.{length}
 use Rattle.card.specs.Card.{DONE}
@@ -19,7 +18,7 @@ use Rattle.instr.specs.Decode.{decodeAt}
 use Rattle.machine.specs.Value.{Value}
 use Rattle.machine.specs.Exec.{State, Outcome, goes, done, trap, stuck, goOn, exec}
 use Rattle.rules.specs.Header.{Header, headerBytes}
-use Rattle.standard.specs.Standard.{Config, Stage, going, ended, trapped, halted, after, stepRow, stepBy, step, onward, runs, zeroOf, begin}
+use Rattle.standard.specs.Standard.{Config, Stage, going, ended, trapped, halted, after, stepRow, step, onward, runs, zeroOf, begin}
 use Rattle.standard.proofs.Outcomes.{of-exec}
 
 -- ---- the machine of version 1
