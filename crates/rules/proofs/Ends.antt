@@ -2,7 +2,7 @@
 use Prim.Native.Nat.{ℕ, _+_}
 use mathlib.Core.Path.{_≡_, refl, sym}
 use mathlib.Core.List.{List, [], _∷_}
-use mathlib.Core.Logic.{_⊎_, ⊎-elim}
+use mathlib.Core.Logic.{⊎-elim}
 use lib.ListN.{getD}
 use Rattle.card.specs.Card.{DONE, LOCAL, OPERAND, DEEP, RESULT, TRAILING, NEST, LABEL}
 use Rattle.instr.specs.Decode.{decodeAt}

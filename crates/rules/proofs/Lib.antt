@@ -3,6 +3,7 @@ pub mod Ranks
 pub mod Headers
 pub mod Typings
 pub mod Sorts
+pub mod Dead
 pub mod Onward
 pub mod Events
 pub mod Ends
@@ -10,3 +11,4 @@ pub mod Heads
 pub mod Verdicts
 pub mod Strips
 pub mod One
+pub mod Core

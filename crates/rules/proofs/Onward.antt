@@ -6,7 +6,6 @@ use mathlib.Core.List.{List, [], _∷_}
 use mathlib.Core.Logic.{_⊎_, inl, inr}
 use native.Mathlib.Omega.{arith}
 use lib.ListN.{length}
-use Rattle.limits.specs.Limits.{stackLimit, nestLimit}
 use Rattle.opcode.specs.Kind.{Kind}
 use Rattle.opcode.specs.Table.{Code, Row, carried, float, unassigned}
 use Rattle.instr.specs.declared.Instr.{Instr}

@@ -1,13 +1,13 @@
 -- What a typing says of the instruction that has it; an instruction is of one sort.
 use Prim.Native.Nat.{ℕ, suc}
-use mathlib.Core.Path.{_≡_, refl, ap, sym, _∙_}
-use mathlib.Core.List.{List, [], _∷_, append-nil}
+use mathlib.Core.Path.{_≡_, refl}
+use mathlib.Core.List.{List, append-nil}
 use native.Mathlib.Omega.{arith}
 use lib.ListN.{length}
 use Rattle.opcode.specs.Kind.{Kind}
 use Rattle.opcode.specs.Table.{End, Control, Block, Loop, Br, BrIf, Plain, Code, plain, control}
 use Rattle.instr.specs.declared.Instr.{Instr}
-use Rattle.rules.specs.Typing.{Frame, allValues, Target, Local, Typed, by-signature, dropped, got, set, teed, Types, ordinary, branches, may-branch, opens-block, opens-loop, closes, Names, get-names, set-names, tee-names, Opens, block-opens, loop-opens, Branches, br-branches, if-branches, Ends, ends}
+use Rattle.rules.specs.Typing.{Frame, allValues, Target, Local, Typed, by-signature, got, set, teed, Types, ordinary, branches, may-branch, opens-block, opens-loop, closes, Names, get-names, set-names, tee-names, Opens, block-opens, loop-opens, Branches, br-branches, if-branches, Ends}
 use Rattle.rules.proofs.Typings.{end-untyped, control-untyped}
 
 -- ---- sorts
@@ -93,7 +93,7 @@ module _ {ls : List Kind} {i : Instr} where
   typed-ends (may-branch l x) e = absurd (branches-plain if-branches e)
   typed-ends opens-block e = absurd (opens-plain block-opens e)
   typed-ends opens-loop e = absurd (opens-plain loop-opens e)
-  typed-ends (closes x) e = ends x
+  typed-ends (closes x) e = x
 
   -- after the strip's own `end` nothing is typed
   pub typed-inner : {c : Code} {fs fs′ : List Frame} → Types ls i c fs fs′ → c ≡ plain End → length fs ≡ 1 → ⊥

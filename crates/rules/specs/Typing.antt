@@ -65,6 +65,10 @@ pub data Has (f : Frame) : List Kind → List Kind → Type 0 where
   all-known : {below ins : List Kind} → f .values ≡ below ++ ins → Has f below ins
   any : (unknown : List Kind) {ins : List Kind} → f .dead ≡ true → unknown ++ f .values ≡ ins → Has f [] ins
 
+-- the nearest block, or the strip, has its results and nothing else
+pub data Ends : List Frame → Type 0 where
+  ends : {f : Frame} {fs : List Frame} → Has f [] (f .results) → Ends (f ∷ fs)
+
 -- ---- one instruction: the frames before and after it
 
 pub data Types (ls : List Kind) (i : Instr) : Code → List Frame → List Frame → Type 0 where
@@ -79,8 +83,8 @@ pub data Types (ls : List Kind) (i : Instr) : Code → List Frame → List Frame
       → Types ls i (control BrIf) (f ∷ fs) (holding f (below ++ branchKinds g) ∷ fs)
   opens-block : {fs : List Frame} → Types ls i (control Block) fs (opened false (blockResults (i .block)) ∷ fs)
   opens-loop : {fs : List Frame} → Types ls i (control Loop) fs (opened true (blockResults (i .block)) ∷ fs)
-  -- `end` of a block: its results, and nothing else
-  closes : {f g : Frame} {fs : List Frame} → Has f [] (f .results) → Types ls i (plain End) (f ∷ g ∷ fs) (holding g (g .values ++ f .results) ∷ fs)
+  -- `end` of a block: around it, its results are left
+  closes : {f g : Frame} {fs : List Frame} → Ends (f ∷ g ∷ fs) → Types ls i (plain End) (f ∷ g ∷ fs) (holding g (g .values ++ f .results) ∷ fs)
 
 -- ---- which instructions a rule asks
 
@@ -99,7 +103,3 @@ pub data Opens : Code → Type 0 where
 pub data Branches : Code → Type 0 where
   br-branches : Branches (control Br)
   if-branches : Branches (control BrIf)
-
--- the nearest block, or the strip, has its results and nothing else
-pub data Ends : List Frame → Type 0 where
-  ends : {f : Frame} {fs : List Frame} → Has f [] (f .results) → Ends (f ∷ fs)

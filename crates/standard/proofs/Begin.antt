@@ -15,7 +15,7 @@ use Rattle.rules.proofs.Onward.{declared}
 use Rattle.standard.specs.Standard.{zeroOf, begin}
 use Rattle.standard.specs.Safety.{Given, outermost, Fits, Sound}
 
-zero-kinds : (ks : List Kind) → map kindOf (map zeroOf ks) ≡ ks
+pub zero-kinds : (ks : List Kind) → map kindOf (map zeroOf ks) ≡ ks
 zero-kinds [] = refl
 zero-kinds (i32 ∷ ks) = ap (λ l. i32 ∷ l) (zero-kinds ks)
 zero-kinds (i64 ∷ ks) = ap (λ l. i64 ∷ l) (zero-kinds ks)
@@ -30,7 +30,7 @@ all-kinds : (vs : List Value) (ks : List Kind) → map kindOf (vs ++ map zeroOf 
 all-kinds [] ks = zero-kinds ks
 all-kinds (v ∷ vs) ks = ap (λ l. kindOf v ∷ l) (all-kinds vs ks)
 
-all-range : (vs : List Value) (ks : List Kind) → AllInRange vs → AllInRange (vs ++ map zeroOf ks)
+pub all-range : (vs : List Value) (ks : List Kind) → AllInRange vs → AllInRange (vs ++ map zeroOf ks)
 all-range [] [] r = tt
 all-range [] (k ∷ ks) r = (zero-range k, all-range [] ks tt)
 all-range (v ∷ vs) ks r = (r .0, all-range vs ks (r .1))

@@ -1,22 +1,21 @@
 -- A branch in a strip that keeps the rules, with the values that it takes on top, leads to a sound state or ends the strip with its results.
-use Prim.Native.Nat.{ℕ, zero, suc, _+_, _^_, _<_}
+use Prim.Native.Nat.{ℕ, _^_, _<_}
 use mathlib.Core.Path.{_≡_, refl, ap, ap₂, sym, _∙_, subst}
 use mathlib.Core.Bool.{Bool, true, false, cond}
 use mathlib.Core.List.{List, [], _∷_, _++_, map, reverse, reverse-append, reverse-reverse}
-use mathlib.Core.Option.{Option, some}
 use lib.ListN.{length, getD, take}
 use Rattle.opcode.specs.Kind.{Kind}
 use Rattle.machine.specs.Value.{Value, kindOf, AllInRange}
-use Rattle.machine.specs.Exec.{State, ofKinds}
+use Rattle.machine.specs.Exec.{State}
 use Rattle.rules.specs.Header.{Header, locals}
 use Rattle.rules.specs.Typing.{Frame, opened, holding, branchKinds, Target, innermost, outer}
 use Rattle.rules.specs.Strip.{Reaches, Valid}
 use Rattle.standard.specs.Closing.{close}
 use Rattle.standard.specs.Standard.{Label, Config, Stage, going, ended, halted, withStack, along, resume, jump, branch}
-use Rattle.standard.specs.Safety.{Live, Nested, outermost, inside, Fits, Sound, Safe, safe-going, safe-ended}
+use Rattle.standard.specs.Safety.{Live, Nested, outermost, inside, Fits, Safe, safe-going, safe-ended}
 use Rattle.standard.proofs.ValueKinds.{reverse-kinds, reverse-range, kinds-fit}
 use Rattle.standard.proofs.Nestings.{nested-same, no-target}
-use Rattle.standard.proofs.Unwinding.{Left, finds-end}
+use Rattle.standard.proofs.Unwinding.{finds-end}
 use Rattle.standard.proofs.Tops.{kinds-append, range-take, range-append, top-kinds}
 
 -- what a state has beside its stack

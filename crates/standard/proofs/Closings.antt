@@ -1,8 +1,9 @@
--- The function that looks for a block's `end` finds the one that closes it, and no other.
+-- The function that looks for a block's `end` finds the one that closes it and no other, and finds none exactly where nothing closes it.
 use Prim.Native.Nat.{ℕ, zero, suc, _+_, _-_, _≤_}
 use mathlib.Core.Path.{_≡_, refl, ap, sym, _∙_, subst}
 use mathlib.Core.Bool.{Bool, true, false, cond}
 use mathlib.Core.List.{List}
+use mathlib.Core.Logic.{_↔_}
 use mathlib.Core.Option.{Option, none, some}
 use native.Mathlib.Omega.{arith}
 use lib.Dec.{eqb}
@@ -12,7 +13,7 @@ use Rattle.card.specs.Card.{DONE}
 use Rattle.leb128.specs.Bytes.{bytes}
 use Rattle.opcode.specs.Table.{Code, Row, carried, float, unassigned}
 use Rattle.instr.specs.declared.Instr.{Instr}
-use Rattle.instr.specs.Layout.{rowIn, found}
+use Rattle.instr.specs.Layout.{rowIn}
 use Rattle.instr.specs.Decode.{decodeAt}
 use Rattle.instr.proofs.Ranges.{stands-some, stands-inside}
 use Rattle.instr.proofs.Stands.{decoded-stands}
@@ -135,3 +136,22 @@ module _ (ver : ℕ) (s : List ℕ) where
 
     pub found-closes : {p q : ℕ} → close ver s p ≡ some q → Closes ver s p q
     found-closes {p} {q} e = this-one (deep (length s) zero p q e)
+
+    -- ---- THE FUNCTION AND THE RELATION AGREE
+
+    pub close-exact : (p q : ℕ) → (close ver s p ≡ some q) ↔ Closes ver s p q
+    close-exact p q = (found-closes, closes-found)
+
+    pub closes-once : {p q q′ : ℕ} → Closes ver s p q → Closes ver s p q′ → q ≡ q′
+    closes-once {p} c c′ = let e = sym (closes-found c) ∙ closes-found c′ in cc (e)
+
+    -- also where there is no answer
+    pub close-none : (p : ℕ) → (close ver s p ≡ none) ↔ ((q : ℕ) → Closes ver s p q → ⊥)
+    close-none p = (λ e q c. differ (sym e ∙ closes-found c), λ never. by (close ver s p) refl never)
+      where
+        differ : {q : ℕ} → none ≡ some q → ⊥
+        differ e = let z : _≡_ {A = ℕ} 0 1 = cc in omega arith
+
+        by : (o : Option ℕ) → close ver s p ≡ o → ((q : ℕ) → Closes ver s p q → ⊥) → o ≡ none
+        by none e never = refl
+        by (some q) e never = absurd (never q (found-closes e))

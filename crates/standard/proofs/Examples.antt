@@ -22,7 +22,7 @@ use Rattle.rules.specs.Header.{Header, headerBytes, locals}
 use Rattle.rules.specs.Typing.{Frame, opened, holding, deadened, innermost, outer, first, later, by-signature, got, set, all-known, Types, ordinary, branches, may-branch, opens-block, opens-loop, closes, ends}
 use Rattle.rules.specs.Strip.{Within, Reaches, front, past, Valid}
 use Rattle.standard.specs.Closing.{closeWithin, close}
-use Rattle.standard.specs.Standard.{Stage, going, ended, halted, step, runs, begin}
+use Rattle.standard.specs.Standard.{ended, halted, step, runs, begin}
 
 -- two further locals and one result, all i32
 abbrev h : Header
@@ -132,11 +132,11 @@ r16 = next {p = 38} r15 refl refl (branches {below = []} {f = L []} {g = L []} i
 
 r17 : Reaches sum h 41 (B [] ∷ S [] ∷ [])
 unfolding numberItem byteAt blockAt immediatesAt bodyOf opcodeNumber decodeAt plainAt lastOf before intOf numberAt
-r17 = next {p = 40} r16 refl refl (closes (all-known refl)) (record { blocks = lit≤ tt; values = lit≤ tt })
+r17 = next {p = 40} r16 refl refl (closes (ends (all-known refl))) (record { blocks = lit≤ tt; values = lit≤ tt })
 
 r18 : Reaches sum h 42 (S [] ∷ [])
 unfolding numberItem byteAt blockAt immediatesAt bodyOf opcodeNumber decodeAt plainAt lastOf before intOf numberAt
-r18 = next {p = 41} r17 refl refl (closes (all-known refl)) (record { blocks = lit≤ tt; values = lit≤ tt })
+r18 = next {p = 41} r17 refl refl (closes (ends (all-known refl))) (record { blocks = lit≤ tt; values = lit≤ tt })
 
 r19 : Reaches sum h 44 (S (i32 ∷ []) ∷ [])
 unfolding numberItem byteAt blockAt immediatesAt bodyOf opcodeNumber decodeAt plainAt lastOf before intOf numberAt

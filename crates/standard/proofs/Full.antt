@@ -1,23 +1,37 @@
 -- 14: where the rules count more values than the stack holds, the standard's machine is stuck. Only what takes nothing and leaves one comes to that.
 use Prim.Native.Nat.{ℕ, _+_, _≤_, _<_}
-use mathlib.Core.Path.{_≡_, refl, ap, _∙_, subst}
+use mathlib.Core.Path.{_≡_, refl, ap, sym, _∙_, subst}
 use mathlib.Core.Bool.{Bool, true, false, cond}
-use mathlib.Core.List.{List, _∷_, map, reverse}
+use mathlib.Core.List.{List, _∷_}
 use mathlib.Core.Option.{Option, none, some}
 use native.Mathlib.Omega.{arith}
-use lib.ListN.{length, getD, length-map, length-append, length-reverse}
+use lib.ListN.{length, getD}
 use lib.Dec.{ltb}
-use borrow.Author.Tests.{lt-ltb}
+use borrow.Author.Tests.{lt-ltb, ltb-true}
 use Rattle.operation.specs.Op.{Op, Load, LoadLane, Store, StoreLane, Const, Shuffle, Splat, ExtractLane, ReplaceLane, Unary, Binary, Bitselect, Test, Shift}
 use Rattle.limits.specs.Limits.{stackLimit}
 use Rattle.opcode.specs.Kind.{Kind}
 use Rattle.opcode.specs.Table.{End, Drop, LocalGet, LocalSet, LocalTee, I32Const, I64Const, I32Add, I32Sub, I32Eqz, I32LtU, Code, plain, control, vector}
 use Rattle.opcode.specs.Effect.{Signature, _⇒_, signature, effect}
 use Rattle.instr.specs.declared.Instr.{Instr}
-use Rattle.machine.specs.Value.{Value, I32, I64, V128, kindOf}
+use Rattle.machine.specs.Value.{Value, I32, I64, V128}
 use Rattle.machine.specs.Exec.{State, Outcome, goes, stuck, push, goOn, local, execVector, exec}
 use Rattle.rules.specs.Typing.{Typed, by-signature, dropped, got, set, teed}
-use Rattle.standard.specs.Standard.{Config, halted, countUnder, after}
+use Rattle.standard.specs.Standard.{Config, going, halted, countUnder, after}
+
+-- the limit that `exec` asks of the operands above the label asks no more than that of all operands
+pub full-once : (c : Config) (n : ℕ) (st ls : List Value) (m : List ℕ) → after c n (goOn st ls m) ≡ after c n (goes (record { stack = st; locals = ls; memory = m }))
+unfolding goOn
+full-once c n st ls m = by (ltb stackLimit (length st)) refl
+  where
+    next : State
+    next = record { stack = st; locals = ls; memory = m }
+
+    by : (t : Bool) → ltb stackLimit (length st) ≡ t → after c n (cond t stuck (goes next)) ≡ after c n (goes next)
+    by true e =
+        let more = lt-ltb stackLimit (length st + countUnder (c .labels)) (omega (arith, ltb-true stackLimit (length st) e)) in
+        sym (ap (λ (t : Bool). cond t halted (going (record { place = c .place + n; state = next; labels = c .labels }))) more)
+    by false e = refl
 
 module _ (rs : List Kind) (i : Instr) (c : Config) (n : ℕ) (few : length (c .state .stack) + countUnder (c .labels) ≤ stackLimit) where
   abbrev Deep : List Kind → List Kind → Outcome → Type 0
@@ -25,12 +39,7 @@ module _ (rs : List Kind) (i : Instr) (c : Config) (n : ℕ) (few : length (c .s
 
   -- one more than the stack holds
   over : (v : Value) → stackLimit < length (c .state .stack) + countUnder (c .labels) + 1 → after c n (push (c .state) (c .state .stack) v) ≡ halted
-  unfolding goOn
-  over v l = by (ltb stackLimit (length (v ∷ c .state .stack)))
-    where
-      by : (t : Bool) → after c n (cond t stuck (goes (record { stack = v ∷ c .state .stack; locals = c .state .locals; memory = c .state .memory }))) ≡ halted
-      by true = refl
-      by false = rw (lt-ltb stackLimit (length (v ∷ c .state .stack) + countUnder (c .labels)) (omega (arith, l)))
+  over v l = full-once c n (v ∷ c .state .stack) (c .state .locals) (c .state .memory) ∙ rw (lt-ltb stackLimit (length (v ∷ c .state .stack) + countUnder (c .labels)) (omega (arith, l)))
 
   over-local : stackLimit < length (c .state .stack) + countUnder (c .labels) + 1 → after c n (local (c .state) (i .index) (λ v. push (c .state) (c .state .stack) v)) ≡ halted
   unfolding local

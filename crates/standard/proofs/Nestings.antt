@@ -1,14 +1,14 @@
 -- Labels and frames stand in the same order: as many, and over as many values.
-use Prim.Native.Nat.{ℕ, suc, _+_}
-use mathlib.Core.Path.{_≡_, refl, ap, _∙_}
-use mathlib.Core.Bool.{false}
-use mathlib.Core.List.{List, [], _∷_, _++_, map}
+use Prim.Native.Nat.{ℕ, suc}
+use mathlib.Core.Path.{_≡_, refl, ap}
+use mathlib.Core.List.{List, [], _∷_}
 use native.Mathlib.Omega.{arith}
 use lib.ListN.{length, length-map, length-append, length-reverse}
 use Rattle.opcode.specs.Kind.{Kind}
 use Rattle.machine.specs.Value.{kindOf}
 use Rattle.rules.specs.Header.{Header}
-use Rattle.rules.specs.Typing.{Frame, holding, allValues, Target, innermost, outer, Has, all-known, any}
+use Rattle.rules.specs.Typing.{Frame, holding, allValues, Target, innermost, outer}
+pub use Rattle.rules.proofs.Typings.{live-has}
 use Rattle.standard.specs.Standard.{Label, countUnder}
 use Rattle.standard.specs.Safety.{Nested, outermost, inside}
 
@@ -29,11 +29,6 @@ module _ {s : List ℕ} {h : Header} where
 
   pub nested-none : {f : Frame} {ls : List Label} → Nested s h (f ∷ []) ls → ls ≡ []
   nested-none (outermost a b) = refl
-
--- in code that is not dead all is all-known
-pub live-has : {f : Frame} {below ins : List Kind} → f .dead ≡ false → Has f below ins → f .values ≡ below ++ ins
-live-has l (all-known e) = e
-live-has l (any u d e) = absurd (let z : _≡_ {A = ℕ} 0 1 = cc in omega arith)
 
 pub no-target : {n : ℕ} {g : Frame} {fs : List Frame} → Target fs n g → fs ≡ [] → ⊥
 no-target innermost e = let z : _≡_ {A = ℕ} 0 1 = cc in omega arith

@@ -6,7 +6,7 @@ use mathlib.Core.Logic.{⊎-elim}
 use lib.Dec.{T, eqb}
 use mir.Syntax.{Width, w8, w16, w32, w64, w128}
 use Rattle.operation.specs.Op.{Op, Load, LoadLane, Store, StoreLane, Const, Shuffle, Splat, ExtractLane, ReplaceLane, Unary, Binary, Bitselect, Test, Shift}
-use Rattle.opcode.specs.Table.{Code, plain, control, vector, Row, carried, float, unassigned, vectors, vectorAt, plainAt, PREFIX}
+use Rattle.opcode.specs.Table.{plain, control, vector, Row, carried, float, unassigned, vectors, vectorAt, plainAt, PREFIX}
 use Rattle.opcode.proofs.Every.{below, below-or-past}
 use Rattle.opcode.proofs.Rows.{vector-beyond}
 use Rattle.opcode.proofs.Versions.{every-plain}

@@ -32,7 +32,7 @@ step-halts s h c wrong =
     let d = decodeAt (h .version) s (c .place) in
     ap (λ (t : Bool). cond t (stepRow s h c d (rowIn (h .version) (d .instr))) halted) (ne-eqb (d .code) DONE wrong)
 
-not-end : (p : Plain) → (plain p ≡ plain End → ⊥) → isEnd p ≡ false
+pub not-end : (p : Plain) → (plain p ≡ plain End → ⊥) → isEnd p ≡ false
 not-end End d = absurd (d refl)
 not-end Drop d = refl
 not-end LocalGet d = refl

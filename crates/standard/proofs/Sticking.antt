@@ -1,20 +1,16 @@
 -- Not typed by the rules, stuck in the standard's machine: blocks and branches.
 use Prim.Native.Nat.{ℕ, zero, suc, _+_}
-use mathlib.Core.Path.{_≡_, refl, ap, ap₂, sym, _∙_, subst}
+use mathlib.Core.Path.{_≡_, refl, ap, ap₂, sym, _∙_}
 use mathlib.Core.Bool.{Bool, true, false, cond}
-use mathlib.Core.List.{List, [], _∷_, _++_, map, reverse, append-nil, reverse-reverse, append-assoc, reverse-append}
-use mathlib.Core.Option.{Option}
+use mathlib.Core.List.{List, [], _∷_, _++_, map, reverse, append-nil, reverse-reverse, reverse-append}
 use lib.Dec.{eqb}
 use lib.ListN.{length, take, drop}
 use borrow.Author.Tests.{eqb-true}
-use Rattle.opcode.specs.Kind.{Kind, i32}
-use Rattle.opcode.specs.Table.{BrIf, control}
-use Rattle.instr.specs.declared.Instr.{Instr}
+use Rattle.opcode.specs.Kind.{Kind}
 use Rattle.machine.specs.Value.{Value, I32, I64, V128, kindOf}
 use Rattle.machine.specs.Exec.{State, ofKinds}
 use Rattle.rules.specs.Header.{Header}
 use Rattle.rules.specs.Typing.{Frame, branchKinds, Target, innermost, outer}
-use Rattle.rules.specs.Strip.{Reads}
 use Rattle.standard.specs.Closing.{close}
 use Rattle.standard.specs.Standard.{Label, Config, Stage, going, ended, halted, withStack, along, resume, jump, branch, branchIf}
 use Rattle.standard.specs.Safety.{Nested, outermost, inside}

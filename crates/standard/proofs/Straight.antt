@@ -6,8 +6,7 @@ use mathlib.Core.List.{List, [], _∷_, _++_, reverse}
 use native.Mathlib.Omega.{arith}
 use lib.ListN.{length, length-append}
 use Rattle.card.specs.Card.{LOCAL, TRAILING}
-use Rattle.opcode.specs.Kind.{Kind}
-use Rattle.opcode.specs.Table.{Control, Br, BrIf, Block, Loop, Code, control, carried}
+use Rattle.opcode.specs.Table.{Control, Code, control, carried}
 use Rattle.opcode.proofs.Versions.{one-straight}
 use Rattle.instr.specs.declared.Instr.{Instr}
 use Rattle.instr.specs.Layout.{rowIn}
@@ -21,7 +20,7 @@ use Rattle.rules.specs.Breach.{Breach}
 use Rattle.rules.proofs.Headers.{declares-once}
 use Rattle.rules.proofs.Typings.{end-untyped, control-untyped}
 use Rattle.rules.proofs.Onward.{declared}
-use Rattle.standard.specs.Standard.{Config, going, trapped, halted, after, step, runs, begin}
+use Rattle.standard.specs.Standard.{Config, going, trapped, after, step, runs, begin}
 use Rattle.standard.specs.Safety.{Given, Fits, Sound, StuckHere, stuck-here, not-taken, StuckAt, traps-before, stuck-there}
 use Rattle.standard.proofs.Along.{one-more}
 use Rattle.standard.proofs.Fine.{Fine, on, past as trapped-past}

@@ -2,36 +2,34 @@
 use Prim.Native.Nat.{ℕ, _+_, _≤_, _<_}
 use mathlib.Core.Path.{_≡_, refl, ap, sym, _∙_, subst}
 use mathlib.Core.Bool.{Bool, true, false, cond}
-use mathlib.Core.List.{List, [], _∷_, _++_, map, reverse, append-nil, append-assoc, reverse-reverse}
+use mathlib.Core.List.{List, [], _∷_, _++_, map, reverse, append-assoc, reverse-reverse}
 use native.Mathlib.Omega.{arith}
-use lib.Dec.{ltb}
 use lib.ListN.{length, length-map, length-append, length-reverse}
 use borrow.Author.Tests.{le-ltb}
 use Rattle.card.specs.Card.{DONE, LOCAL, TRAILING}
 use Rattle.limits.specs.Limits.{stackLimit, nestLimit}
 use Rattle.opcode.specs.Kind.{Kind, i32}
 use Rattle.opcode.specs.BlockType.{blockResults}
-use Rattle.opcode.specs.Table.{End, Control, Block, Loop, Br, BrIf, Plain, Code, plain, control, vector}
+use Rattle.opcode.specs.Table.{End, Control, Block, Loop, Br, BrIf, Code, plain, control, vector}
 use Rattle.instr.specs.declared.Instr.{Instr}
 use Rattle.instr.specs.Decode.{decodeAt}
-use Rattle.machine.specs.Value.{Value, I32, kindOf}
-use Rattle.machine.specs.Exec.{State, stuck, ofKinds, exec}
-use Rattle.rules.specs.Header.{Header, Declares, locals}
-use Rattle.rules.specs.Typing.{Frame, branchKinds, allValues, Target, Local, Has, all-known, Types, ordinary, branches, may-branch, opens-block, opens-loop, closes, Names, Opens, block-opens, loop-opens, Branches, br-branches, if-branches, Ends, ends}
+use Rattle.machine.specs.Value.{kindOf}
+use Rattle.machine.specs.Exec.{stuck, ofKinds, exec}
+use Rattle.rules.specs.Header.{Header, locals}
+use Rattle.rules.specs.Typing.{Frame, branchKinds, allValues, Target, Local, all-known, Types, ordinary, branches, may-branch, opens-block, opens-loop, closes, Names, Opens, block-opens, loop-opens, Branches, br-branches, if-branches, Ends, ends}
 use Rattle.rules.specs.Strip.{Reads, Reaches}
 use Rattle.rules.specs.Breach.{Refused, At, Breach, long, stub, unmarked, other-version, parameters, further, results, kind, kinds-short, short, block-type, opcode, float, number, lane, align, local, nest, label, operand, deep, result, trailing}
 use Rattle.rules.proofs.Headers.{declares-once}
 use Rattle.rules.proofs.Typings.{end-untyped, control-untyped}
-use Rattle.rules.proofs.Sorts.{names-control, end-nameless, opens-typed}
-use Rattle.rules.proofs.Onward.{declared, reached-within}
-use Rattle.standard.specs.Standard.{Label, Config, going, halted, withStack, countUnder, after, enter, leave, branch, branchIf, stepPlain, stepCode, step}
+use Rattle.rules.proofs.Sorts.{names-control, end-nameless}
+use Rattle.rules.proofs.Onward.{declared, reached-within, reached-once}
+use Rattle.standard.specs.Standard.{Label, Config, going, halted, withStack, countUnder, after, enter, stepPlain, step}
 use Rattle.standard.specs.Safety.{Live, Nested, outermost, inside, Fits, Sound, StuckHere, stuck-here, not-taken}
 use Rattle.standard.proofs.ValueKinds.{fit-kinds}
 use Rattle.standard.proofs.Steps.{step-does, step-halts, does-ordinary}
 use Rattle.standard.proofs.Nestings.{nested-many, nested-under, live-has}
 use Rattle.standard.proofs.Untyped.{undeclared-stuck, untyped-stuck, end-stuck}
 use Rattle.standard.proofs.Full as full
-use Rattle.standard.proofs.Places.{reaches-once}
 use Rattle.standard.proofs.Sticking.{no-branch, lacking-branch, IfStuck, if-halts, if-zero, if-stuck, under-top}
 
 -- ---- one instruction in a live state
@@ -164,7 +162,7 @@ too-deep c {fs = fs} live fits n i r few (may-branch {below = below} {f = f} {g 
     ))
 too-deep c {f} {fs} live fits n i r few opens-block g = absurd (omega (arith, few, g, length-append (allValues (f ∷ fs)) []))
 too-deep c {f} {fs} live fits n i r few opens-loop g = absurd (omega (arith, few, g, length-append (allValues (f ∷ fs)) []))
-too-deep c live fits n i r few (closes {f = f} {g = g′} {fs = gs} x) g =
+too-deep c live fits n i r few (closes {f = f} {g = g′} {fs = gs} (ends x)) g =
     absurd (omega (
       arith,
       few,
@@ -195,7 +193,7 @@ halts {s} {h} {p} {fs} {i} {k} at no-step =
       reached = at .reached;
       stuck-at = λ c here sound.
           no-step c (sound .frame) (sound .outer)
-          (reaches-once (subst (λ (q : ℕ). Reaches s h q fs) (sym here) (at .reached)) (sound .reached))
+          (reached-once (subst (λ (q : ℕ). Reaches s h q fs) (sym here) (at .reached)) (sound .reached))
           (subst (λ (q : ℕ). Reads (h .version) s q i k (at .size)) (sym here) (at .reads)) (sound .live) (sound .fits);
     }
 

@@ -1,6 +1,6 @@
 -- The values on top of a stack, and their kinds.
 use Prim.Native.Nat.{ℕ, zero, suc}
-use mathlib.Core.Path.{_≡_, refl, ap, ap₂, sym, _∙_}
+use mathlib.Core.Path.{_≡_, refl, ap, sym, _∙_}
 use mathlib.Core.List.{List, [], _∷_, _++_, map, reverse, reverse-append, reverse-reverse}
 use lib.ListN.{length, take, drop, length-reverse, take-append-drop}
 use lib.Seq.{take-at}

@@ -1,30 +1,30 @@
 -- A strip that keeps the rules: in a sound state the next instruction is read and done, the machine is not stuck, and what it leaves is sound.
-use Prim.Native.Nat.{ℕ, zero, suc, _+_, _≤_, _<_}
+use Prim.Native.Nat.{ℕ, _+_, _≤_}
 use mathlib.Core.Path.{_≡_, refl, ap, ap₂, sym, _∙_, subst}
 use mathlib.Core.Bool.{Bool, true, false, cond}
 use mathlib.Core.List.{List, [], _∷_, _++_, map, reverse, reverse-append, reverse-reverse, append-assoc}
 use native.Mathlib.Omega.{arith}
-use lib.Dec.{eqb, ltb}
+use lib.Dec.{eqb}
 use lib.ListN.{length, length-map, length-append, length-reverse}
 use borrow.Author.Tests.{le-ltb, lt-ltb}
 use Rattle.limits.specs.Limits.{stackLimit, nestLimit}
 use Rattle.opcode.specs.Kind.{Kind, i32}
 use Rattle.opcode.specs.BlockType.{blockResults}
-use Rattle.opcode.specs.Table.{End, Control, Block, Loop, Br, BrIf, Code, plain, control}
+use Rattle.opcode.specs.Table.{End, Code}
 use Rattle.instr.specs.declared.Instr.{Instr}
 use Rattle.machine.specs.Value.{Value, I32, I64, V128, kindOf, AllInRange}
-use Rattle.machine.specs.Exec.{State, Outcome, goes, done, stuck, ofKinds, exec}
+use Rattle.machine.specs.Exec.{State, Outcome, goes, done, stuck, exec}
 use Rattle.rules.specs.Header.{Header, locals}
-use Rattle.rules.specs.Typing.{Frame, opened, holding, branchKinds, allValues, Target, Typed, Has, Types, ordinary, branches, may-branch, opens-block, opens-loop, closes, Ends, ends}
+use Rattle.rules.specs.Typing.{Frame, opened, holding, branchKinds, allValues, Target, Typed, Types, ordinary, branches, may-branch, opens-block, opens-loop, closes, Ends, ends}
 use Rattle.rules.specs.Strip.{Reads, Within, Reaches, past, Valid}
 use Rattle.rules.proofs.Typings.{end-untyped, control-untyped}
-use Rattle.standard.specs.Standard.{Label, Config, Stage, going, ended, halted, withStack, countUnder, after, enter, leave, branch, branchIf, stepPlain, stepCode, step}
+use Rattle.standard.specs.Standard.{Label, Config, Stage, going, halted, withStack, countUnder, after, enter, branch, branchIf, stepPlain, stepCode, step}
 use Rattle.standard.specs.Safety.{Live, Nested, outermost, inside, Fits, Sound, Safe, safe-going, safe-ended, safe-trapped}
 use Rattle.standard.proofs.ValueKinds.{reverse-kinds, reverse-range, kinds-fit}
 use Rattle.standard.proofs.Fine.{Kept, Fine, on, past as trapped-past}
 use Rattle.standard.proofs.Typeds.{Ranged, typed-fine}
 use Rattle.standard.proofs.Steps.{step-does, does-ordinary, apt}
-use Rattle.standard.proofs.Nestings.{nested-many, nested-under, nested-same, nested-none, live-has}
+use Rattle.standard.proofs.Nestings.{nested-many, nested-under, nested-same, live-has}
 use Rattle.standard.proofs.Unwinding.{Next, last, goes-on, what-next}
 use Rattle.standard.proofs.Tops.{kinds-append, range-append}
 use Rattle.standard.proofs.Branching.{rest-of, fits-with, branch-safe}
@@ -164,7 +164,7 @@ module _ {s : List ℕ} (v : Valid s) (c : Config) where
       decided fits live (i .index) n below l (live-has (live .0) x) (past reached r (may-branch l x) w) (c .state .stack) (fits .stacked) (fits .stack-range)
   typed-safe {n = n} {i} fits live reached r opens-block w = entered false i n fits live w (past reached r opens-block w)
   typed-safe {n = n} {i} fits live reached r opens-loop w = entered true i n fits live w (past reached r opens-loop w)
-  typed-safe {n = n} {i} fits live reached r (closes x) w = left n i fits (live .1) (live-has (live .0) x) (past reached r (closes x) w)
+  typed-safe {n = n} {i} fits live reached r (closes (ends x)) w = left n i fits (live .1) (live-has (live .0) x) (past reached r (closes (ends x)) w)
 
   -- the strip's `end`
   ended-safe : (n : ℕ) (i : Instr) {f : Frame} → Fits s h f [] c → Live (f ∷ []) → Ends (f ∷ []) → Good (stepPlain h c n i End (c .labels))

@@ -1,6 +1,7 @@
 -- A strip that keeps the rules: every block that is open at a place is closed after it, and there the block around it goes on with the results.
 use Prim.Native.Nat.{ℕ, zero, suc, _+_, _-_, _≤_}
-use mathlib.Core.Path.{_≡_, refl, ap, sym, _∙_, subst}
+use mathlib.Core.Path.{_≡_, refl, ap, subst}
+use mathlib.Core.Bool.{Bool, cond}
 use mathlib.Core.List.{List, [], _∷_, _++_}
 use mathlib.Core.Logic.{⊎-elim}
 use mathlib.Core.Option.{some}
@@ -8,7 +9,7 @@ use native.Mathlib.Omega.{arith}
 use lib.ListN.{length}
 use Rattle.limits.specs.Limits.{nestLimit}
 use Rattle.opcode.specs.Kind.{Kind}
-use Rattle.opcode.specs.Table.{Plain, End, Drop, LocalGet, LocalSet, LocalTee, I32Const, I64Const, I32Add, I32Sub, I32Eqz, I32LtU, Control, Code, plain, control, vector}
+use Rattle.opcode.specs.Table.{End, Code, plain, control, vector}
 use Rattle.instr.specs.declared.Instr.{Instr}
 use Rattle.rules.specs.Header.{Header, locals}
 use Rattle.rules.specs.Typing.{Frame, holding, Typed, Types, ordinary, branches, may-branch, opens-block, opens-loop, closes, Ends}
@@ -16,8 +17,9 @@ use Rattle.rules.specs.Strip.{Reads, Within, Reaches, past, Valid}
 use Rattle.rules.proofs.Typings.{end-untyped, control-untyped}
 use Rattle.rules.proofs.Sorts.{typed-inner}
 use Rattle.rules.proofs.Onward.{Onward, here, next, from-front, reads-once, compare, reached-within}
-use Rattle.standard.specs.Closing.{role, opener, neither, Closes, closed, goes-on as on-with, over-block, close}
+use Rattle.standard.specs.Closing.{role, opener, closer, neither, Closes, closed, goes-on as on-with, over-block, close}
 use Rattle.standard.specs.Inner.{ClosesIn, closed-in, goes-on-in, over-block-in}
+use Rattle.standard.proofs.Steps.{not-end}
 use Rattle.standard.proofs.Closings.{closes-found}
 
 -- ---- what stands at a place
@@ -54,21 +56,8 @@ data Unwinds (s : List ℕ) (h : Header) : ℕ → List Frame → Type 0 where
   unwinds : {p m : ℕ} {f g : Frame} {fs : List Frame} → ((room : ℕ) → Room (f ∷ g ∷ fs) room → ClosesIn (h .version) s room p m) → Reaches s h m (holding g (g .values ++ f .results) ∷ fs)
       → Unwinds s h m (holding g (g .values ++ f .results) ∷ fs) → Unwinds s h p (f ∷ g ∷ fs)
 
-plain-role : (p : Plain) → (plain p ≡ plain End → ⊥) → role (plain p) ≡ neither
-plain-role End d = absurd (d refl)
-plain-role Drop d = refl
-plain-role LocalGet d = refl
-plain-role LocalSet d = refl
-plain-role LocalTee d = refl
-plain-role I32Const d = refl
-plain-role I64Const d = refl
-plain-role I32Add d = refl
-plain-role I32Sub d = refl
-plain-role I32Eqz d = refl
-plain-role I32LtU d = refl
-
 ordinary-role : {ls ins outs : List Kind} {n : ℕ} (c : Code) → Typed ls n c ins outs → role c ≡ neither
-ordinary-role (plain p) t = plain-role p (end-untyped t)
+ordinary-role (plain p) t = ap (λ (b : Bool). cond b closer neither) (not-end p (end-untyped t))
 ordinary-role (control k) t = absurd (control-untyped t refl)
 ordinary-role (vector o) t = refl
 

@@ -42,7 +42,7 @@ role (control Br) = neither
 role (control BrIf) = neither
 role (vector o) = neither
 
--- the block whose body begins at p, or goes on there, is closed by the `end` before q
+-- the block whose body begins at p, or goes on there, is closed by the `end` before q; close, below, finds that and nothing else (proofs/Closings, close-exact, close-none)
 pub data Closes (ver : ℕ) (s : List ℕ) : ℕ → ℕ → Type 0 where
   closed : {p n : ℕ} {i : Instr} {c : Code} → Reads ver s p i c n → role c ≡ closer → Closes ver s p (p + n)
   goes-on : {p q n : ℕ} {i : Instr} {c : Code} → Reads ver s p i c n → role c ≡ neither → Closes ver s (p + n) q → Closes ver s p q

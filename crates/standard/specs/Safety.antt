@@ -4,11 +4,9 @@ use mathlib.Core.Path.{_≡_}
 use mathlib.Core.Bool.{false}
 use mathlib.Core.List.{List, [], _∷_, reverse, map}
 use lib.ListN.{length, getD}
-use Rattle.opcode.specs.Kind.{Kind}
 use Rattle.opcode.specs.Table.{BrIf, control}
 use Rattle.instr.specs.declared.Instr.{Instr}
 use Rattle.machine.specs.Value.{Value, I32, kindOf, AllInRange}
-use Rattle.machine.specs.Exec.{State}
 use Rattle.rules.specs.Header.{Header, locals}
 use Rattle.rules.specs.Typing.{Frame, opened}
 use Rattle.rules.specs.Strip.{Reads, Reaches}

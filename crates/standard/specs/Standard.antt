@@ -47,8 +47,9 @@ abbrev pub countUnder : List Label → ℕ
 countUnder [] = 0
 countUnder (l ∷ ls) = length (l .under) + countUnder ls
 
--- ---- what pops and pushes above the innermost label, n bytes long; where more operands would stand in all than the stack holds, it is full
+-- ---- what pops and pushes above the innermost label, n bytes long
 
+-- where more operands would stand in all than the stack holds, it is full; what `exec` asks of those above the label is no more (proofs/Full, full-once)
 abbrev pub after : Config → ℕ → Outcome → Stage
 after c n (goes σ) = cond (ltb stackLimit (length (σ .stack) + countUnder (c .labels))) halted (going (record { place = c .place + n; state = σ; labels = c .labels }))
 after c n (done vs) = ended vs (c .state .memory)
