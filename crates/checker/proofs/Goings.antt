@@ -188,19 +188,19 @@ module _ {s : List ℕ} {v n takes : ℕ} {kinds blocks : List ℕ} {depth nest 
     -- ---- every other
 
     module _ (other : (eqb nest 0 && eqb (groupIn (d .entry)) 0) ≡ false) where
-      faces : Faces s n takes (d .entry) (d .index) kinds blocks depth nest floor dead (coded .0) (decodeAt (w .header .version) s at .instr) (locals (w .header)) (w .header .results) (w .frames)
+      faces : Faces s n takes (d .entry) (d .immediate) kinds blocks depth nest floor dead (coded .0) (decodeAt (w .header .version) s at .instr) (locals (w .header)) (w .header .results) (w .frames)
       faces =
           record {
             row = its-entry;
-            names = λ f. ap (λ (x : Scanned). x .index) told ∙ index-named (coded .1) f;
-            types = λ o. let t = index-typed (coded .1) o in (ap (λ (x : Scanned). x .index) told ∙ t .0, t .1);
+            names = λ f. ap (λ (x : Scanned). x .immediate) told ∙ index-named (coded .1) f;
+            types = λ o. let t = index-typed (coded .1) o in (ap (λ (x : Scanned). x .immediate) told ∙ t .0, t .1);
             locals-are = w .locals-are;
             results-are = w .takes-is;
             few = w .declares .few .results;
             framed = w .framed;
           }
 
-      type-small-of : Opens (coded .0) → d .index < 256
+      type-small-of : Opens (coded .0) → d .immediate < 256
       type-small-of o = let t = faces .types o in omega (arith, t .0, type-small (decodeAt (w .header .version) s at .instr .block) (t .1))
 
       opened-by : 25 ≤ groupIn (d .entry) → groupIn (d .entry) < 27 → Opens (coded .0)
@@ -210,7 +210,7 @@ module _ {s : List ℕ} {v n takes : ℕ} {kinds blocks : List ℕ} {depth nest 
           by (inl e) = by-group Opens 25 block-opens (coded .0) (sym its-group ∙ sym e)
           by (inr m) = by-group Opens 26 loop-opens (coded .0) (sym its-group ∙ (let e : groupIn (d .entry) ≡ 26 = omega (arith, m, h) in e))
 
-      pub ready : Ready s n takes (d .entry) (d .index) kinds blocks depth nest floor
+      pub ready : Ready s n takes (d .entry) (d .immediate) kinds blocks depth nest floor
       ready =
           let x = tops in
           record {
@@ -230,7 +230,7 @@ module _ {s : List ℕ} {v n takes : ℕ} {kinds blocks : List ℕ} {depth nest 
               (λ f rest u. let t = framed-top u in omega (arith, t .floor-is, t .holds .many, length-append (allValues rest) (f .values))) (w .framed)
 
       module _ {kinds′ blocks′ : List ℕ} {depth′ nest′ floor′ code : ℕ} {dead′ : Bool}
-          (j : (c : Code) (i : Instr) (ls rs : List Kind) (fs : List Frame) → Faces s n takes (d .entry) (d .index) kinds blocks depth nest floor dead c i ls rs fs
+          (j : (c : Code) (i : Instr) (ls rs : List Kind) (fs : List Frame) → Faces s n takes (d .entry) (d .immediate) kinds blocks depth nest floor dead c i ls rs fs
           → Judges ls rs i c fs kinds′ blocks′ depth′ nest′ floor′ dead′ code) where
         judgement : Judges (locals (w .header)) (w .header .results) (decodeAt (w .header .version) s at .instr) (coded .0) (w .frames) kinds′ blocks′ depth′ nest′ floor′ dead′ code
         judgement = j (coded .0) (decodeAt (w .header .version) s at .instr) (locals (w .header)) (w .header .results) (w .frames) faces

@@ -10,6 +10,8 @@ ghost use Rattle.opcode.specs.BlockType.{isBlockType, blockResults};
 ghost use Rattle.rules.specs.Typing.{Frame, allValues};
 ghost use Rattle.checker.specs.Inner.Blocks.{bit, word, topFirst, Nested, Labelled};
 
+const EMPTY: u32 = opcode::kind::EMPTY as u32;
+
 fn bit_of(b: bool) -> u32
     ensures { λ r. ⌜ r ≡ bit b ⌝ }
 {
@@ -47,7 +49,7 @@ pub(crate) fn results_in(w: u32) -> u64
     ensures { λ r. ⌜ (r < 256) × ((floor type : ℕ) (loop dead : Bool) → floor < 256 → isBlockType type ≡ true → w ≡ word floor type loop dead → r ≡ topFirst (blockResults type)) ⌝ }
 {
     let t = w / 256 % 256;
-    if t == 0x40 {
+    if t == EMPTY {
         return 0;
     }
     t as u64

@@ -46,7 +46,7 @@ pub(crate) fn body(
             locals,
             takes,
             d.entry,
-            d.index,
+            d.immediate,
             &mut kinds,
             &mut blocks,
             state,

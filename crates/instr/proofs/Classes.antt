@@ -16,20 +16,18 @@ use Rattle.opcode.proofs.Id.{row-of-id}
 use Rattle.opcode.proofs.Classes.{class-carried, class-float, class-unassigned}
 use Rattle.opcode.proofs.Arms.{Missed}
 use Rattle.instr.specs.Layout.{Head, immediateFields, fieldsOf}
-use Rattle.instr.specs.Decode.{refusal, immediatesAt}
+use Rattle.instr.specs.Decode.{refusal, immediatesAt, bodyOf}
 use Rattle.instr.specs.Encode.{exponentFault, allBelow, faultIn, faultOf}
 use Rattle.instr.specs.Inner.Steps.{memoryClass, laneEnds}
-use Rattle.instr.specs.Inner.Version.{immediatesBy, bodyBy}
 use Rattle.instr.specs.declared.Instr.{Instr}
-use Rattle.instr.specs.declared.version.Version.{Version}
 use Rattle.card.specs.Card as card
 
 module _ (r : Row) (k : Immediates) (e : classOf r ≡ classNumber k) where
-  pub body-class : (ver : Version) (s : List ℕ) (at p : ℕ) (h : Head) → bodyBy ver r s at p h ≡ immediatesBy ver k (movedBy r) (lanesOf r) s at p h
-  unfolding bodyBy
-  body-class ver s at p h =
+  pub body-class : (s : List ℕ) (at p : ℕ) (h : Head) → bodyOf r s at p h ≡ immediatesAt k (movedBy r) (lanesOf r) s at p h
+  unfolding bodyOf
+  body-class s at p h =
       let t = class-carried r k e in
-      rw (t .1) (ap (λ (j : Immediates). immediatesBy ver j (movedBy (carried (t .0))) (lanesOf (carried (t .0))) s at p h) (t .2))
+      rw (t .1) (ap (λ (j : Immediates). immediatesAt j (movedBy (carried (t .0))) (lanesOf (carried (t .0))) s at p h) (t .2))
 
   pub fields-class : (i : Instr) → fieldsOf r i ≡ immediateFields k i
   unfolding fieldsOf
@@ -41,9 +39,9 @@ module _ (r : Row) (k : Immediates) (e : classOf r ≡ classNumber k) where
       let t = class-carried r k e in
       rw (t .1) (ap (λ (j : Immediates). faultIn j (movedBy (carried (t .0))) (lanesOf (carried (t .0))) i) (t .2))
 
-pub body-float : (r : Row) → classOf r ≡ FLOAT → (ver : Version) (s : List ℕ) (at p : ℕ) (h : Head) → bodyBy ver r s at p h ≡ refusal card.FLOAT at
-unfolding bodyBy
-body-float r e ver s at p h = rw (class-float r e)
+pub body-float : (r : Row) → classOf r ≡ FLOAT → (s : List ℕ) (at p : ℕ) (h : Head) → bodyOf r s at p h ≡ refusal card.FLOAT at
+unfolding bodyOf
+body-float r e s at p h = rw (class-float r e)
 
 pub fault-float : (r : Row) → classOf r ≡ FLOAT → (i : Instr) → faultOf r i ≡ card.FLOAT
 unfolding faultOf
@@ -79,10 +77,10 @@ other-class (carried c) m l =
 other-class float m l = absurd (m .1 refl)
 other-class unassigned m l = refl
 
-body-other : (r : Row) → AllBut decoded (classOf r) → 6 ≤ classOf r → (ver : Version) (s : List ℕ) (at p : ℕ) (h : Head)
-    → bodyBy ver r s at p h ≡ refusal OPCODE at
-unfolding bodyBy
-body-other r m l ver s at p h = rw (other-class r m l)
+body-other : (r : Row) → AllBut decoded (classOf r) → 6 ≤ classOf r → (s : List ℕ) (at p : ℕ) (h : Head)
+    → bodyOf r s at p h ≡ refusal OPCODE at
+unfolding bodyOf
+body-other r m l s at p h = rw (other-class r m l)
 
 pub memory-class : (r : Row) → AllBut decoded (classOf r) → classOf r < 6 → (classOf r ≡ classNumber memory) ⊎ (classOf r ≡ classNumber memoryLane)
 memory-class (carried c) m l = ⊎-elim (λ e. inl (ap classNumber e)) (λ e. inr (ap classNumber e)) (memory-or-none (immediates c) m)
@@ -98,24 +96,24 @@ module _ (r : Row) (class : ℕ) (f : class ≡ classOf r) where
   pub class-at : {k : ℕ} → class ≡ k → classOf r ≡ k
   class-at g = sym f ∙ g
 
-  module _ (ver : Version) (s : List ℕ) (at p : ℕ) (h : Head) where
-    pub body-lane : (k : ℕ) → k ≡ lanesOf r → class ≡ classNumber laneIndex → laneEnds k s at p h 0 0 ≡ bodyBy ver r s at p h
-    unfolding laneEnds immediatesBy immediatesAt
-    body-lane k g c = rw g (sym (body-class r laneIndex (class-at c) ver s at p h))
+  module _ (s : List ℕ) (at p : ℕ) (h : Head) where
+    pub body-lane : (k : ℕ) → k ≡ lanesOf r → class ≡ classNumber laneIndex → laneEnds k s at p h 0 0 ≡ bodyOf r s at p h
+    unfolding laneEnds immediatesAt
+    body-lane k g c = rw g (sym (body-class r laneIndex (class-at c) s at p h))
 
     pub body-memory : (m k : ℕ) (laned : Bool) → m ≡ movedBy r → k ≡ lanesOf r → laned ≡ eqb class 5 → AllBut decoded class → class < 6
-        → immediatesBy ver (memoryClass laned) m k s at p h ≡ bodyBy ver r s at p h
+        → immediatesAt (memoryClass laned) m k s at p h ≡ bodyOf r s at p h
     body-memory m k laned g i j o t =
         rw (g, i, j)
         (⊎-elim
-        (λ c. rw (ne-eqb class 5 (λ z. omega (arith, f, c))) (sym (body-class r memory (class-at (f ∙ c)) ver s at p h)))
-        (λ c. rw (eq-eqb class 5 (f ∙ c)) (sym (body-class r memoryLane (class-at (f ∙ c)) ver s at p h)))
+        (λ c. rw (ne-eqb class 5 (λ z. omega (arith, f, c))) (sym (body-class r memory (class-at (f ∙ c)) s at p h)))
+        (λ c. rw (eq-eqb class 5 (f ∙ c)) (sym (body-class r memoryLane (class-at (f ∙ c)) s at p h)))
         (memory-class r (subst (AllBut decoded) f o) (omega (arith, f))))
 
-    pub body-none : AllBut decoded class → 6 ≤ class → bodyBy ver r s at p h ≡ refusal OPCODE at
+    pub body-none : AllBut decoded class → 6 ≤ class → bodyOf r s at p h ≡ refusal OPCODE at
     body-none o t =
         let g = class-at {k = class} refl in
-        body-other r (subst (AllBut decoded) (sym g) o) (omega (arith, g)) ver s at p h
+        body-other r (subst (AllBut decoded) (sym g) o) (omega (arith, g)) s at p h
 
 -- what is wrong with an instruction, by its class
 module _ (r : Row) (i : Instr) where

@@ -12,7 +12,7 @@ use borrow.Author.Tests.{le-leb}
 use Rattle.opcode.specs.Table.{Row, carried, float, unassigned, PREFIX}
 use Rattle.opcode.specs.Immediate.{Immediates, nothing, index, blockType, word, long, memory, memoryLane, laneIndex, sixteenBytes, sixteenLanes, immediates, movedBy, lanesOf}
 use Rattle.instr.specs.Layout.{u32, Writes, InOrder, immediateFields, fieldsOf, rowIn, layout, AllowedIn, Allowed, Head, head, kept, keptOf, headOf, bare, Typed, Stands, found}
-use Rattle.instr.specs.Decode.{done, got, exponentAt, blockAt, lanesAt, sixteenAt, immediatesAt, bodyOf, opcodeNumber, decodeAt}
+use Rattle.instr.specs.Decode.{done, got, exponentAt, lanesAt, sixteenAt, immediatesAt, bodyOf, opcodeNumber, decodeAt}
 use Rattle.instr.specs.declared.Instr.{Instr}
 use Rattle.instr.proofs.Places.{first-of, others-of, byte-here, byte-back, block-back, lane-back, lanes-back, number-back, item-back}
 

@@ -14,11 +14,9 @@ use Rattle.opcode.specs.Table.{Row, latest}
 use Rattle.opcode.specs.Immediate.{index, blockType, word, long, memory, memoryLane, laneIndex, sixteenBytes, sixteenLanes}
 use Rattle.opcode.specs.Number.{classNumber, classOf}
 use Rattle.instr.specs.Layout.{opcodeFields, immediateFields, fieldsOf, rowIn, layout}
-use Rattle.instr.specs.Encode.{written, encoding, answer}
+use Rattle.instr.specs.Encode.{written, encoding, fault, answer, encoded, encodedIn}
 use Rattle.instr.specs.Inner.Steps.{Put}
-use Rattle.instr.specs.Inner.Version.{faultBy, encodedBy, encodedInBy}
 use Rattle.instr.specs.declared.Instr.{Instr}
-use Rattle.instr.specs.declared.version.Version.{Version}
 use Rattle.instr.proofs.Classes.{fields-class}
 use Rattle.instr.proofs.Sets.{written-append, put-then}
 
@@ -72,21 +70,21 @@ module _ (i : Instr) where
   pub encoding-length : length (encoding i) ≡ length head-bytes + length tail-bytes
   encoding-length = ap length encoding-is ∙ length-append head-bytes tail-bytes
 
-  module _ (ver : Version) (out : List ℕ) where
-    pub is-fault : (c : ℕ) → c ≡ faultBy ver i → (c ≡ DONE → ⊥) → (answer c 0 ≡ encodedBy ver i out) × (out ≡ encodedInBy ver i out)
-    unfolding encodedBy encodedInBy
+  module _ (ver : ℕ) (out : List ℕ) where
+    pub is-fault : (c : ℕ) → c ≡ fault ver i → (c ≡ DONE → ⊥) → (answer c 0 ≡ encoded ver i out) × (out ≡ encodedIn ver i out)
+    unfolding encoded encodedIn
     is-fault c f h = rw (← f, ne-eqb c DONE h) ((refl, refl))
 
-    module _ (f : faultBy ver i ≡ DONE) where
-      pub is-small : length out < length (encoding i) → (answer SMALL 0 ≡ encodedBy ver i out) × (out ≡ encodedInBy ver i out)
-      unfolding encodedBy encodedInBy
-      is-small h = rw (eq-eqb (faultBy ver i) DONE f, lt-leb (length (encoding i)) (length out) h) ((refl, refl))
+    module _ (f : fault ver i ≡ DONE) where
+      pub is-small : length out < length (encoding i) → (answer SMALL 0 ≡ encoded ver i out) × (out ≡ encodedIn ver i out)
+      unfolding encoded encodedIn
+      is-small h = rw (eq-eqb (fault ver i) DONE f, lt-leb (length (encoding i)) (length out) h) ((refl, refl))
 
       pub is-done : {out₁ out₂ : List ℕ} {p r : ℕ} → length (encoding i) ≤ length out → Put out 0 head-bytes p out₁ → Put out₁ p tail-bytes r out₂
-          → (answer DONE r ≡ encodedBy ver i out) × (out₂ ≡ encodedInBy ver i out)
-      unfolding encodedBy encodedInBy
+          → (answer DONE r ≡ encoded ver i out) × (out₂ ≡ encodedIn ver i out)
+      unfolding encoded encodedIn
       is-done {out₁} {out₂} {p} {r} h a b =
           let w = subst (λ (l : List ℕ). Put out 0 l r out₂) (sym encoding-is) (put-then a b) in
           let z = zero-add (length (encoding i)) in
-          rw (eq-eqb (faultBy ver i) DONE f, le-leb (length (encoding i)) (length out) h)
+          rw (eq-eqb (fault ver i) DONE f, le-leb (length (encoding i)) (length out) h)
           ((ap (answer DONE) (w .to ∙ z), w .bytes ∙ sets-eq (encoding i) out 0 (rw z h) ∙ ap (λ (n : ℕ). encoding i ++ drop n out) z))

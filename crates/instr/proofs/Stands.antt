@@ -13,10 +13,9 @@ use Rattle.card.specs.Card.{DONE}
 use Rattle.leb128.specs.Bytes.{bytes}
 use Rattle.leb128.specs.Number.{numberAt}
 use Rattle.leb128.specs.declared.read.Leb.the-variants.{Val}
-use Rattle.opcode.specs.BlockType.{isBlockType}
 use Rattle.opcode.specs.Table.{Row, carried, float, unassigned, PREFIX, rowAt}
 use Rattle.opcode.specs.Immediate.{Immediates, nothing, index, blockType, word, long, memory, memoryLane, laneIndex, sixteenBytes, sixteenLanes, immediates, movedBy, lanesOf}
-use Rattle.instr.specs.Layout.{Field, u32, s32, s64, raw, Writes, InOrder, opcodeFields, immediateFields, fieldsOf, rowIn, layout, Below, AllowedIn, Allowed, Head, head, zeros, instr, kept, keptOf, headOf, blockInstr, Typed, Stands, found}
+use Rattle.instr.specs.Layout.{Field, u32, s32, s64, raw, Writes, InOrder, opcodeFields, immediateFields, fieldsOf, rowIn, layout, Below, AllowedIn, Allowed, Head, head, zeros, made, kept, keptOf, headOf, Typed, Stands, found}
 use Rattle.instr.specs.Decode.{done, andThen, byteAt, laneAt, blockAt, exponentAt, lanesAt, sixteenAt, itemOf, numberItem, immediatesAt, bodyOf, opcodeNumber, decodeAt}
 use Rattle.instr.specs.declared.Instr.{Instr}
 use Rattle.instr.specs.declared.Decoded.{Decoded}
@@ -24,9 +23,12 @@ use Rattle.instr.proofs.Decodes.{stands-decodes}
 use Rattle.instr.proofs.Fields.{in-order-append}
 use Rattle.instr.proofs.Finds.{Here, here-none, here-join, here-next, Good, then-got, NumIs, num-got, item-got, ByteIs, byte-got, LaneIs, lane-got, BlockIs, block-got, ExponentIs, exponent-got, LanesAre, lanes-got, SixteenAre, sixteen-got, part-bytes}
 
-zeros-bytes : (k : ℕ) → Below 256 (replicate k 0)
-zeros-bytes zero = tt
-zeros-bytes (suc k) = (omega arith, zeros-bytes k)
+below-zeros : (k : ℕ) → Below 256 (replicate k 0)
+below-zeros zero = tt
+below-zeros (suc k) = (omega arith, below-zeros k)
+
+zeros-bytes : (length zeros ≡ 16) × Below 256 zeros
+zeros-bytes = (refl, below-zeros 16)
 
 module _ (s : List ℕ) (b : bytes s) where
   -- the immediates were found from p on, in the instruction of d
@@ -45,11 +47,11 @@ module _ (s : List ℕ) (b : bytes s) where
     abbrev ReadIn : Immediates → Decoded → Type 0
     ReadIn k d = Read at p h (AllowedIn k m n) (kept k h) (immediateFields k) d
 
-    -- the sixteen bytes are zero, or they are all that follows
-    read : (k : Immediates) (q x w v a o l : ℕ) → x < 2 ^ 32 → w < 2 ^ 32 → v < 2 ^ 64 → a < 2 ^ 32 → o < 2 ^ 32 → l < 256
-        → AllowedIn k m n (instr h x w v a o l zeros) → kept k h (instr h x w v a o l zeros) ≡ instr h x w v a o l zeros
-        → Here s p q (InOrder Writes (immediateFields k (instr h x w v a o l zeros))) → Good s (ReadIn k) (done at q (instr h x w v a o l zeros))
-    read k q x w v a o l x< w< v< a< o< l< c e g = (
+    read : (k : Immediates) (q x w v a o l t : ℕ) (bs : List ℕ)
+        → (x < 2 ^ 32) × (w < 2 ^ 32) × (v < 2 ^ 64) × (a < 2 ^ 32) × (o < 2 ^ 32) × (l < 2 ^ 8) × (t < 2 ^ 8) → (length bs ≡ 16) × Below 256 bs
+        → AllowedIn k m n (made h x w v a o l t bs) → kept k h (made h x w v a o l t bs) ≡ made h x w v a o l t bs
+        → Here s p q (InOrder Writes (immediateFields k (made h x w v a o l t bs))) → Good s (ReadIn k) (done at q (made h x w v a o l t bs))
+    read k q x w v a o l t bs u e c f g = (
       omega arith,
       λ z. record {
         last = q;
@@ -57,130 +59,64 @@ module _ (s : List ℕ) (b : bytes s) where
         place = refl;
         first = refl;
         number = refl;
-        typed = λ f n. record {
-          first = f;
+        typed = λ b n. record {
+          first = b;
           number = n;
-          index = x<;
-          word = w<;
-          long = v<;
-          align = a<;
-          offset = o<;
-          lane = l<;
-          block = omega arith;
-          sixteen = refl;
-          bytes = zeros-bytes 16;
+          index = u .0;
+          word = u .1;
+          long = u .2;
+          align = u .3;
+          offset = u .4;
+          lane = u .5;
+          block = u .6;
+          sixteen = e .0;
+          bytes = e .1;
         };
         allowed = c;
-        lacking = e;
+        lacking = f;
         here = g;
       },
     )
 
-    read-sixteen : (k : Immediates) (q : ℕ) (bs : List ℕ) → length bs ≡ 16 → Below 256 bs → AllowedIn k m n (instr h 0 0 0 0 0 0 bs)
-        → kept k h (instr h 0 0 0 0 0 0 bs) ≡ instr h 0 0 0 0 0 0 bs
-        → Here s p q (InOrder Writes (immediateFields k (instr h 0 0 0 0 0 0 bs))) → Good s (ReadIn k) (done at q (instr h 0 0 0 0 0 0 bs))
-    read-sixteen k q bs e u c f g =
-        let z : 0 < 2 ^ 32 = omega arith in (
-          omega arith,
-          λ t. record {
-            last = q;
-            len = refl;
-            place = refl;
-            first = refl;
-            number = refl;
-            typed = λ f n. record {
-              first = f;
-              number = n;
-              index = z;
-              word = z;
-              long = omega arith;
-              align = z;
-              offset = z;
-              lane = omega arith;
-              block = omega arith;
-              sixteen = e;
-              bytes = u;
-            };
-            allowed = c;
-            lacking = f;
-            here = g;
-          },
-        )
-
-    read-block : (q v : ℕ) → v < 256 → isBlockType v ≡ true → Here s p q (λ bs. bs ≡ v ∷ []) → Good s (ReadIn blockType) (done at q (blockInstr h v))
-    unfolding immediateFields AllowedIn
-    read-block q v l t g =
-        let z : 0 < 2 ^ 32 = omega arith in (
-          omega arith,
-          λ _. record {
-            last = q;
-            len = refl;
-            place = refl;
-            first = refl;
-            number = refl;
-            typed = λ f n. record {
-              first = f;
-              number = n;
-              index = z;
-              word = z;
-              long = omega arith;
-              align = z;
-              offset = z;
-              lane = omega arith;
-              block = l;
-              sixteen = refl;
-              bytes = zeros-bytes 16;
-            };
-            allowed = t;
-            lacking = refl;
-            here = here-next s p q q (raw (v ∷ [])) [] g (here-none s q);
-          },
-        )
-
     immediates-got : (k : Immediates) → Good s (ReadIn k) (immediatesAt k m n s at p h)
     unfolding immediatesAt immediateFields AllowedIn NumIs ExponentIs LaneIs BlockIs ByteIs LanesAre SixteenAre
-    immediates-got nothing =
-        read nothing p 0 0 0 0 0 0 (omega arith) (omega arith) (omega arith) (omega arith) (omega arith) (omega arith) tt refl (here-none s p)
+    immediates-got nothing = read nothing p 0 0 0 0 0 0 0 zeros (omega arith) zeros-bytes tt refl (here-none s p)
     immediates-got index =
         then-got s (NumIs s b false 32 p) (ReadIn index) (numberItem false 32 s p) _ (item-got s b false 32 p (omega arith))
-        (λ v q a. read index q v 0 0 0 0 0 (a .0) (omega arith) (omega arith) (omega arith) (omega arith) (omega arith) tt refl
-        (here-next s p q q (u32 v) [] (a .3) (here-none s q)))
+        (λ v q a. read index q v 0 0 0 0 0 0 zeros (omega (arith, a .0)) zeros-bytes tt refl (here-next s p q q (u32 v) [] (a .3) (here-none s q)))
     immediates-got blockType =
         then-got s (BlockIs s b p) (ReadIn blockType) (blockAt s p) _ (block-got s b p)
-        (λ v q a. read-block q v (a .1 .1) (a .0) (a .1 .3))
+        (λ v q a. read blockType q 0 0 0 0 0 0 v zeros (omega (arith, a .1 .1)) zeros-bytes (a .0) refl (here-next s p q q (raw (v ∷ [])) [] (a .1 .3) (here-none s q)))
     immediates-got word =
         then-got s (NumIs s b true 32 p) (ReadIn word) (numberItem true 32 s p) _ (item-got s b true 32 p (omega arith))
-        (λ v q a. read word q 0 v 0 0 0 0 (omega arith) (a .0) (omega arith) (omega arith) (omega arith) (omega arith) tt refl
-        (here-next s p q q (s32 v) [] (a .3) (here-none s q)))
+        (λ v q a. read word q 0 v 0 0 0 0 0 zeros (omega (arith, a .0)) zeros-bytes tt refl (here-next s p q q (s32 v) [] (a .3) (here-none s q)))
     immediates-got long =
         then-got s (NumIs s b true 64 p) (ReadIn long) (numberItem true 64 s p) _ (item-got s b true 64 p (omega arith))
-        (λ v q a. read long q 0 0 v 0 0 0 (omega arith) (omega arith) (a .0) (omega arith) (omega arith) (omega arith) tt refl
-        (here-next s p q q (s64 v) [] (a .3) (here-none s q)))
+        (λ v q a. read long q 0 0 v 0 0 0 0 zeros (omega (arith, a .0)) zeros-bytes tt refl (here-next s p q q (s64 v) [] (a .3) (here-none s q)))
     immediates-got memory =
         then-got s (ExponentIs s b m p) (ReadIn memory) (exponentAt m s p) _ (exponent-got s b m p)
         (λ v q a. then-got s (NumIs s b false 32 q) (ReadIn memory) (numberItem false 32 s q) _ (item-got s b false 32 q (omega arith))
-        (λ o r c. read memory r 0 0 0 v o 0 (omega arith) (omega arith) (omega arith) (a .1 .0) (c .0) (omega arith) (a .0) refl
+        (λ o r c. read memory r 0 0 0 v o 0 0 zeros (omega (arith, a .1 .0, c .0)) zeros-bytes (a .0) refl
         (here-next s p q r (u32 v) (u32 o ∷ []) (a .1 .3) (here-next s q r r (u32 o) [] (c .3) (here-none s r)))))
     immediates-got memoryLane =
         then-got s (ExponentIs s b m p) (ReadIn memoryLane) (exponentAt m s p) _ (exponent-got s b m p)
         (λ v q a. then-got s (NumIs s b false 32 q) (ReadIn memoryLane) (numberItem false 32 s q) _ (item-got s b false 32 q (omega arith))
         (λ o r c. then-got s (LaneIs s b n r) (ReadIn memoryLane) (laneAt n s r) _ (lane-got s b n r)
-        (λ l t d. read memoryLane t 0 0 0 v o l (omega arith) (omega arith) (omega arith) (a .1 .0) (c .0) (d .1 .1) (a .0, d .0) refl
+        (λ l t d. read memoryLane t 0 0 0 v o l 0 zeros (omega (arith, a .1 .0, c .0, d .1 .1)) zeros-bytes (a .0, d .0) refl
         (here-next s p q t (u32 v) (u32 o ∷ raw (l ∷ []) ∷ []) (a .1 .3)
         (here-next s q r t (u32 o) (raw (l ∷ []) ∷ []) (c .3) (here-next s r t t (raw (l ∷ [])) [] (d .1 .3) (here-none s t)))))))
     immediates-got laneIndex =
         then-got s (LaneIs s b n p) (ReadIn laneIndex) (laneAt n s p) _ (lane-got s b n p)
-        (λ l q a. read laneIndex q 0 0 0 0 0 l (omega arith) (omega arith) (omega arith) (omega arith) (omega arith) (a .1 .1) (a .0) refl
-        (here-next s p q q (raw (l ∷ [])) [] (a .1 .3) (here-none s q)))
+        (λ l q a. read laneIndex q 0 0 0 0 0 l 0 zeros (omega (arith, a .1 .1)) zeros-bytes (a .0) refl (here-next s p q q (raw (l ∷ [])) [] (a .1 .3) (here-none s q)))
     immediates-got sixteenBytes =
         then-got s (SixteenAre s b p) (ReadIn sixteenBytes) (sixteenAt s p) _ (sixteen-got s b p)
-        (λ v q a. read-sixteen sixteenBytes q (take 16 (drop p s)) (ap length (sym (a .4 .0)) ∙ a .4 .1) (part-bytes s b 16 p) tt refl
+        (λ v q a. read sixteenBytes q 0 0 0 0 0 0 0 (take 16 (drop p s)) (omega arith) ((ap length (sym (a .4 .0)) ∙ a .4 .1, part-bytes s b 16 p)) tt refl
         (here-next s p q q (raw (take 16 (drop p s))) [] (a .0, a .1, a .2, a .3, a .4 .0) (here-none s q)))
     immediates-got sixteenLanes =
         then-got s (LanesAre s b 16 p) (ReadIn sixteenLanes) (lanesAt 16 s p) _ (lanes-got s b 16 p)
         (λ v q a.
         let t : take 16 (drop p s) ≡ a .0 = ap (take 16) (a .2) ∙ take-at (a .0) (a .1) 16 (a .4 .0) in
-        read-sixteen sixteenLanes q (take 16 (drop p s)) (ap length t ∙ a .4 .0) (part-bytes s b 16 p) (rw t (a .4 .1)) refl
+        read sixteenLanes q 0 0 0 0 0 0 0 (take 16 (drop p s)) (omega arith) ((ap length t ∙ a .4 .0, part-bytes s b 16 p)) (rw t (a .4 .1)) refl
         (here-next s p q q (raw (take 16 (drop p s))) [] (a .0, a .1, a .2, a .3, sym t) (here-none s q)))
 
   body-got : (at p : ℕ) (h : Head) → at ≤ length s → (r : Row) → Good s (Read at p h (Allowed r) (keptOf r h) (fieldsOf r)) (bodyOf r s at p h)

@@ -1,7 +1,7 @@
 -- What decoding one instruction answers (01, "Numbers on the inspector's card": 2 and 7 to 11, "Decoding one instruction from any
 -- place"; 02, C-13: told the version, 4 first and 6 after 8): from left to right, each item judged as soon as it is read.
 use Prim.Native.Nat.{ℕ, zero, suc, _+_, _-_, _^_}
-use mathlib.Core.Bool.{Bool, true, false, cond, _&&_}
+use mathlib.Core.Bool.{Bool, true, false, cond}
 use mathlib.Core.List.{List}
 use lib.Dec.{ltb, leb, eqb}
 use lib.ListN.{length, getD, take, drop}

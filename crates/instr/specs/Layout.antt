@@ -104,8 +104,9 @@ head b n = record { first = b; number = n }
 abbrev pub zeros : List ℕ
 zeros = replicate 16 0
 
-abbrev pub instr : Head → ℕ → ℕ → ℕ → ℕ → ℕ → ℕ → List ℕ → Instr
-instr h x w v a o l bs =
+-- with these immediates
+abbrev pub made : Head → ℕ → ℕ → ℕ → ℕ → ℕ → ℕ → ℕ → List ℕ → Instr
+made h x w v a o l b bs =
     record {
       first = h .first;
       number = h .number;
@@ -115,25 +116,16 @@ instr h x w v a o l bs =
       align = a;
       offset = o;
       lane = l;
-      block = 0;
+      block = b;
       bytes = bs;
     }
 
--- one with a block type
+-- one without a block type, and one with nothing else
+abbrev pub instr : Head → ℕ → ℕ → ℕ → ℕ → ℕ → ℕ → List ℕ → Instr
+instr h x w v a o l bs = made h x w v a o l 0 bs
+
 abbrev pub blockInstr : Head → ℕ → Instr
-blockInstr h b =
-    record {
-      first = h .first;
-      number = h .number;
-      index = 0;
-      word = 0;
-      long = 0;
-      align = 0;
-      offset = 0;
-      lane = 0;
-      block = b;
-      bytes = zeros;
-    }
+blockInstr h b = made h 0 0 0 0 0 0 b zeros
 
 -- the instruction with the immediates that it lacks as zero
 abbrev pub kept : Immediates → Head → Instr → Instr

@@ -1,10 +1,18 @@
--- What the check asks of an instruction: whether it can be decoded, what the table says of it, the local or the block that it names or its block type, and its length.
+-- What the check asks of an instruction: whether it can be decoded, what the table says of it, the one immediate that the rules read, and its
+-- length.
+use Prim.Native.Nat.{ℕ}
 use mathlib.Core.Bool.{cond}
 use lib.Dec.{eqb}
 use Rattle.opcode.specs.Number.{idOf, rowOf}
 use Rattle.opcode.specs.Entry.{entryOf}
+use Rattle.instr.specs.declared.Instr.{Instr}
 use Rattle.instr.specs.declared.Decoded.{Decoded}
 use Rattle.instr.specs.declared.Scanned.{Scanned}
+
+-- the index of a local or of a block, or a block type; 0 where there is none of these. No instruction has both, what it lacks is 0, and no
+-- block type is 0
+abbrev pub immediateOf : Instr → ℕ
+immediateOf i = cond (eqb (i .block) 0) (i .index) (i .block)
 
 abbrev pub scanOf : Decoded → Scanned
 scanOf d =
@@ -13,5 +21,5 @@ scanOf d =
       place = d .place;
       len = d .len;
       entry = entryOf (rowOf (idOf (d .instr .first) (d .instr .number)));
-      index = cond (eqb (d .instr .block) 0) (d .instr .index) (d .instr .block);
+      immediate = immediateOf (d .instr);
     }

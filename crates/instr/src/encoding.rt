@@ -1,7 +1,6 @@
 // Encoding: what is wrong, then the room, then the bytes.
 use crate::Encoded;
 use crate::Instr;
-use crate::version::Version;
 use leb128::Wrote;
 ghost use mathlib.Core.Path.{_≡_};
 ghost use Prim.Native.Nat.{_+_, _<_, _≤_};
@@ -14,30 +13,21 @@ ghost use Rattle.opcode.specs.Number.{classOf, rowOf};
 ghost use Rattle.instr.specs.Layout.{opcodeFields, fieldsOf, rowIn};
 ghost use Rattle.instr.specs.Encode.{written, encoding, allBelow, exponentFault, faultOf, encoded, encodedIn};
 ghost use Rattle.instr.specs.Inner.Steps.{Put};
-ghost use Rattle.instr.specs.Inner.Version.{encodedBy, encodedInBy};
 
 pub fn encode(version: u16, i: Instr, out: &mut [u8]) -> Encoded
     ensures answer { λ r. ⌜ r ≡ encoded version i (now (out .entry)) ⌝ }
     ensures bytes { λ r. ⌜ now (out .exit) ≡ encodedIn version i (now (out .entry)) ⌝ }
 {
-    if opcode::is_known(version) {
-        return encode_by(crate::version::by_number(version), i, out);
+    if !opcode::is_known(version) {
+        return Encoded {
+            code: card::VERSION,
+            place: 0,
+            len: 0,
+        };
     }
-    Encoded {
-        code: card::VERSION,
-        place: 0,
-        len: 0,
-    }
-}
-
-// By a version's rules: what it does not carry is OPCODE.
-fn encode_by(version: Version, i: Instr, out: &mut [u8]) -> Encoded
-    ensures answer { λ r. ⌜ r ≡ encodedBy version i (now (out .entry)) ⌝ }
-    ensures bytes { λ r. ⌜ now (out .exit) ≡ encodedInBy version i (now (out .entry)) ⌝ }
-{
     let first = i.first;
     let number = i.number;
-    let id = crate::version::id_by(version, first, number);
+    let id = crate::id_in(version, first, number);
     let wrong = fault_of(id, i);
     if wrong != card::DONE {
         return Encoded {

@@ -4,7 +4,6 @@ mod encoding;
 mod immediates;
 mod number;
 mod scanning;
-mod version;
 
 pub use decoding::decode;
 pub use decoding::fetch;
@@ -15,6 +14,8 @@ ghost use mathlib.Core.Path.{_≡_};
 ghost use Prim.Native.Nat.{_≤_, _^_};
 ghost use lib.Dec.{leb};
 ghost use Rattle.opcode.specs.BlockType.{isBlockType};
+ghost use Rattle.opcode.specs.Number.{rowOf};
+ghost use Rattle.opcode.specs.Table.{rowAt};
 
 // The opcode's two numbers and the immediates, those that the instruction lacks zero. `word` and `long` are the bits of a signed number.
 pub struct Instr {
@@ -44,19 +45,30 @@ pub struct Fetched {
     pub decoded: Decoded,
 }
 
-// What the check asks: what the table says of the instruction, and the local or block that it names or its block type.
+// What the check asks: what the table says of the instruction, and the one immediate that the rules read: the index of a local or of a
+// block, or a block type; 0 where there is none of these.
 pub struct Scanned {
     pub code: u8,
     pub place: usize,
     pub len: usize,
     pub entry: u64,
-    pub index: u32,
+    pub immediate: u32,
 }
 
 pub struct Encoded {
     pub code: u8,
     pub place: usize,
     pub len: usize,
+}
+
+// The id by which the table knows an instruction, BEYOND where this version has not its first byte yet.
+pub(crate) fn id_in(version: u16, first: u8, number: u32) -> u32
+    ensures { λ r. ⌜ rowOf r ≡ rowAt version first number ⌝ }
+{
+    if first != opcode::PREFIX && version < opcode::since(first) {
+        return opcode::BEYOND;
+    }
+    opcode::id_of(first, number)
 }
 
 // Whether 2 to the exponent exceeds the bytes moved: 16 at most, so an exponent above 4 does.
@@ -77,7 +89,7 @@ pub(crate) fn wide(x: u8) -> u32
 pub(crate) fn is_block_type(b: u8) -> bool
     ensures { λ r. ⌜ r ≡ isBlockType b ⌝ }
 {
-    if b == 0x40 {
+    if b == opcode::kind::EMPTY {
         return true;
     }
     if b == opcode::kind::I32 {

@@ -8,8 +8,15 @@ use lib.ListN.{length, getD}
 use lib.Seq.{sets}
 use Rattle.opcode.specs.Immediate.{Immediates, memory, memoryLane}
 use Rattle.instr.specs.Layout.{Head, zeros, instr}
-use Rattle.instr.specs.Decode.{andThen, done, laneAt, lanesAt}
+use Rattle.instr.specs.Decode.{Item, got, no, andThen, done, laneAt, lanesAt}
 use Rattle.instr.specs.declared.Decoded.{Decoded}
+use Rattle.instr.specs.declared.number.Read.{Read}
+use Rattle.instr.specs.declared.number.Read.the-variants.{Got, No}
+
+-- the code's answer as an item
+abbrev pub item : Read → Item
+item (Got v next) = got v next
+item (No c p) = no c p
 
 -- with a lane index after the offset, or without
 abbrev pub memoryClass : Bool → Immediates

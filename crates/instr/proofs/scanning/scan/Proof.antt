@@ -1,50 +1,141 @@
-use denote.Ref.{now}
+-- The version, the first byte, the number, the immediates.
 use mathlib.Core.Path.{sym, ap, _∙_}
+use native.Mathlib.Omega.{arith}
+use denote.Ref.{now}
+use Rattle.opcode.specs.Number.{rowOf}
+use Rattle.opcode.specs.Entry.{entryOf}
+use Rattle.opcode.proofs.Classes.{row-moved-small}
+use Rattle.opcode.proofs.Entries.{moved-in}
 use Rattle.instr.specs.Scan.{scanOf}
-use Rattle.instr.specs.Inner.Version.{decodeBy}
-use Rattle.instr.specs.declared.version.Version.{Version}
+use Rattle.instr.specs.Inner.Steps.{item}
 use Rattle.instr.proofs.Versions.{decode-known, decode-unknown}
+use Rattle.instr.proofs.Items.{decode-cut, decode-number}
+use Rattle.instr.proofs.Numbers.{opcode-there}
+use Rattle.instr.proofs.Over.{over-there, scanned}
 use borrow.Author.Needs.{needs}
 use Rattle.instr.proofs.scanning.scan.Statement.{statement}
 use Rattle.instr.proofs.scanning.scan.Tie as tie
-use Rattle.instr.proofs.scanning.scan.Reads as reads
-use Rattle.instr.proofs.scanning.scan.Lts as lts
-use Rattle.instr.proofs.scanning.refused.Reads as refused-reads
-use Rattle.instr.proofs.scanning.scan_by.Reads as scan-by-reads
-use Rattle.instr.proofs.version.by_number.Reads as by-number-reads
-use Rattle.opcode.proofs.is_known.Reads as is-known-reads
 
--- src/scanning.rt:23:8
 is-known-requires : tie.Need-is-known-requires
 is-known-requires c κs = search needs
 
--- src/scanning.rt:24:24
-by-number-requires : tie.Need-by-number-requires
-by-number-requires c κs = search needs
-
--- src/scanning.rt:24:9
-scan-by-requires : tie.Need-scan-by-requires
-scan-by-requires c κs = search needs
-
--- src/scanning.rt:24:9
-returns : tie.Need-returns
-returns c = let a = c .before .before .before .before .before .args in c .scan-by .ensures ∙ ap scanOf (ap (λ (v : Version). decodeBy v (now (a .s)) (a .at)) (c .before .by-number .ensures) ∙ decode-known (a .version) (sym (c .before .before .before .is-known .ensures) ∙ c .before .before .if1 .taken) (now (a .s)) (a .at))
-
--- src/scanning.rt:26:5
 refused-requires : tie.Need-refused-requires
 refused-requires c κs = search needs
 
--- src/scanning.rt:20:1
+returns : tie.Need-returns
+returns c = let a = c .before .before .before .before .args in
+    c .refused .ensures ∙ ap scanOf (sym (decode-unknown (a .version) (c .before .before .is-known .ensures) (now (a .s)) (a .at) (c .before .if1 .taken)))
+
+refused-requires-2 : tie.Need-refused-requires-2
+refused-requires-2 c κs = search needs
+
 returns-2 : tie.Need-returns-2
-returns-2 c = let a = c .before .before .before .before .args in c .refused .ensures ∙ ap scanOf (decode-unknown (a .version) (sym (c .before .before .is-known .ensures) ∙ c .before .if1 .left) (now (a .s)) (a .at))
+returns-2 c = let a = c .before .before .before .before .before .args in
+    c .refused2 .ensures ∙ ap scanOf (sym (decode-known (a .version) (c .before .before .before .is-known .ensures) (now (a .s)) (a .at) (c .before .before .if1 .left) ∙ decode-cut _ _ _ (c .before .if2 .taken)))
+
+shared-slice-read-first : tie.Need-shared-slice-read-first
+shared-slice-read-first c = search needs
+
+add-opcode-number : tie.Need-add-opcode-number
+add-opcode-number c = search needs
+
+opcode-number-requires : tie.Need-opcode-number-requires
+opcode-number-requires c κs = search needs
+
+enum-known-n : tie.Need-enum-known-n
+enum-known-n c = search needs
+
+cast-id-in : tie.Need-cast-id-in
+cast-id-in c = omega (
+  arith,
+  opcode-there _ (λ j. c .before .before .before .before .shared-slice-known2 .given j .fits) _ _ _ _ (omega (arith, c .before .before .before .before .before .if2 .left)) (sym (c .before .before .before .opcode-number .ensures) ∙ ap item (c .before .n .given .1)),
+)
+
+id-in-requires : tie.Need-id-in-requires
+id-in-requires c κs = search needs
+
+entry-requires : tie.Need-entry-requires
+entry-requires c κs = search needs
+
+immediates-requires : tie.Need-immediates-requires
+immediates-requires c κs = let t = opcode-there _ (λ j. c .before .before .before .before .before .before .shared-slice-known2 .given j .fits) _ _ _ _ (omega (arith, c .before .before .before .before .before .before .before .if2 .left)) (sym (c .before .before .before .before .before .opcode-number .ensures) ∙ ap item (c .before .before .before .n .given .1)) in
+    let r = rowOf (c .before .id-in .result) in
+    omega (arith, t, moved-in r (c .entry .ensures), row-moved-small r)
+
+enum-known-immediate : tie.Need-enum-known-immediate
+enum-known-immediate c = search needs
+
+sub-t26 : tie.Need-sub-t26
+sub-t26 c = let known = c .before .before .before .before .before .before .before .before .before .before .shared-slice-known2 in
+    let number = sym (c .before .before .before .before .before .before .before .before .before .opcode-number .ensures) ∙ ap item (c .before .before .before .before .before .before .before .n .given .1) in
+    let rest = sym (c .before .before .before .immediates .ensures (rowOf (c .before .before .before .before .before .id-in .result)) (c .before .before .before .before .entry .ensures)) ∙ ap item (c .before .immediate .given .1) in
+    let there = opcode-there _ (λ j. known .given j .fits) _ _ _ _ (omega (arith, c .before .before .before .before .before .before .before .before .before .before .before .if2 .left)) number in
+    omega (arith, over-there _ _ (λ j. known .given j .fits) _ (omega (arith, there)) _ _ _ rest)
+
+cast-t27 : tie.Need-cast-t27
+cast-t27 c = let known = c .before .before .before .before .before .before .before .before .before .before .shared-slice-known2 in
+    let number = sym (c .before .before .before .before .before .before .before .before .before .opcode-number .ensures) ∙ ap item (c .before .before .before .before .before .before .before .n .given .1) in
+    let rest = sym (c .before .before .before .immediates .ensures (rowOf (c .before .before .before .before .before .id-in .result)) (c .before .before .before .before .entry .ensures)) ∙ ap item (c .before .immediate .given .1) in
+    let there = opcode-there _ (λ j. known .given j .fits) _ _ _ _ (omega (arith, c .before .before .before .before .before .before .before .before .before .before .before .if2 .left)) number in
+    omega (arith, over-there _ _ (λ j. known .given j .fits) _ (omega (arith, there)) _ _ _ rest)
+
+enum-known-code : tie.Need-enum-known-code
+enum-known-code c = search needs
+
+refused-requires-3 : tie.Need-refused-requires-3
+refused-requires-3 c κs = search needs
+
+enum-known-code-2 : tie.Need-enum-known-code-2
+enum-known-code-2 c = search needs
+
+refused-requires-4 : tie.Need-refused-requires-4
+refused-requires-4 c κs = search needs
+
+returns-3 : tie.Need-returns-3
+returns-3 c = let a = c .before .before .before .before .before .before .before .before .before .before .before .before .before .before .before .args in
+    let number = sym (c .before .before .before .before .before .before .before .before .before .opcode-number .ensures) ∙ ap item (c .before .before .before .before .before .before .before .n .given .1) in
+    let is = c .before .before .before .before .entry .ensures ∙ ap entryOf (c .before .before .before .before .before .id-in .ensures) in
+    let rest = sym (c .before .before .before .immediates .ensures _ is) ∙ ap item (c .before .immediate .given .1) in
+    scanned _ _ _ (c .before .before .before .before .before .before .before .before .before .before .before .if2 .left) (λ j. c .before .before .before .before .before .before .before .before .before .before .shared-slice-known2 .given j .fits) _ _ number _ is _ rest
+    ∙ ap scanOf (sym (decode-known (a .version) (c .before .before .before .before .before .before .before .before .before .before .before .before .before .is-known .ensures) (now (a .s)) (a .at) (c .before .before .before .before .before .before .before .before .before .before .before .before .if1 .left)))
+
+returns-4 : tie.Need-returns-4
+returns-4 c = let a = c .before .before .before .before .before .before .before .before .before .before .before .before .before .before .before .before .args in
+    let number = sym (c .before .before .before .before .before .before .before .before .before .before .opcode-number .ensures) ∙ ap item (c .before .before .before .before .before .before .before .before .n .given .1) in
+    let is = c .before .before .before .before .before .entry .ensures ∙ ap entryOf (c .before .before .before .before .before .before .id-in .ensures) in
+    let rest = sym (c .before .before .before .before .immediates .ensures _ is) ∙ ap item (c .before .before .code .given .1) in
+    c .refused3 .ensures ∙ scanned _ _ _ (c .before .before .before .before .before .before .before .before .before .before .before .before .if2 .left) (λ j. c .before .before .before .before .before .before .before .before .before .before .before .shared-slice-known2 .given j .fits) _ _ number _ is _ rest
+    ∙ ap scanOf (sym (decode-known (a .version) (c .before .before .before .before .before .before .before .before .before .before .before .before .before .before .is-known .ensures) (now (a .s)) (a .at) (c .before .before .before .before .before .before .before .before .before .before .before .before .before .if1 .left)))
+
+returns-5 : tie.Need-returns-5
+returns-5 c = let a = c .before .before .before .before .before .before .before .before .before .before .args in
+    let number = sym (c .before .before .before .before .opcode-number .ensures) ∙ ap item (c .before .before .code2 .given .1) in
+    c .refused4 .ensures ∙ ap scanOf (sym (decode-known (a .version) (c .before .before .before .before .before .before .before .before .is-known .ensures) (now (a .s)) (a .at) (c .before .before .before .before .before .before .before .if1 .left) ∙ decode-number _ _ _ (c .before .before .before .before .before .before .if2 .left) _ _ number))
 
 pub scan-spec : {M : Type 1} → statement M
 scan-spec =
     tie.close
     (tie.spec
     is-known-requires
-    by-number-requires
-    scan-by-requires
-    returns
     refused-requires
-    returns-2)
+    returns
+    refused-requires-2
+    returns-2
+    shared-slice-read-first
+    add-opcode-number
+    opcode-number-requires
+    enum-known-n
+    cast-id-in
+    id-in-requires
+    entry-requires
+    immediates-requires
+    enum-known-immediate
+    sub-t26
+    cast-t27
+    enum-known-code
+    refused-requires-3
+    enum-known-code-2
+    refused-requires-4
+    returns-3
+    returns-4
+    returns-5)
