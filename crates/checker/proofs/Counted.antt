@@ -13,7 +13,7 @@ use Rattle.opcode.specs.Kind.{kindByte}
 use Rattle.rules.specs.Header.{Header, Declares, locals, kinds}
 use Rattle.rules.specs.Breach.{Says, breach}
 use Rattle.checker.specs.Check.{Checked}
-use Rattle.checker.specs.Inner.Kinds.{Holds}
+use Rattle.checker.specs.Walk.{Holds}
 use Rattle.checker.specs.Inner.Parts.{Headed, Counts, Begins}
 use Rattle.checker.proofs.Fronts.{Says-so}
 

@@ -33,9 +33,9 @@ use Rattle.rules.specs.Typing.{Frame, opened, allValues, Types, Opens, block-op
 use Rattle.rules.specs.Strip.{Reads, Reaches, front, past}
 use Rattle.rules.specs.Breach.{At, Breach, local, nest, label, operand, deep, result}
 use Rattle.rules.proofs.Headers.{decodes-known}
-use Rattle.checker.specs.Inner.Kinds.{Holds}
+use Rattle.checker.specs.Walk.{Holds, Nested, strip, block, Framed}
 use Rattle.checker.specs.Inner.Stack.{Top}
-use Rattle.checker.specs.Inner.Blocks.{topFirst, Nested, strip, block, Framed}
+use Rattle.checker.specs.Inner.Blocks.{topFirst}
 use Rattle.checker.specs.Inner.Judging.{Judges, no-local, too-nested, no-label, untyped, no-results, too-deep, typed, Faces, Ready}
 use Rattle.checker.specs.Inner.Parts.{Begins, AtEnd}
 use Rattle.checker.proofs.Held.{held-long}

@@ -82,7 +82,7 @@ answer-requires-2 c κs = search needs
 
 -- src/body.rt:49:13
 returns-3 : tie.Need-returns-3 Inv-loop μ-loop
-returns-3 c = checked (c .answer2 .ensures) (breach (breaks (c .before .before .before .before .before .before .before .before .before .before .before .before .before .loop .inv) (c .before .before .before .before .before .before .before .before .before .before .before .before .scan .result) (c .before .before .before .before .before .before .before .before .before .before .before .before .scan .ensures) (λ j. c .before .before .before .before .before .before .before .before .before .before .before .before .before .before .before .shared-slice-known .given j .fits) (c .before .before .before .before .before .before .before .before .before .before .if1 .left) (sym (c .before .before .before .before .before .before .before .before .before .is-last .ensures) ∙ c .before .before .before .before .before .before .before .before .if2 .left) (c .before .before .before .before .before .turn .ensures) (c .before .if3 .taken)))
+returns-3 c = checked (c .answer2 .ensures) (breach (breaks (c .before .before .before .before .before .before .before .before .before .before .before .before .before .loop .inv) (c .before .before .before .before .before .before .before .before .before .before .before .before .scan .result) (c .before .before .before .before .before .before .before .before .before .before .before .before .scan .ensures) (λ j. c .before .before .before .before .before .before .before .before .before .before .before .before .before .before .before .shared-slice-known .given j .fits) (c .before .before .before .before .before .before .before .before .before .before .if1 .left) (sym (c .before .before .before .before .before .before .before .before .before .is-last .ensures) ∙ c .before .before .before .before .before .before .before .before .if2 .left) (c .before .before .before .before .before .turn .ensures .0) (c .before .if3 .taken)))
 
 -- src/body.rt:51:9
 add-at : tie.Need-add-at Inv-loop μ-loop
@@ -94,7 +94,7 @@ loop-less c = omega (arith, moves (c .before .before .before .before .before .be
 
 -- src/body.rt:30:5
 loop-again : tie.Need-loop-again Inv-loop μ-loop
-loop-again c = goes (c .before .before .before .before .before .before .before .before .before .before .before .before .before .loop .inv) (c .before .before .before .before .before .before .before .before .before .before .before .before .scan .result) (c .before .before .before .before .before .before .before .before .before .before .before .before .scan .ensures) (λ j. c .before .before .before .before .before .before .before .before .before .before .before .before .before .before .before .shared-slice-known .given j .fits) (c .before .before .before .before .before .before .before .before .before .before .if1 .left) (sym (c .before .before .before .before .before .before .before .before .before .is-last .ensures) ∙ c .before .before .before .before .before .before .before .before .if2 .left) (c .before .before .before .before .before .turn .ensures) (c .before .if3 .left) (search needs) (search needs)
+loop-again c = goes (c .before .before .before .before .before .before .before .before .before .before .before .before .before .loop .inv) (c .before .before .before .before .before .before .before .before .before .before .before .before .scan .result) (c .before .before .before .before .before .before .before .before .before .before .before .before .scan .ensures) (λ j. c .before .before .before .before .before .before .before .before .before .before .before .before .before .before .before .shared-slice-known .given j .fits) (c .before .before .before .before .before .before .before .before .before .before .if1 .left) (sym (c .before .before .before .before .before .before .before .before .before .is-last .ensures) ∙ c .before .before .before .before .before .before .before .before .if2 .left) (c .before .before .before .before .before .turn .ensures .0) (c .before .if3 .left) (search needs) (search needs)
 
 pub body-spec : {M : Type 1} → statement M
 body-spec =
