@@ -22,7 +22,7 @@ use crate::typing;
 use opcode::kind;
 
 // A code, and then: the values on the stack, the open blocks, how many values are under the innermost, and whether code is dead in it.
-pub(crate) struct State {
+pub struct State {
     pub code: u8,
     pub depth: usize,
     pub nest: usize,
