@@ -3,8 +3,8 @@ use Prim.Native.Nat.{ℕ, _+_, _≤_, _<_}
 use mathlib.Core.Path.{_≡_, refl, sym, ap, _∙_}
 use mathlib.Core.List.{List, [], _∷_, _++_, map, map-append, append-assoc}
 use native.Mathlib.Omega.{arith}
-use lib.ListN.{length, getD, set, drop, length-append, length-map, List·getD-append}
-use lib.Seq.{getD-at, set-at, getD-drop, drop-set-lt, drop-drop}
+use lib.ListN.{length, getD, set, take, drop, length-append, length-map, List·getD-append}
+use lib.Seq.{take-at, getD-at, set-at, getD-drop, drop-set-lt, drop-drop}
 use Rattle.opcode.specs.Kind.{Kind, kindByte}
 use Rattle.checker.specs.Walk.{Holds}
 
@@ -30,6 +30,9 @@ module _ {bytes : List ℕ} {n : ℕ} {κs : List Kind} (h : Holds bytes n κs) 
 
   pub held : (j : ℕ) → j < n → getD bytes j 0 ≡ getD (map kindByte κs) j 0
   held j l = ap (λ (x : List ℕ). getD x j 0) (h .here) ∙ List·getD-append (map kindByte κs) (h .rest) 0 j (omega (arith, length-map κs kindByte, h .many))
+
+  pub held-front : take n bytes ≡ map kindByte κs
+  held-front = ap (take n) (h .here) ∙ take-at (map kindByte κs) (h .rest) n (length-map κs kindByte ∙ h .many)
 
   -- a part of them, and what follows it
   parted : (below above : List Kind) → κs ≡ below ++ above → bytes ≡ map kindByte below ++ (map kindByte above ++ h .rest)

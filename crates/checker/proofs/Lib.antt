@@ -26,3 +26,4 @@ pub mod Goings
 pub mod Endings
 pub mod Ahead
 pub mod Walking
+pub mod Known
