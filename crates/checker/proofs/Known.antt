@@ -89,9 +89,12 @@ module _ {s : List ℕ} where
   goes-once (on w kept left) (over e) = absurd (let z : ⊥ = omega (arith, e, reached-inside (w .valid) (w .reached)) in z)
   goes-once {kinds = kinds} {blocks = blocks} (on w kept left) (on v kept′ left′) = known-once w v kinds blocks kept kept′ left left′
 
+  pub step-instr : {p : ℕ} {kinds k k′ blocks b b′ : List ℕ} {st a a′ : State} (x : Steps s p kinds blocks st k b a) (y : Steps s p kinds blocks st k′ b′ a′)
+      → (x .instr ≡ y .instr) × (x .size ≡ y .size)
+  step-instr {p} x y =
+      stands-once (x .before .valid .header .version) s p (x .instr) (y .instr) (x .size) (y .size) (x .stands)
+      (subst (λ (h : Header). Stands (h .version) s p (y .instr) (y .size)) (same-header (x .before) (y .before)) (y .stands))
+
   pub steps-once : {p : ℕ} {kinds k k′ blocks b b′ : List ℕ} {st a a′ : State} → Steps s p kinds blocks st k b a → Steps s p kinds blocks st k′ b′ a′ → (k ≡ k′) × (b ≡ b′) × (a ≡ a′)
   steps-once {p} {kinds} {k′ = k′} {blocks} {b′ = b′} {st} {a′ = a′} x y =
-      let v = x .before .valid .header .version in
-      let here = subst (λ (h : Header). Stands (h .version) s p (y .instr) (y .size)) (same-header (x .before) (y .before)) (y .stands) in
-      let same = stands-once v s p (y .instr) (x .instr) (y .size) (x .size) here (x .stands) in
-      goes-once (x .goes) (subst (λ (n : ℕ). Goes s (p + n) kinds blocks st k′ b′ a′) (same .1) (y .goes))
+      goes-once (x .goes) (subst (λ (n : ℕ). Goes s (p + n) kinds blocks st k′ b′ a′) (sym (step-instr x y .1)) (y .goes))
