@@ -21,6 +21,10 @@ one-listing κs a e e′ r r′ p q = lists-once p q
 
 -- ---- one line
 
+same-next : (a b : Next) → a .at ≡ b .at → a .state ≡ b .state → a .len ≡ b .len → a ≡ b
+same-next a b at state len =
+    ap₂ (λ (x : ℕ) (y : State). record { at = x; state = y; len = a .len }) at state ∙ ap (λ (x : ℕ). record { at = b .at; state = b .state; len = x }) len
+
 walked-once : {s : List ℕ} {p : ℕ} {state : State} {kinds blocks text k k′ b b′ t t′ : List ℕ} {r r′ : Next} → Walked s p kinds blocks state text r k b t
     → Walked s p kinds blocks state text r′ k′ b′ t′ → (r ≡ r′) × (k ≡ k′) × (b ≡ b′) × (t ≡ t′)
 walked-once {s} {p} {text = text} {r = r} {r′ = r′} x y =
@@ -32,7 +36,7 @@ walked-once {s} {p} {text = text} {r = r} {r′ = r′} x y =
     let shown : lineOf w ≡ lineOf v = ap₂ (λ (fs : List Frame) (i : Instr). line p (allValues fs) i) (sym frames) (instr .0) in
     let at : r .at ≡ r′ .at = x .at ∙ ap (λ (n : ℕ). p + n) (instr .1) ∙ sym (y .at) in
     let len : r .len ≡ r′ .len = x .len ∙ ap length shown ∙ sym (y .len) in (
-      ap₂ (λ (q : ℕ) (st : State). record { at = q; state = st; len = r .len }) at (same .2) ∙ ap (λ (n : ℕ). record { at = r′ .at; state = r′ .state; len = n }) len,
+      same-next r r′ at (same .2) len,
       same .0,
       same .1,
       x .bytes ∙ ap₂ (λ (l : List ℕ) (n : ℕ). l ++ drop n text) shown len ∙ sym (y .bytes),
