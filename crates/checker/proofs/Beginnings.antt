@@ -13,8 +13,7 @@ use Rattle.opcode.specs.BlockType.{isBlockType, blockResults}
 use Rattle.opcode.specs.Table.{control}
 use Rattle.instr.specs.declared.Instr.{Instr}
 use Rattle.rules.specs.Typing.{Frame, opened, allValues, Types, opens-block, opens-loop, Opens, block-opens, loop-opens}
-use Rattle.checker.specs.Inner.Kinds.{Holds}
-use Rattle.checker.specs.Inner.Blocks.{word, Nested, block, Framed}
+use Rattle.checker.specs.Walk.{Holds, word, Nested, block, Framed}
 use Rattle.checker.specs.Inner.Judging.{opener, Judges, too-nested, typed}
 use Rattle.checker.proofs.Nests.{nested-many, nested-keeps, frames-case}
 

@@ -14,9 +14,9 @@ use Rattle.instr.specs.declared.Instr.{Instr}
 use Rattle.rules.specs.Typing.{Frame, holding, deadened, allValues, branchKinds, Target, Has, all-known, Types, ordinary, branches, may-branch, Branches, br-branches, if-branches}
 use Rattle.rules.proofs.Typings.{control-untyped, label-once}
 use Rattle.rules.proofs.Sorts.{names-control, branches-plain}
-use Rattle.checker.specs.Inner.Kinds.{Holds}
+use Rattle.checker.specs.Walk.{Holds, Nested, Framed}
 use Rattle.checker.specs.Inner.Stack.{Top, Under, Applies, lacks, over, fits}
-use Rattle.checker.specs.Inner.Blocks.{topFirst, Nested, Framed, Labelled}
+use Rattle.checker.specs.Inner.Blocks.{topFirst, Labelled}
 use Rattle.checker.specs.Inner.Judging.{brancher, Judges, no-label, untyped, too-deep, typed}
 use Rattle.checker.proofs.Unders.{part, under-below, under-none}
 use Rattle.checker.proofs.Nests.{nested-as, frames-case, no-such, framed-top}

@@ -13,7 +13,7 @@ use Rattle.opcode.specs.Kind.{kindByte}
 use Rattle.rules.specs.Header.{Header, Declares, locals, kinds}
 use Rattle.rules.specs.Breach.{Says, breach}
 use Rattle.checker.specs.Check.{Checked}
-use Rattle.checker.specs.Inner.Kinds.{Holds}
+use Rattle.checker.specs.Walk.{Holds}
 use Rattle.checker.specs.Inner.Parts.{Headed, Counts, Begins}
 use Rattle.checker.proofs.Fronts.{Says-so}
 
@@ -54,18 +54,18 @@ module _ {s : List ℕ} {v n r : ℕ} {h : Header} (k : Counts s v n r h) where
       }
 
 -- the counts stand in the header
+pub counted : {s : List ℕ} {h : Header} → Declares s h → Counts s (getD s 3 0) (getD s 5 0 + getD s 6 0) (getD s 7 0) h
+counted {h = h} d =
+    let v = ap (λ (x : List ℕ). getD x 3 0) (d .bytes) in
+    let p = ap (λ (x : List ℕ). getD x 5 0) (d .bytes) in
+    let l = ap (λ (x : List ℕ). getD x 6 0) (d .bytes) in
+    let r = ap (λ (x : List ℕ). getD x 7 0) (d .bytes) in
+    record { declares = d; version-is = sym v; locals-are = omega (arith, p, l, length-append (h .parameters) (h .further)); results-are = sym r }
+
 opening : {s : List ℕ} {h : Header} → Declares s h → Begins s (getD s 3 0) (8 + (getD s 5 0 + getD s 6 0) + getD s 7 0) (getD s 5 0 + getD s 6 0) (getD s 7 0)
-opening {s} {h} d =
-    let v : getD s 3 0 ≡ h .version = ap (λ (x : List ℕ). getD x 3 0) (d .bytes) in
-    let p : getD s 5 0 ≡ length (h .parameters) = ap (λ (x : List ℕ). getD x 5 0) (d .bytes) in
-    let l : getD s 6 0 ≡ length (h .further) = ap (λ (x : List ℕ). getD x 6 0) (d .bytes) in
-    let r : getD s 7 0 ≡ length (h .results) = ap (λ (x : List ℕ). getD x 7 0) (d .bytes) in
-    let ls = length-append (h .parameters) (h .further) in
-    record {
-      header = h;
-      counts = record { declares = d; version-is = sym v; locals-are = omega arith; results-are = sym r };
-      start-is = omega (arith, length-map (kinds h) kindByte, length-append (locals h) (h .results));
-    }
+opening {h = h} d =
+    let k = counted d in
+    record { header = h; counts = k; start-is = omega (arith, k .locals-are, k .results-are, length-map (kinds h) kindByte, length-append (locals h) (h .results)) }
 
 pub headed-opens : {s : List ℕ} {r : Answer} → Headed s r → r .code ≡ DONE → Begins s (getD s 3 0) (8 + (getD s 5 0 + getD s 6 0) + getD s 7 0) (getD s 5 0 + getD s 6 0) (getD s 7 0)
 headed-opens w z = opening (w .whole z .1)

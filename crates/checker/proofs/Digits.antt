@@ -8,7 +8,7 @@ use Rattle.limits.specs.Limits.{resultLimit}
 use Rattle.operation.specs.Vector.{number}
 use Rattle.opcode.specs.Kind.{Kind, kindByte}
 use Rattle.opcode.proofs.Effects.{kind-range}
-use Rattle.checker.specs.Inner.Kinds.{Holds}
+use Rattle.checker.specs.Walk.{Holds}
 use Rattle.checker.specs.Inner.Blocks.{topFirst}
 use Rattle.checker.proofs.Held.{held-from}
 use lib.Dec.{lit<}

@@ -18,7 +18,7 @@ use Rattle.opcode.proofs.Groups.{by-group}
 use Rattle.rules.specs.Typing.{Frame, Has, all-known, any, Local, first, later, Typed, by-signature, dropped, got, set, teed, Names, get-names, set-names, tee-names}
 use Rattle.rules.proofs.Lists.{ends-once}
 use Rattle.rules.proofs.Typings.{local-once}
-use Rattle.checker.specs.Inner.Kinds.{Holds}
+use Rattle.checker.specs.Walk.{Holds}
 use Rattle.checker.specs.Inner.Stack.{Top, Small, Applies, lacks, over, fits}
 use Rattle.checker.specs.Inner.Judging.{Ordinary, Effected, undeclared, typed-by, Gives, undeclared-local, lacking, overfull, does}
 use Rattle.checker.proofs.Held.{split-last, held-at, held-from}

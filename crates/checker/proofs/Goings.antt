@@ -33,9 +33,10 @@ use Rattle.rules.specs.Typing.{Frame, opened, allValues, Types, Opens, block-op
 use Rattle.rules.specs.Strip.{Reads, Reaches, front, past}
 use Rattle.rules.specs.Breach.{At, Breach, local, nest, label, operand, deep, result}
 use Rattle.rules.proofs.Headers.{decodes-known}
-use Rattle.checker.specs.Inner.Kinds.{Holds}
+use Rattle.checker.specs.declared.turns.State.{State}
+use Rattle.checker.specs.Walk.{Holds, Nested, strip, block, Framed, outset}
 use Rattle.checker.specs.Inner.Stack.{Top}
-use Rattle.checker.specs.Inner.Blocks.{topFirst, Nested, strip, block, Framed}
+use Rattle.checker.specs.Inner.Blocks.{topFirst}
 use Rattle.checker.specs.Inner.Judging.{Judges, no-local, too-nested, no-label, untyped, no-results, too-deep, typed, Faces, Ready}
 use Rattle.checker.specs.Inner.Parts.{Begins, AtEnd}
 use Rattle.checker.proofs.Held.{held-long}
@@ -62,9 +63,11 @@ pub record Going (s : List ℕ) (v n takes : ℕ) (kinds blocks : List ℕ) (dep
   pub blocks-long : length blocks ≡ nestLimit
 
 pub starts : {s : List ℕ} {v start n r takes : ℕ} (kinds blocks : List ℕ) → length kinds ≡ stackLimit → length blocks ≡ nestLimit → Begins s v start n r
-    → (takes < 2 ^ 32) × ((ks : List Kind) → Holds (drop (8 + n) s) r ks → topFirst ks ≡ takes) → Going s v n takes kinds blocks 0 0 0 false start
-starts {s} kinds blocks lk lb b t =
-    record {
+    → (takes < 2 ^ 32) × ((ks : List Kind) → Holds (drop (8 + n) s) r ks → topFirst ks ≡ takes) → {o : State} → o ≡ outset
+    → Going s v n takes kinds blocks (o .depth) (o .nest) (o .floor) (o .dead) start
+starts {s} {v} {start} {n} {takes = takes} kinds blocks lk lb b t e =
+    subst (λ (x : State). Going s v n takes kinds blocks (x .depth) (x .nest) (x .floor) (x .dead) start) (sym e)
+    (record {
       header = b .header;
       declares = b .counts .declares;
       version-is = b .counts .version-is;
@@ -81,7 +84,7 @@ starts {s} kinds blocks lk lb b t =
       reached = subst (λ (x : ℕ). Reaches s (b .header) x (opened false (b .header .results) ∷ [])) (b .start-is) (front (b .counts .declares));
       kinds-long = lk;
       blocks-long = lb;
-    }
+    })
 
 -- ---- the strip itself
 
@@ -160,16 +163,23 @@ module _ {s : List ℕ} {v n takes : ℕ} {kinds blocks : List ℕ} {depth nest 
     its-group : groupIn (d .entry) ≡ groupOfCode (coded .0)
     its-group = group-in (carried (coded .0)) its-entry
 
-    here : At s (w .header) at (w .frames) (decodeAt (w .header .version) s at .instr) (coded .0)
+    pub here : At s (w .header) at (w .frames) (decodeAt (w .header .version) s at .instr) (coded .0)
     here = record { reached = w .reached; size = d .len; reads = coded .1 }
 
     -- ---- the strip's own `end`
 
+    pub is-end : (eqb nest 0 && eqb (groupIn (d .entry)) 0) ≡ true → (nest ≡ 0) × (coded .0 ≡ plain End)
+    is-end e =
+        let two = both-true (eqb nest 0) (eqb (groupIn (d .entry)) 0) e in
+        (eqb-true nest 0 (two .0), by-group (λ c. c ≡ plain End) 0 refl (coded .0) (sym its-group ∙ eqb-true (groupIn (d .entry)) 0 (two .1)))
+
+    pub no-end : (eqb nest 0 && eqb (groupIn (d .entry)) 0) ≡ false → coded .0 ≡ plain End → nest ≡ 0 → ⊥
+    no-end e it = eqb-false nest 0 (not-both (eqb nest 0) (eqb (groupIn (d .entry)) 0) e (eq-eqb (groupIn (d .entry)) 0 (its-group ∙ ap groupOfCode it)))
+
     pub at-end : (eqb nest 0 && eqb (groupIn (d .entry)) 0) ≡ true → AtEnd s v takes at kinds depth dead
     at-end e =
-        let two = both-true (eqb nest 0) (eqb (groupIn (d .entry)) 0) e in
-        let it = by-group (λ c. c ≡ plain End) 0 refl (coded .0) (sym its-group ∙ eqb-true (groupIn (d .entry)) 0 (two .1)) in
-        let k = alone (w .framed .nested) (eqb-true nest 0 (two .0)) in
+        let it = is-end e .1 in
+        let k = alone (w .framed .nested) (is-end e .0) in
         let framed : Framed (w .header .results) kinds blocks depth nest floor dead (k .strip-frame ∷ []) = subst (Framed (w .header .results) kinds blocks depth nest floor dead) (k .frames) (w .framed) in
         let at-strip : At s (w .header) at (k .strip-frame ∷ []) (decodeAt (w .header .version) s at .instr) (coded .0) =
         subst (λ (x : List Frame). At s (w .header) at x (decodeAt (w .header .version) s at .instr) (coded .0)) (k .frames) here in
@@ -232,7 +242,7 @@ module _ {s : List ℕ} {v n takes : ℕ} {kinds blocks : List ℕ} {depth nest 
       module _ {kinds′ blocks′ : List ℕ} {depth′ nest′ floor′ code : ℕ} {dead′ : Bool}
           (j : (c : Code) (i : Instr) (ls rs : List Kind) (fs : List Frame) → Faces s n takes (d .entry) (d .immediate) kinds blocks depth nest floor dead c i ls rs fs
           → Judges ls rs i c fs kinds′ blocks′ depth′ nest′ floor′ dead′ code) where
-        judgement : Judges (locals (w .header)) (w .header .results) (decodeAt (w .header .version) s at .instr) (coded .0) (w .frames) kinds′ blocks′ depth′ nest′ floor′ dead′ code
+        pub judgement : Judges (locals (w .header)) (w .header .results) (decodeAt (w .header .version) s at .instr) (coded .0) (w .frames) kinds′ blocks′ depth′ nest′ floor′ dead′ code
         judgement = j (coded .0) (decodeAt (w .header .version) s at .instr) (locals (w .header)) (w .header .results) (w .frames) faces
 
         pub breaks : (code ≡ DONE → ⊥) → Breach s code at

@@ -1,12 +1,22 @@
--- Kinds that are held as bytes.
+-- Arrays: what is as it was, and kinds that are held as bytes.
 use Prim.Native.Nat.{ℕ, _+_, _≤_, _<_}
 use mathlib.Core.Path.{_≡_, refl, sym, ap, _∙_}
 use mathlib.Core.List.{List, [], _∷_, _++_, map, map-append, append-assoc}
 use native.Mathlib.Omega.{arith}
-use lib.ListN.{length, getD, set, drop, length-append, length-map, List·getD-append}
-use lib.Seq.{getD-at, set-at, getD-drop}
+use lib.ListN.{length, getD, set, take, drop, length-append, length-map, List·getD-append}
+use lib.Seq.{take-at, getD-at, set-at, getD-drop, drop-set-lt, drop-drop}
 use Rattle.opcode.specs.Kind.{Kind, kindByte}
-use Rattle.checker.specs.Inner.Kinds.{Holds}
+use Rattle.checker.specs.Walk.{Holds}
+
+-- ---- what is as it was, from a place on
+
+pub one-set : (l : List ℕ) (n v : ℕ) → drop (n + 1) (set l n v) ≡ drop (n + 1) l
+one-set l n v = drop-set-lt (n + 1) l n v (omega arith)
+
+pub kept-more : (before after : List ℕ) (n : ℕ) → drop n after ≡ drop n before → drop (n + 1) after ≡ drop (n + 1) before
+kept-more before after n e = sym (drop-drop 1 n after) ∙ ap (drop 1) e ∙ drop-drop 1 n before
+
+-- ---- kinds
 
 -- the last of some
 pub split-last : (l : List Kind) → 0 < length l → (front : List Kind) × (k : Kind) × (l ≡ front ++ (k ∷ []))
@@ -20,6 +30,9 @@ module _ {bytes : List ℕ} {n : ℕ} {κs : List Kind} (h : Holds bytes n κs) 
 
   pub held : (j : ℕ) → j < n → getD bytes j 0 ≡ getD (map kindByte κs) j 0
   held j l = ap (λ (x : List ℕ). getD x j 0) (h .here) ∙ List·getD-append (map kindByte κs) (h .rest) 0 j (omega (arith, length-map κs kindByte, h .many))
+
+  pub held-front : take n bytes ≡ map kindByte κs
+  held-front = ap (take n) (h .here) ∙ take-at (map kindByte κs) (h .rest) n (length-map κs kindByte ∙ h .many)
 
   -- a part of them, and what follows it
   parted : (below above : List Kind) → κs ≡ below ++ above → bytes ≡ map kindByte below ++ (map kindByte above ++ h .rest)

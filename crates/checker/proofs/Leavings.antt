@@ -3,15 +3,15 @@ use Prim.Native.Nat.{ℕ, _+_, _/_, _%_, _≤_, _<_}
 use mathlib.Core.Path.{_≡_, refl, sym, ap, subst, _∙_}
 use mathlib.Core.List.{List, [], _∷_, _++_, map, append-nil, append-assoc}
 use native.Mathlib.Omega.{arith}
-use lib.ListN.{length, set, length-append, length-set}
+use lib.ListN.{length, set, drop, length-append, length-set}
 use Rattle.card.specs.Card.{DONE, DEEP}
 use Rattle.limits.specs.Limits.{stackLimit}
 use Rattle.operation.specs.Vector.{number}
 use Rattle.opcode.specs.Kind.{Kind, kindByte}
 use Rattle.opcode.proofs.Effects.{kind-range}
-use Rattle.checker.specs.Inner.Kinds.{Holds}
+use Rattle.checker.specs.Walk.{Holds}
 use Rattle.checker.specs.Inner.Stack.{Leaves, too-many, left as left-all}
-use Rattle.checker.proofs.Held.{held-more}
+use Rattle.checker.proofs.Held.{one-set, kept-more, held-more}
 
 pub record Leaving (below outs : List Kind) (kinds : List ℕ) (left depth : ℕ) : Type 0 where
   pub done : List Kind
@@ -23,6 +23,7 @@ pub record Leaving (below outs : List Kind) (kinds : List ℕ) (left depth : ℕ
 pub record Leaves-on (results : ℕ) (kinds₀ : List ℕ) (base : ℕ) (kinds : List ℕ) (left depth : ℕ) : Type 0 where
   pub long : length kinds ≡ stackLimit
   pub most : depth ≤ stackLimit
+  pub kept : drop depth kinds ≡ drop depth kinds₀
   pub so-far : (below outs : List Kind) → Holds kinds₀ base below → number (map kindByte outs) ≡ results → Leaving below outs kinds left depth
 
 pub leaves : (results : ℕ) (kinds : List ℕ) (base : ℕ) → length kinds ≡ stackLimit → base ≤ stackLimit → Leaves-on results kinds base kinds results base
@@ -30,6 +31,7 @@ leaves results kinds base l m =
     record {
       long = l;
       most = m;
+      kept = refl;
       so-far = λ below outs h e.
           record { done = []; ahead = outs; parts = refl; digits = e; holds = subst (Holds kinds base) (sym (append-nil below)) h };
     }
@@ -54,6 +56,7 @@ module _ {results base : ℕ} {kinds₀ kinds : List ℕ} {left depth : ℕ} (w 
       record {
         long = length-set kinds depth (left % 256) ∙ w .long;
         most = omega arith;
+        kept = one-set kinds depth (left % 256) ∙ kept-more kinds₀ kinds depth (w .kept);
         so-far = λ below outs h e. let s = w .so-far below outs h e in step (s .done) (s .ahead) (s .parts) (s .digits) (s .holds) z l;
       }
 

@@ -24,3 +24,6 @@ pub mod Counted
 pub mod Indices
 pub mod Goings
 pub mod Endings
+pub mod Ahead
+pub mod Walking
+pub mod Known

@@ -11,7 +11,8 @@ use Rattle.opcode.specs.Kind.{Kind}
 use Rattle.opcode.specs.BlockType.{isBlockType, blockResults}
 use Rattle.rules.specs.Typing.{Frame, allValues, branchKinds, Target, innermost, outer}
 use Rattle.checker.specs.Inner.Stack.{Top}
-use Rattle.checker.specs.Inner.Blocks.{word, topFirst, Nested, strip, block, Framed, Labelled}
+use Rattle.checker.specs.Walk.{word, Nested, strip, block, Framed}
+use Rattle.checker.specs.Inner.Blocks.{topFirst, Labelled}
 use Rattle.checker.proofs.Words.{type-few}
 
 -- ---- what nested blocks say

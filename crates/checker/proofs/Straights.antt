@@ -9,7 +9,7 @@ use Rattle.instr.specs.declared.Instr.{Instr}
 use Rattle.rules.specs.Typing.{Frame, holding, allValues, Has, all-known, Typed, Types, ordinary, branches, may-branch, opens-block, opens-loop, closes}
 use Rattle.rules.proofs.Sorts.{typed-local, branches-control}
 use Rattle.checker.specs.Inner.Stack.{Top}
-use Rattle.checker.specs.Inner.Blocks.{Nested, Framed}
+use Rattle.checker.specs.Walk.{Nested, Framed}
 use Rattle.checker.specs.Inner.Judging.{Ordinary, Gives, undeclared-local, lacking, overfull, does, Judges, no-local, untyped, too-deep, typed}
 use Rattle.checker.proofs.Nests.{nested-as, frames-case, framed-top}
 

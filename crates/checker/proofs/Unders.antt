@@ -9,7 +9,7 @@ use lib.ListN.{length, length-append}
 use Rattle.limits.specs.Limits.{stackLimit}
 use Rattle.opcode.specs.Kind.{Kind}
 use Rattle.rules.specs.Typing.{Frame, Has, all-known, any}
-use Rattle.checker.specs.Inner.Kinds.{Holds}
+use Rattle.checker.specs.Walk.{Holds}
 use Rattle.checker.specs.Inner.Stack.{Top, Under, under, missing}
 use Rattle.checker.proofs.Held.{held-part}
 

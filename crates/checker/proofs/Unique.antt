@@ -1,12 +1,17 @@
--- What the check promises leaves one answer: code, place and steps.
+-- What the check promises leaves one answer: code, place and steps; and a step of its walk one state and one content of both arrays.
 use Prim.Native.Nat.{ℕ}
 use mathlib.Core.Path.{_≡_, sym, ap, ap₂, _∙_}
 use mathlib.Core.List.{List}
+use denote.Ref.{now}
 use Rattle.card.specs.declared.Answer.{Answer}
 use Rattle.rules.proofs.Verdicts.{says-once}
 use Rattle.checker.specs.Check.{Checked}
+use Rattle.checker.specs.declared.turns.State.{State}
+use Rattle.checker.proofs.Known.{steps-once}
 use Rattle.checker.proofs.check.Reads as check
 use Rattle.checker.proofs.start.Reads as start
+use Rattle.checker.proofs.walk.outset.Reads as outset
+use Rattle.checker.proofs.walk.follow.Reads as follow
 
 abbrev answer : ℕ → ℕ → ℕ → Answer
 answer c p n = record { code = c; place = p; steps = n }
@@ -22,3 +27,10 @@ one-check κs a e e′ r r′ p q = one-answer p q
 
 pub one-start : (κs : _) (a : _) (e e′ : _) (r r′ : ℕ) → start.Post κs a r e → start.Post κs a r′ e′ → r ≡ r′
 one-start κs a e e′ r r′ p q = p ∙ sym q
+
+pub one-outset : (κs : _) (a : _) (e e′ : _) (r r′ : State) → outset.Post κs a r e → outset.Post κs a r′ e′ → r ≡ r′
+one-outset κs a e e′ r r′ p q = p ∙ sym q
+
+pub one-follow : (κs : _) (a : _) (e e′ : _) (r r′ : State) → follow.Post κs a r e → follow.Post κs a r′ e′
+    → (now (e .1 .1 .0) ≡ now (e′ .1 .1 .0)) × (now (e .1 .1 .1 .0) ≡ now (e′ .1 .1 .1 .0)) × (r ≡ r′)
+one-follow κs a e e′ r r′ p q = steps-once p q

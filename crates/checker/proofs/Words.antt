@@ -3,6 +3,7 @@ use Prim.Native.Nat.{ℕ, _/_, _%_, _≤_, _<_}
 use mathlib.Core.Path.{_≡_, refl, sym, ap, subst, _∙_}
 use mathlib.Core.Bool.{Bool, true, false, _||_}
 use mathlib.Core.List.{map}
+use native.Mathlib.Decide.{ℕ-discrete}
 use native.Mathlib.Omega.{arith}
 use borrow.Author.Tests.{eqb-true}
 use lib.Dec.{eqb}
@@ -10,7 +11,8 @@ use lib.ListN.{length}
 use Rattle.operation.specs.Vector.{number}
 use Rattle.opcode.specs.Kind.{Kind, i32, i64, v128, kindByte}
 use Rattle.opcode.specs.BlockType.{isBlockType, blockResults}
-use Rattle.checker.specs.Inner.Blocks.{bit, word, topFirst, block}
+use Rattle.checker.specs.Walk.{bit, word, block}
+use Rattle.checker.specs.Inner.Blocks.{topFirst}
 
 -- ---- block types
 
@@ -60,6 +62,23 @@ type-one b e = type-facts (block-type b e) .one
 
 pub type-up : (b : ℕ) → isBlockType b ≡ true → number (map kindByte (blockResults b)) ≡ topFirst (blockResults b)
 type-up b e = type-facts (block-type b e) .up
+
+-- a type is told by what it leaves
+pub type-once : (a b : ℕ) → isBlockType a ≡ true → isBlockType b ≡ true → blockResults a ≡ blockResults b → a ≡ b
+type-once a b p q e =
+    let same : topFirst (blockResults a) ≡ topFirst (blockResults b) = ap topFirst e in
+    elim (ℕ-discrete a 0x40) [
+      | yes x ↦
+          elim (ℕ-discrete b 0x40) [
+            | yes y ↦ x ∙ sym y
+            | no y ↦ absurd (type-some b q (type-one b q y ∙ sym same ∙ sym (type-none a p x)))
+          ]
+      | no x ↦
+          elim (ℕ-discrete b 0x40) [
+            | yes y ↦ absurd (type-some a p (type-one a p x ∙ same ∙ sym (type-none b q y)))
+            | no y ↦ type-one a p x ∙ same ∙ sym (type-one b q y)
+          ]
+    ]
 
 -- ---- the parts of a word
 

@@ -8,7 +8,8 @@ ghost use Rattle.limits.specs.Limits.{stackLimit, resultLimit};
 ghost use Rattle.opcode.specs.Kind.{Kind};
 ghost use Rattle.opcode.specs.BlockType.{isBlockType, blockResults};
 ghost use Rattle.rules.specs.Typing.{Frame, allValues};
-ghost use Rattle.checker.specs.Inner.Blocks.{bit, word, topFirst, Nested, Labelled};
+ghost use Rattle.checker.specs.Walk.{bit, word, Nested};
+ghost use Rattle.checker.specs.Inner.Blocks.{topFirst, Labelled};
 
 const EMPTY: u32 = opcode::kind::EMPTY as u32;
 

@@ -9,7 +9,7 @@ use crate::answer;
 use crate::numbers;
 use crate::stack;
 use crate::turns;
-use crate::turns::State;
+use crate::walk;
 use card::Answer;
 
 pub(crate) fn body(
@@ -25,13 +25,7 @@ pub(crate) fn body(
     let takes = numbers::top_first(strip, 8 + locals, results);
     let mut kinds = [0u8; limits::STACK];
     let mut blocks = [0u32; limits::NEST];
-    let mut state = State {
-        code: card::DONE,
-        depth: 0,
-        nest: 0,
-        floor: 0,
-        dead: false,
-    };
+    let mut state = walk::outset();
     let mut at = start;
     loop {
         let d = instr::scan(version, strip, at);
@@ -59,7 +53,7 @@ pub(crate) fn body(
 }
 
 // Whether it is the `end` of the strip itself.
-fn is_last(entry: u64, nest: usize) -> bool
+pub(crate) fn is_last(entry: u64, nest: usize) -> bool
     ensures { λ r. ⌜ r ≡ (eqb nest 0 && eqb (groupIn entry) 0) ⌝ }
 {
     if nest != 0 {

@@ -6,7 +6,11 @@ mod numbers;
 mod stack;
 mod turns;
 mod typing;
+mod walk;
 
+pub use turns::State;
+pub use walk::follow;
+pub use walk::outset;
 ghost use mathlib.Core.Path.{_≡_};
 ghost use Rattle.checker.specs.Check.{Checked};
 ghost use Rattle.checker.specs.Walk.{startOf};

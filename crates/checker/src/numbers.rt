@@ -6,7 +6,7 @@ ghost use lib.ListN.{length, drop};
 ghost use Rattle.limits.specs.Limits.{resultLimit};
 ghost use Rattle.operation.specs.Vector.{number};
 ghost use Rattle.opcode.specs.Kind.{Kind, kindByte};
-ghost use Rattle.checker.specs.Inner.Kinds.{Holds};
+ghost use Rattle.checker.specs.Walk.{Holds};
 ghost use Rattle.checker.specs.Inner.Blocks.{topFirst};
 
 fn wide(b: u8) -> u64

@@ -10,8 +10,8 @@ ghost use Rattle.opcode.specs.Kind.{Kind, kindByte};
 ghost use Rattle.opcode.specs.Effect.{_⇒_};
 ghost use Rattle.opcode.specs.Number.{packed};
 ghost use Rattle.rules.specs.Typing.{Frame};
-ghost use Rattle.checker.specs.Inner.Kinds.{Holds};
-ghost use Rattle.checker.specs.Inner.Stack.{Top, Under, Small, Leaves, Applies};
+ghost use Rattle.checker.specs.Walk.{Holds};
+ghost use Rattle.checker.specs.Inner.Stack.{Keeps, Top, Under, Small, Leaves, Applies};
 
 // A code, and how many values the stack holds then.
 pub(crate) struct Judged {
@@ -47,6 +47,7 @@ pub(crate) fn under(operands: u64, kinds: &[u8], depth: usize, floor: usize, dea
 pub(crate) fn leave(results: u64, kinds: &mut [u8], base: usize) -> Judged
     requires { ⌜ (base ≤ stackLimit) × (length (now kinds) ≡ stackLimit) ⌝ }
     ensures { λ r. ⌜ ((below outs : List Kind) → Holds (now (kinds .entry)) base below → number (map kindByte outs) ≡ results → Leaves below outs (now (kinds .exit)) (r .code) (r .depth)) ⌝ }
+    ensures { λ r. ⌜ Keeps (r .code) (r .depth) (now (kinds .entry)) (now (kinds .exit)) ⌝ }
 {
     let mut left = results;
     let mut depth = base;
@@ -71,6 +72,7 @@ pub(crate) fn leave(results: u64, kinds: &mut [u8], base: usize) -> Judged
 pub(crate) fn apply(effect: u32, kinds: &mut [u8], depth: usize, floor: usize, dead: bool) -> Judged
     requires { ⌜ (floor ≤ depth) × (depth ≤ stackLimit) × (length (now kinds) ≡ stackLimit) ⌝ }
     ensures { λ r. ⌜ ((outer ins outs : List Kind) (f : Frame) → Top (now (kinds .entry)) depth floor dead outer f → Small ins outs → packed (some (ins ⇒ outs)) ≡ effect → Applies outer f ins outs (now (kinds .exit)) (r .code) (r .depth)) ⌝ }
+    ensures { λ r. ⌜ Keeps (r .code) (r .depth) (now (kinds .entry)) (now (kinds .exit)) ⌝ }
 {
     let base = under((effect % 0x100_0000) as u64, kinds, depth, floor, dead);
     if limits::STACK < base {
@@ -110,6 +112,7 @@ pub(crate) fn exchange(
 ) -> Judged
     requires { ⌜ (floor ≤ depth) × (depth ≤ stackLimit) × (length (now kinds) ≡ stackLimit) ⌝ }
     ensures { λ r. ⌜ ((outer ins outs : List Kind) (f : Frame) → Top (now (kinds .entry)) depth floor dead outer f → number (map kindByte (reverse ins)) ≡ operands → number (map kindByte outs) ≡ results → Applies outer f ins outs (now (kinds .exit)) (r .code) (r .depth)) ⌝ }
+    ensures { λ r. ⌜ Keeps (r .code) (r .depth) (now (kinds .entry)) (now (kinds .exit)) ⌝ }
 {
     let base = under(operands, kinds, depth, floor, dead);
     if limits::STACK < base {

@@ -11,8 +11,9 @@ ghost use Rattle.opcode.specs.Table.{End, Br, BrIf, Code, plain, control, carri
 ghost use Rattle.opcode.specs.Entry.{entryOf};
 ghost use Rattle.instr.specs.declared.Instr.{Instr};
 ghost use Rattle.rules.specs.Typing.{Frame};
-ghost use Rattle.checker.specs.Inner.Kinds.{Holds};
-ghost use Rattle.checker.specs.Inner.Blocks.{topFirst, Framed, Labelled};
+ghost use Rattle.checker.specs.Walk.{Holds, Framed};
+ghost use Rattle.checker.specs.Inner.Stack.{Keeps};
+ghost use Rattle.checker.specs.Inner.Blocks.{topFirst, Labelled};
 ghost use Rattle.checker.specs.Inner.Judging.{opener, brancher, Ordinary, Judges, Faces, Ready};
 use crate::blocks;
 use crate::numbers;
@@ -21,7 +22,7 @@ use crate::typing;
 use opcode::kind;
 
 // A code, and then: the values on the stack, the open blocks, how many values are under the innermost, and whether code is dead in it.
-pub(crate) struct State {
+pub struct State {
     pub code: u8,
     pub depth: usize,
     pub nest: usize,
@@ -45,6 +46,7 @@ fn refused(code: u8) -> State
 fn begin(block: u32, looped: bool, blocks: &mut [u32], state: State) -> State
     requires { ⌜ (block < 256) × (state .floor < 256) × (state .nest ≤ nestLimit) × (length (now blocks) ≡ nestLimit) ⌝ }
     ensures { λ r. ⌜ ((i : Instr) (ls rs : List Kind) (fs : List Frame) (kinds : List ℕ) → block ≡ i .block → isBlockType (i .block) ≡ true → Framed rs kinds (now (blocks .entry)) (state .depth) (state .nest) (state .floor) (state .dead) fs → Judges ls rs i (control (opener looped)) fs kinds (now (blocks .exit)) (r .depth) (r .nest) (r .floor) (r .dead) (r .code)) ⌝ }
+    ensures { λ r. ⌜ Keeps (r .code) (r .nest) (now (blocks .entry)) (now (blocks .exit)) ⌝ }
 {
     let n = state.nest;
     if n == limits::NEST {
@@ -64,6 +66,7 @@ fn begin(block: u32, looped: bool, blocks: &mut [u32], state: State) -> State
 fn close(kinds: &mut [u8], blocks: &[u32], state: State) -> State
     requires { ⌜ (0 < state .nest) × (state .nest ≤ length (now blocks)) × (state .floor ≤ state .depth) × (state .depth ≤ stackLimit) × (length (now kinds) ≡ stackLimit) ⌝ }
     ensures { λ r. ⌜ ((i : Instr) (ls rs : List Kind) (fs : List Frame) → Framed rs (now (kinds .entry)) (now (blocks .entry)) (state .depth) (state .nest) (state .floor) (state .dead) fs → Judges ls rs i (plain End) fs (now (kinds .exit)) (now (blocks .entry)) (r .depth) (r .nest) (r .floor) (r .dead) (r .code)) ⌝ }
+    ensures { λ r. ⌜ Keeps (r .code) (r .depth) (now (kinds .entry)) (now (kinds .exit)) ⌝ }
 {
     let n = state.nest - 1;
     let w = blocks[n];
@@ -105,6 +108,7 @@ fn branch(takes: u64, kinds: &[u8], state: State) -> State
 fn may_branch(takes: u64, kinds: &mut [u8], state: State) -> State
     requires { ⌜ (takes < 2 ^ 32) × (state .floor ≤ state .depth) × (state .depth ≤ stackLimit) × (length (now kinds) ≡ stackLimit) ⌝ }
     ensures { λ r. ⌜ ((i : Instr) (ls rs : List Kind) (fs : List Frame) (blocks : List ℕ) → Labelled fs (i .index) takes → Framed rs (now (kinds .entry)) blocks (state .depth) (state .nest) (state .floor) (state .dead) fs → Judges ls rs i (control BrIf) fs (now (kinds .exit)) blocks (r .depth) (r .nest) (r .floor) (r .dead) (r .code)) ⌝ }
+    ensures { λ r. ⌜ Keeps (r .code) (r .depth) (now (kinds .entry)) (now (kinds .exit)) ⌝ }
 {
     let operands = takes * 256 + kind::I32 as u64;
     let left = numbers::flipped(takes);
@@ -129,6 +133,7 @@ fn jump(
 ) -> State
     requires { ⌜ (results < 2 ^ 32) × (state .nest ≤ length (now blocks)) × (state .floor ≤ state .depth) × (state .depth ≤ stackLimit) × (length (now kinds) ≡ stackLimit) ⌝ }
     ensures { λ r. ⌜ ((i : Instr) (ls rs : List Kind) (fs : List Frame) → n ≡ i .index → topFirst rs ≡ results → length rs ≤ resultLimit → Framed rs (now (kinds .entry)) (now (blocks .entry)) (state .depth) (state .nest) (state .floor) (state .dead) fs → Judges ls rs i (control (brancher maybe)) fs (now (kinds .exit)) (now (blocks .entry)) (r .depth) (r .nest) (r .floor) (r .dead) (r .code)) ⌝ }
+    ensures { λ r. ⌜ Keeps (r .code) (r .depth) (now (kinds .entry)) (now (kinds .exit)) ⌝ }
 {
     let nest = state.nest;
     if nest < n {
@@ -152,6 +157,7 @@ fn straight(
 ) -> State
     requires { ⌜ (8 + locals ≤ length (now strip)) × (state .floor ≤ state .depth) × (state .depth ≤ stackLimit) × (length (now kinds) ≡ stackLimit) ⌝ }
     ensures { λ r. ⌜ ((c : Code) (i : Instr) (ls rs : List Kind) (fs : List Frame) (blocks : List ℕ) → entry ≡ entryOf (carried c) → Ordinary c → index ≡ i .index → Holds (drop 8 (now (strip .entry))) locals ls → Framed rs (now (kinds .entry)) blocks (state .depth) (state .nest) (state .floor) (state .dead) fs → Judges ls rs i c fs (now (kinds .exit)) blocks (r .depth) (r .nest) (r .floor) (r .dead) (r .code)) ⌝ }
+    ensures { λ r. ⌜ Keeps (r .code) (r .depth) (now (kinds .entry)) (now (kinds .exit)) ⌝ }
 {
     let j = typing::judge(
         strip,
@@ -184,6 +190,7 @@ pub(crate) fn turn(
 ) -> State
     requires { ⌜ Ready (now strip) locals results entry index (now kinds) (now blocks) (state .depth) (state .nest) (state .floor) ⌝ }
     ensures { λ r. ⌜ ((c : Code) (i : Instr) (ls rs : List Kind) (fs : List Frame) → Faces (now (strip .entry)) locals results entry index (now (kinds .entry)) (now (blocks .entry)) (state .depth) (state .nest) (state .floor) (state .dead) c i ls rs fs → Judges ls rs i c fs (now (kinds .exit)) (now (blocks .exit)) (r .depth) (r .nest) (r .floor) (r .dead) (r .code)) ⌝ }
+    ensures { λ r. ⌜ Keeps (r .code) (r .depth) (now (kinds .entry)) (now (kinds .exit)) × Keeps (r .code) (r .nest) (now (blocks .entry)) (now (blocks .exit)) ⌝ }
 {
     let group = opcode::group(entry);
     if group == opcode::GROUP_END {

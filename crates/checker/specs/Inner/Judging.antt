@@ -15,9 +15,9 @@ use Rattle.opcode.specs.Number.{packed}
 use Rattle.opcode.specs.Entry.{entryOf, groupIn}
 use Rattle.instr.specs.declared.Instr.{Instr}
 use Rattle.rules.specs.Typing.{Frame, allValues, Target, Local, Typed, Has, Types, Names, Opens, Branches, Ends}
-use Rattle.checker.specs.Inner.Kinds.{Holds}
+use Rattle.checker.specs.Walk.{Holds, Framed}
 use Rattle.checker.specs.Inner.Stack.{Small}
-use Rattle.checker.specs.Inner.Blocks.{topFirst, Framed}
+use Rattle.checker.specs.Inner.Blocks.{topFirst}
 
 abbrev pub opener : Bool → Control
 opener loop = cond loop Loop Block

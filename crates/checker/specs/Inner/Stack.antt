@@ -4,14 +4,18 @@ use mathlib.Core.Path.{_≡_}
 use mathlib.Core.Bool.{Bool}
 use mathlib.Core.List.{List, _++_}
 use mathlib.Core.Option.{some}
-use lib.ListN.{length}
+use lib.ListN.{length, drop}
 use Rattle.card.specs.Card.{DONE, OPERAND, DEEP}
 use Rattle.limits.specs.Limits.{stackLimit}
 use Rattle.opcode.specs.Kind.{Kind}
 use Rattle.opcode.specs.Effect.{_⇒_}
 use Rattle.opcode.specs.Number.{packed}
 use Rattle.rules.specs.Typing.{Frame, Has}
-use Rattle.checker.specs.Inner.Kinds.{Holds}
+use Rattle.checker.specs.Walk.{Holds}
+
+-- where it is done, an array is as it was from n on
+abbrev pub Keeps : ℕ → ℕ → List ℕ → List ℕ → Type 0
+Keeps code n before after = code ≡ DONE → drop n after ≡ drop n before
 
 -- the innermost block's values are on top of the others', which reach up to the floor
 pub record Top (kinds : List ℕ) (depth floor : ℕ) (dead : Bool) (outer : List Kind) (f : Frame) : Type 0 where

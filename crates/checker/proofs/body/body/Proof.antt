@@ -14,6 +14,7 @@ use Rattle.checker.proofs.answer.Reads as answer-reads
 use Rattle.checker.proofs.body.ending.Reads as ending-reads
 use Rattle.checker.proofs.body.is_last.Reads as is-last-reads
 use Rattle.checker.proofs.numbers.top_first.Reads as top-first-reads
+use Rattle.checker.proofs.walk.outset.Reads as outset-reads
 use Rattle.checker.proofs.turns.turn.Reads as turn-reads
 use Rattle.instr.proofs.scan.Reads as scan-reads
 
@@ -33,8 +34,11 @@ top-first-requires : tie.Need-top-first-requires Inv-loop μ-loop
 top-first-requires c κs = (counts-inside (c .before .pre .counts), few-results (c .before .pre .counts))
 
 -- src/body.rt:30:5
+outset-requires : tie.Need-outset-requires Inv-loop μ-loop
+outset-requires c κs = search needs
+
 loop-holds : tie.Need-loop-holds Inv-loop μ-loop
-loop-holds c = starts _ _ refl refl (c .before .before .pre) (c .top-first .ensures)
+loop-holds c = starts _ _ refl refl (c .before .before .before .pre) (c .before .top-first .ensures) (c .outset .ensures)
 
 -- src/body.rt:31:13
 scan-requires : tie.Need-scan-requires Inv-loop μ-loop
@@ -58,7 +62,7 @@ slice-aggregate-ending c = search needs
 
 -- src/body.rt:36:13
 ending-requires : tie.Need-ending-requires Inv-loop μ-loop
-ending-requires c κs = at-end (c .before .before .before .before .before .before .loop .inv) (c .before .before .before .before .before .scan .result) (c .before .before .before .before .before .scan .ensures) (λ j. c .before .before .before .before .before .before .before .before .shared-slice-known .given j .fits) (c .before .before .before .if1 .left) (sym (c .before .before .is-last .ensures) ∙ c .before .if2 .taken)
+ending-requires c κs = at-end (c .before .before .before .before .before .before .loop .inv) (c .before .before .before .before .before .scan .result) (c .before .before .before .before .before .scan .ensures) (λ j. c .before .before .before .before .before .before .before .before .before .shared-slice-known .given j .fits) (c .before .before .before .if1 .left) (sym (c .before .before .is-last .ensures) ∙ c .before .if2 .taken)
 
 -- src/body.rt:36:13
 returns-2 : tie.Need-returns-2 Inv-loop μ-loop
@@ -74,7 +78,7 @@ slice-aggregate-turn-2 c = search needs
 
 -- src/body.rt:38:9
 turn-requires : tie.Need-turn-requires Inv-loop μ-loop
-turn-requires c κs = ready (c .before .before .before .before .before .before .before .loop .inv) (c .before .before .before .before .before .before .scan .result) (c .before .before .before .before .before .before .scan .ensures) (λ j. c .before .before .before .before .before .before .before .before .before .shared-slice-known .given j .fits) (c .before .before .before .before .if1 .left) (sym (c .before .before .before .is-last .ensures) ∙ c .before .before .if2 .left)
+turn-requires c κs = ready (c .before .before .before .before .before .before .before .loop .inv) (c .before .before .before .before .before .before .scan .result) (c .before .before .before .before .before .before .scan .ensures) (λ j. c .before .before .before .before .before .before .before .before .before .before .shared-slice-known .given j .fits) (c .before .before .before .before .if1 .left) (sym (c .before .before .before .is-last .ensures) ∙ c .before .before .if2 .left)
 
 -- src/body.rt:49:13
 answer-requires-2 : tie.Need-answer-requires-2 Inv-loop μ-loop
@@ -82,19 +86,19 @@ answer-requires-2 c κs = search needs
 
 -- src/body.rt:49:13
 returns-3 : tie.Need-returns-3 Inv-loop μ-loop
-returns-3 c = checked (c .answer2 .ensures) (breach (breaks (c .before .before .before .before .before .before .before .before .before .before .before .before .before .loop .inv) (c .before .before .before .before .before .before .before .before .before .before .before .before .scan .result) (c .before .before .before .before .before .before .before .before .before .before .before .before .scan .ensures) (λ j. c .before .before .before .before .before .before .before .before .before .before .before .before .before .before .before .shared-slice-known .given j .fits) (c .before .before .before .before .before .before .before .before .before .before .if1 .left) (sym (c .before .before .before .before .before .before .before .before .before .is-last .ensures) ∙ c .before .before .before .before .before .before .before .before .if2 .left) (c .before .before .before .before .before .turn .ensures) (c .before .if3 .taken)))
+returns-3 c = checked (c .answer2 .ensures) (breach (breaks (c .before .before .before .before .before .before .before .before .before .before .before .before .before .loop .inv) (c .before .before .before .before .before .before .before .before .before .before .before .before .scan .result) (c .before .before .before .before .before .before .before .before .before .before .before .before .scan .ensures) (λ j. c .before .before .before .before .before .before .before .before .before .before .before .before .before .before .before .before .shared-slice-known .given j .fits) (c .before .before .before .before .before .before .before .before .before .before .if1 .left) (sym (c .before .before .before .before .before .before .before .before .before .is-last .ensures) ∙ c .before .before .before .before .before .before .before .before .if2 .left) (c .before .before .before .before .before .turn .ensures .0) (c .before .if3 .taken)))
 
 -- src/body.rt:51:9
 add-at : tie.Need-add-at Inv-loop μ-loop
-add-at c = omega (arith, moves (c .before .before .before .before .before .before .before .before .before .before .before .before .before .loop .inv) (c .before .before .before .before .before .before .before .before .before .before .before .before .scan .result) (c .before .before .before .before .before .before .before .before .before .before .before .before .scan .ensures) (λ j. c .before .before .before .before .before .before .before .before .before .before .before .before .before .before .before .shared-slice-known .given j .fits) (c .before .before .before .before .before .before .before .before .before .before .if1 .left))
+add-at c = omega (arith, moves (c .before .before .before .before .before .before .before .before .before .before .before .before .before .loop .inv) (c .before .before .before .before .before .before .before .before .before .before .before .before .scan .result) (c .before .before .before .before .before .before .before .before .before .before .before .before .scan .ensures) (λ j. c .before .before .before .before .before .before .before .before .before .before .before .before .before .before .before .before .shared-slice-known .given j .fits) (c .before .before .before .before .before .before .before .before .before .before .if1 .left))
 
 -- src/body.rt:30:5
 loop-less : tie.Need-loop-less Inv-loop μ-loop
-loop-less c = omega (arith, moves (c .before .before .before .before .before .before .before .before .before .before .before .before .before .loop .inv) (c .before .before .before .before .before .before .before .before .before .before .before .before .scan .result) (c .before .before .before .before .before .before .before .before .before .before .before .before .scan .ensures) (λ j. c .before .before .before .before .before .before .before .before .before .before .before .before .before .before .before .shared-slice-known .given j .fits) (c .before .before .before .before .before .before .before .before .before .before .if1 .left))
+loop-less c = omega (arith, moves (c .before .before .before .before .before .before .before .before .before .before .before .before .before .loop .inv) (c .before .before .before .before .before .before .before .before .before .before .before .before .scan .result) (c .before .before .before .before .before .before .before .before .before .before .before .before .scan .ensures) (λ j. c .before .before .before .before .before .before .before .before .before .before .before .before .before .before .before .before .shared-slice-known .given j .fits) (c .before .before .before .before .before .before .before .before .before .before .if1 .left))
 
 -- src/body.rt:30:5
 loop-again : tie.Need-loop-again Inv-loop μ-loop
-loop-again c = goes (c .before .before .before .before .before .before .before .before .before .before .before .before .before .loop .inv) (c .before .before .before .before .before .before .before .before .before .before .before .before .scan .result) (c .before .before .before .before .before .before .before .before .before .before .before .before .scan .ensures) (λ j. c .before .before .before .before .before .before .before .before .before .before .before .before .before .before .before .shared-slice-known .given j .fits) (c .before .before .before .before .before .before .before .before .before .before .if1 .left) (sym (c .before .before .before .before .before .before .before .before .before .is-last .ensures) ∙ c .before .before .before .before .before .before .before .before .if2 .left) (c .before .before .before .before .before .turn .ensures) (c .before .if3 .left) (search needs) (search needs)
+loop-again c = goes (c .before .before .before .before .before .before .before .before .before .before .before .before .before .loop .inv) (c .before .before .before .before .before .before .before .before .before .before .before .before .scan .result) (c .before .before .before .before .before .before .before .before .before .before .before .before .scan .ensures) (λ j. c .before .before .before .before .before .before .before .before .before .before .before .before .before .before .before .before .shared-slice-known .given j .fits) (c .before .before .before .before .before .before .before .before .before .before .if1 .left) (sym (c .before .before .before .before .before .before .before .before .before .is-last .ensures) ∙ c .before .before .before .before .before .before .before .before .if2 .left) (c .before .before .before .before .before .turn .ensures .0) (c .before .if3 .left) (search needs) (search needs)
 
 pub body-spec : {M : Type 1} → statement M
 body-spec =
@@ -104,6 +108,7 @@ body-spec =
     μ-loop
     add-top-first
     top-first-requires
+    outset-requires
     loop-holds
     scan-requires
     answer-requires

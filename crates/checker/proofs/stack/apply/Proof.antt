@@ -1,4 +1,7 @@
+use Prim.Native.Nat.{_/_, _^_}
+use mathlib.Core.Path.{refl}
 use native.Mathlib.Omega.{arith}
+use Rattle.checker.proofs.Held.{one-set}
 use Rattle.checker.proofs.Applied.{low-bytes, applies-lacks, applies-none, applies-over, applies-one}
 use borrow.Author.Needs.{needs}
 use Rattle.checker.proofs.stack.apply.Statement.{statement}
@@ -21,7 +24,7 @@ same-length c = search needs
 
 -- src/stack.rt:83:9
 returns : tie.Need-returns
-returns c = λ outer ins outs f t small is. applies-lacks small is t (c .before .before .before .before .pre .1) (c .before .under .ensures outer ins f t (low-bytes small is)) (c .if1 .taken)
+returns c = ((λ outer ins outs f t small is. applies-lacks small is t (c .before .before .before .before .pre .1) (c .before .under .ensures outer ins f t (low-bytes small is)) (c .if1 .taken)), λ z. refl)
 
 -- src/stack.rt:88:18
 cast-result : tie.Need-cast-result
@@ -33,7 +36,7 @@ same-length-2 c = search needs
 
 -- src/stack.rt:90:9
 returns-2 : tie.Need-returns-2
-returns-2 c = λ outer ins outs f t small is. applies-none small is t (c .before .before .before .before .before .pre .1) (c .before .before .under .ensures outer ins f t (low-bytes small is)) (c .before .if1 .left) (c .if2 .taken)
+returns-2 c = ((λ outer ins outs f t small is. applies-none small is t (c .before .before .before .before .before .pre .1) (c .before .before .under .ensures outer ins f t (low-bytes small is)) (c .before .if1 .left) (c .if2 .taken)), λ z. refl)
 
 -- src/stack.rt:96:9
 same-length-3 : tie.Need-same-length-3
@@ -41,7 +44,7 @@ same-length-3 c = search needs
 
 -- src/stack.rt:96:9
 returns-3 : tie.Need-returns-3
-returns-3 c = λ outer ins outs f t small is. applies-over small is t (c .before .before .before .before .before .before .pre .1) (c .before .before .before .under .ensures outer ins f t (low-bytes small is)) (c .before .if2 .left) (omega (arith, c .if3 .taken))
+returns-3 c = ((λ outer ins outs f t small is. applies-over small is t (c .before .before .before .before .before .before .pre .1) (c .before .before .before .under .ensures outer ins f t (low-bytes small is)) (c .before .if2 .left) (omega (arith, c .if3 .taken))), λ z. refl)
 
 -- src/stack.rt:101:5
 slice-write-kinds : tie.Need-slice-write-kinds
@@ -57,7 +60,7 @@ same-length-4 c = search needs
 
 -- src/stack.rt:71:1
 returns-4 : tie.Need-returns-4
-returns-4 c = λ outer ins outs f t small is. applies-one small is t (c .before .before .before .before .before .before .pre .1) (c .before .before .before .under .ensures outer ins f t (low-bytes small is)) (c .before .if2 .left) (c .before .before .before .before .before .before .pre .2) (omega (arith, c .before .before .if1 .left, c .if3 .left))
+returns-4 c = ((λ outer ins outs f t small is. applies-one small is t (c .before .before .before .before .before .before .pre .1) (c .before .before .before .under .ensures outer ins f t (low-bytes small is)) (c .before .if2 .left) (c .before .before .before .before .before .before .pre .2) (omega (arith, c .before .before .if1 .left, c .if3 .left))), λ z. let start = c .before .before .before .before .before .before in one-set (start .args .kinds .now) (c .before .before .before .under .result) (start .args .effect / 2 ^ 24))
 
 pub apply-spec : {M : Type 1} → statement M
 apply-spec =

@@ -1,3 +1,4 @@
+use mathlib.Core.Path.{refl}
 use Rattle.checker.proofs.Applied.{exchanges-lacks, exchanges}
 use borrow.Author.Needs.{needs}
 use Rattle.checker.proofs.stack.exchange.Statement.{statement}
@@ -17,7 +18,7 @@ same-length c = search needs
 
 -- src/stack.rt:122:9
 returns : tie.Need-returns
-returns c = λ outer ins outs f t a b. exchanges-lacks t (c .before .before .before .before .pre .1) (c .before .under .ensures outer ins f t a) (c .if1 .taken)
+returns c = ((λ outer ins outs f t a b. exchanges-lacks t (c .before .before .before .before .pre .1) (c .before .under .ensures outer ins f t a) (c .if1 .taken)), λ z. refl)
 
 -- src/stack.rt:127:5
 leave-requires : tie.Need-leave-requires
@@ -29,7 +30,7 @@ same-length-2 c = search needs
 
 -- src/stack.rt:109:1
 returns-2 : tie.Need-returns-2
-returns-2 c = λ outer ins outs f t a b. exchanges t (c .before .before .before .before .before .before .before .before .pre .1) (c .before .before .before .before .before .under .ensures outer ins f t a) (c .before .before .before .before .if1 .left) (λ below h. c .before .before .leave .ensures below outs h b)
+returns-2 c = ((λ outer ins outs f t a b. exchanges t (c .before .before .before .before .before .before .before .before .pre .1) (c .before .before .before .before .before .under .ensures outer ins f t a) (c .before .before .before .before .if1 .left) (λ below h. c .before .before .leave .ensures .0 below outs h b)), c .before .before .leave .ensures .1)
 
 pub exchange-spec : {M : Type 1} → statement M
 exchange-spec =

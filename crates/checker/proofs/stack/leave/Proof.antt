@@ -22,7 +22,7 @@ same-length c = omega (arith, c .before .before .loop .inv .long, c .before .bef
 
 -- src/stack.rt:55:13
 returns : tie.Need-returns Inv-loop μ-loop
-returns c = λ below outs h e. left-over (c .before .before .loop .inv) below outs h e (c .before .loop-test .taken) (c .if1 .taken)
+returns c = ((λ below outs h e. left-over (c .before .before .loop .inv) below outs h e (c .before .loop-test .taken) (c .if1 .taken)), λ z. absurd (let never : ⊥ = omega arith in never))
 
 -- src/stack.rt:60:24
 cast-kinds : tie.Need-cast-kinds Inv-loop μ-loop
@@ -50,7 +50,7 @@ same-length-2 c = omega (arith, c .before .loop .inv .long, c .before .before .p
 
 -- src/stack.rt:47:1
 returns-2 : tie.Need-returns-2 Inv-loop μ-loop
-returns-2 c = λ below outs h e. left-now (c .before .loop .inv) below outs h e (c .loop-test .left)
+returns-2 c = ((λ below outs h e. left-now (c .before .loop .inv) below outs h e (c .loop-test .left)), λ z. c .before .loop .inv .kept)
 
 pub leave-spec : {M : Type 1} → statement M
 leave-spec =

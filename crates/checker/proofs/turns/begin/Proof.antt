@@ -1,8 +1,9 @@
 use Prim.Native.Nat.{ℕ}
-use mathlib.Core.Path.{_≡_, sym, subst}
+use mathlib.Core.Path.{_≡_, refl, sym, subst}
 use mathlib.Core.Bool.{true}
 use Rattle.opcode.specs.BlockType.{isBlockType}
 use native.Mathlib.Omega.{arith}
+use Rattle.checker.proofs.Held.{one-set}
 use Rattle.checker.proofs.Same.{as-coded}
 use Rattle.checker.proofs.Beginnings.{begins-none, begins}
 use borrow.Author.Needs.{needs}
@@ -19,7 +20,7 @@ refused-requires c κs = search needs
 
 -- src/turns.rt:50:9
 returns : tie.Need-returns
-returns c = λ i ls rs fs kinds e is w. as-coded (c .refused .ensures) (begins-none (c .before .before .before .args .looped) w (c .before .if1 .taken))
+returns c = ((λ i ls rs fs kinds e is w. as-coded (c .refused .ensures) (begins-none (c .before .before .before .args .looped) w (c .before .if1 .taken))), λ z. refl)
 
 -- src/turns.rt:52:17
 word-of-requires : tie.Need-word-of-requires
@@ -43,8 +44,11 @@ same-length c = search needs
 
 -- src/turns.rt:44:1
 returns-2 : tie.Need-returns-2
-returns-2 c = λ i ls rs fs kinds e is w.
-    begins (c .before .before .before .args .looped) (c .before .before .before .args .block) (c .word-of .result) (omega (arith, c .before .before .before .pre .2, c .before .if1 .left)) (c .before .before .before .pre .3) (c .word-of .ensures) (subst (λ (x : ℕ). isBlockType x ≡ true) (sym e) is) (sym e) w
+returns-2 c = (
+  (λ i ls rs fs kinds e is w.
+    begins (c .before .before .before .args .looped) (c .before .before .before .args .block) (c .word-of .result) (omega (arith, c .before .before .before .pre .2, c .before .if1 .left)) (c .before .before .before .pre .3) (c .word-of .ensures) (subst (λ (x : ℕ). isBlockType x ≡ true) (sym e) is) (sym e) w),
+  λ z. let start = c .before .before .before in one-set (start .args .blocks .now) (start .args .state .nest) (c .word-of .result),
+)
 
 pub begin-spec : {M : Type 1} → statement M
 begin-spec =

@@ -1,3 +1,4 @@
+use mathlib.Core.Path.{refl}
 use native.Mathlib.Omega.{arith}
 use Rattle.checker.proofs.Words.{type-small}
 use Rattle.checker.proofs.Nests.{closing}
@@ -45,10 +46,13 @@ same-length c = search needs
 
 -- src/turns.rt:73:9
 returns : tie.Need-returns
-returns c = λ i ls rs fs w.
+returns c = (
+  (λ i ls rs fs w.
     let k = closing (w .nested) (c .before .before .before .before .before .before .before .before .before .pre .0) in
     let r = results-number w k (c .before .before .before .before .results-in .result) (c .before .before .before .before .results-in .ensures .1 (k .outer-floor) (k .type) (k .top .loop) (k .outer-dead) (closing-small w k) (k .is-type) (k .word-is)) in
-    as-coded (c .refused .ensures) (closes-not w k (c .before .before .under .ensures _ (k .top .results) (k .top) (closing-top w k) (r .0)) (c .before .if1 .taken))
+    as-coded (c .refused .ensures) (closes-not w k (c .before .before .under .ensures _ (k .top .results) (k .top) (closing-top w k) (r .0)) (c .before .if1 .taken))),
+  λ z. refl,
+)
 
 -- src/turns.rt:75:9
 leave-requires : tie.Need-leave-requires
@@ -68,7 +72,8 @@ same-length-2 c = search needs
 
 -- src/turns.rt:63:1
 returns-2 : tie.Need-returns-2
-returns-2 c = λ i ls rs fs w.
+returns-2 c = (
+  (λ i ls rs fs w.
     let k = closing (w .nested) (c .before .before .before .before .before .before .before .before .before .before .before .before .before .before .pre .0) in
     let r = results-number w k (c .before .before .before .before .before .before .before .before .before .results-in .result) (c .before .before .before .before .before .before .before .before .before .results-in .ensures .1 (k .outer-floor) (k .type) (k .top .loop) (k .outer-dead) (closing-small w k) (k .is-type) (k .word-is)) in
     let u = c .before .before .before .before .before .before .before .under .ensures _ (k .top .results) (k .top) (closing-top w k) (r .0) in
@@ -76,7 +81,9 @@ returns-2 c = λ i ls rs fs w.
     closes-by w k u (ends-here u (c .before .before .before .before .before .before .if1 .left) (omega (arith, c .before .before .before .before .before .before .before .before .before .before .before .before .before .before .pre .2, c .before .before .before .before .before .before .before .before .before .before .before .before .before .before .pre .3)))
     (c .before .floor-in .ensures (k .outer-floor) (k .type) (k .top .loop) (k .outer-dead) (closing-small w k) small (k .word-is))
     (c .dead-in .ensures (k .outer-floor) (k .type) (k .top .loop) (k .outer-dead) (closing-small w k) small (k .word-is))
-    (c .before .before .before .before .leave .ensures _ (k .top .results) (closing-held w k) (r .1))
+    (c .before .before .before .before .leave .ensures .0 _ (k .top .results) (closing-held w k) (r .1))),
+  c .before .before .before .before .leave .ensures .1,
+)
 
 pub close-spec : {M : Type 1} → statement M
 close-spec =

@@ -1,3 +1,4 @@
+use mathlib.Core.Path.{refl}
 use native.Mathlib.Omega.{arith}
 use Rattle.checker.proofs.Same.{as-coded, as-label, as-br, as-br-if}
 use Rattle.checker.proofs.Branchings.{jumps-nowhere}
@@ -17,7 +18,7 @@ refused-requires c κs = search needs
 
 -- src/turns.rt:134:9
 returns : tie.Need-returns
-returns c = λ i ls rs fs e t few w. as-coded (c .refused .ensures) (jumps-nowhere (c .before .before .before .before .args .maybe) w (omega (arith, c .before .if1 .taken, e)))
+returns c = ((λ i ls rs fs e t few w. as-coded (c .refused .ensures) (jumps-nowhere (c .before .before .before .before .args .maybe) w (omega (arith, c .before .if1 .taken, e)))), λ z. refl)
 
 -- src/turns.rt:136:9
 takes-requires : tie.Need-takes-requires
@@ -33,8 +34,11 @@ same-length c = search needs
 
 -- src/turns.rt:138:9
 returns-2 : tie.Need-returns-2
-returns-2 c = λ i ls rs fs e t few w.
-    as-br-if (c .before .before .before .before .if2 .taken) (c .before .before .may-branch .ensures i ls rs fs _ (as-label e (c .before .before .before .before .before .takes .ensures .1 rs fs _ _ t few (w .nested) (w .within .values))) w)
+returns-2 c = (
+  (λ i ls rs fs e t few w.
+    as-br-if (c .before .before .before .before .if2 .taken) (c .before .before .may-branch .ensures .0 i ls rs fs _ (as-label e (c .before .before .before .before .before .takes .ensures .1 rs fs _ _ t few (w .nested) (w .within .values))) w)),
+  c .before .before .may-branch .ensures .1,
+)
 
 -- src/turns.rt:140:5
 branch-requires : tie.Need-branch-requires
@@ -46,8 +50,11 @@ same-length-2 c = search needs
 
 -- src/turns.rt:121:1
 returns-3 : tie.Need-returns-3
-returns-3 c = λ i ls rs fs e t few w.
-    as-br (c .before .before .if2 .left) (c .branch .ensures i ls rs fs _ (as-label e (c .before .before .before .takes .ensures .1 rs fs _ _ t few (w .nested) (w .within .values))) w)
+returns-3 c = (
+  (λ i ls rs fs e t few w.
+    as-br (c .before .before .if2 .left) (c .branch .ensures i ls rs fs _ (as-label e (c .before .before .before .takes .ensures .1 rs fs _ _ t few (w .nested) (w .within .values))) w)),
+  λ z. refl,
+)
 
 pub jump-spec : {M : Type 1} → statement M
 jump-spec =

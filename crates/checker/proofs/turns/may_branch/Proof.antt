@@ -33,7 +33,7 @@ same-length c = search needs
 
 -- src/turns.rt:104:1
 returns : tie.Need-returns
-returns c = λ i ls rs fs blocks g w. may-branches (c .before .before .before .before .before .before .args .takes) (c .before .before .before .before .flipped .result) (c .before .before .before .before .flipped .ensures) (c .before .before .exchange .ensures) g w
+returns c = ((λ i ls rs fs blocks g w. may-branches (c .before .before .before .before .before .before .args .takes) (c .before .before .before .before .flipped .result) (c .before .before .before .before .flipped .ensures) (c .before .before .exchange .ensures .0) g w), c .before .before .exchange .ensures .1)
 
 pub may-branch-spec : {M : Type 1} → statement M
 may-branch-spec =

@@ -17,7 +17,7 @@ same-length c = search needs
 
 -- src/turns.rt:144:1
 returns : tie.Need-returns
-returns c = λ v i ls rs fs blocks row o e h w. straight o w (λ outer f t. as-index e (c .before .before .judge .ensures v ls outer f row o h t))
+returns c = ((λ v i ls rs fs blocks row o e h w. straight o w (λ outer f t. as-index e (c .before .before .judge .ensures .0 v ls outer f row o h t))), c .before .before .judge .ensures .1)
 
 pub straight-spec : {M : Type 1} → statement M
 straight-spec = tie.close (tie.spec judge-requires same-length returns)

@@ -1,4 +1,4 @@
-use mathlib.Core.Path.{sym, _∙_}
+use mathlib.Core.Path.{refl, sym, _∙_}
 use native.Mathlib.Omega.{arith}
 use Rattle.checker.proofs.Choices.{as-end, as-opener, as-brancher, is-ordinary, named}
 use borrow.Author.Needs.{needs}
@@ -30,7 +30,7 @@ same-length-2 c = search needs
 
 -- src/turns.rt:189:9
 returns : tie.Need-returns
-returns c = λ v i ls rs fs x. as-end x (c .before .before .before .before .before .before .group .ensures) (c .before .before .before .before .before .if1 .taken) (c .before .before .close .ensures i ls rs fs (x .framed))
+returns c = ((λ v i ls rs fs x. as-end x (c .before .before .before .before .before .before .group .ensures) (c .before .before .before .before .before .if1 .taken) (c .before .before .close .ensures .0 i ls rs fs (x .framed))), (c .before .before .close .ensures .1, λ z. refl))
 
 -- src/turns.rt:192:9
 straight-requires : tie.Need-straight-requires
@@ -42,8 +42,11 @@ same-length-3 c = search needs
 
 -- src/turns.rt:192:9
 returns-2 : tie.Need-returns-2
-returns-2 c = λ v i ls rs fs x.
-    c .before .before .straight .ensures v i ls rs fs _ (x .row) (is-ordinary x (c .before .before .before .before .before .before .group .ensures) (c .before .before .before .before .before .if1 .left) (c .before .before .before .before .if2 .taken)) (named x (c .before .before .before .before .before .before .group .ensures) (c .before .before .before .before .before .if1 .left) (c .before .before .before .before .if2 .taken)) (x .locals-are) (x .framed)
+returns-2 c = (
+  (λ v i ls rs fs x.
+    c .before .before .straight .ensures .0 v i ls rs fs _ (x .row) (is-ordinary x (c .before .before .before .before .before .before .group .ensures) (c .before .before .before .before .before .if1 .left) (c .before .before .before .before .if2 .taken)) (named x (c .before .before .before .before .before .before .group .ensures) (c .before .before .before .before .before .if1 .left) (c .before .before .before .before .if2 .taken)) (x .locals-are) (x .framed)),
+  (c .before .before .straight .ensures .1, λ z. refl),
+)
 
 -- src/turns.rt:195:9
 begin-requires : tie.Need-begin-requires
@@ -56,7 +59,7 @@ same-length-4 c = search needs
 
 -- src/turns.rt:195:9
 returns-3 : tie.Need-returns-3
-returns-3 c = λ v i ls rs fs x. as-opener x (c .before .before .before .before .before .before .before .group .ensures) (c .before .before .before .before .before .if2 .left) (c .before .before .before .before .if3 .taken) (λ e t. c .before .before .begin .ensures i ls rs fs _ e t (x .framed))
+returns-3 c = ((λ v i ls rs fs x. as-opener x (c .before .before .before .before .before .before .before .group .ensures) (c .before .before .before .before .before .if2 .left) (c .before .before .before .before .if3 .taken) (λ e t. c .before .before .begin .ensures .0 i ls rs fs _ e t (x .framed))), (λ z. refl, c .before .before .begin .ensures .1))
 
 -- src/turns.rt:197:5
 jump-requires : tie.Need-jump-requires
@@ -72,7 +75,7 @@ same-length-6 c = search needs
 
 -- src/turns.rt:174:1
 returns-4 : tie.Need-returns-4
-returns-4 c = λ v i ls rs fs x. as-brancher x (c .before .before .before .before .before .before .before .before .group .ensures) (c .before .before .before .before .before .if3 .left) (λ e. c .before .before .jump .ensures i ls rs fs e (x .results-are) (x .few) (x .framed))
+returns-4 c = ((λ v i ls rs fs x. as-brancher x (c .before .before .before .before .before .before .before .before .group .ensures) (c .before .before .before .before .before .if3 .left) (λ e. c .before .before .jump .ensures .0 i ls rs fs e (x .results-are) (x .few) (x .framed))), (c .before .before .jump .ensures .1, λ z. refl))
 
 pub turn-spec : {M : Type 1} → statement M
 turn-spec =

@@ -1,3 +1,4 @@
+use mathlib.Core.Path.{refl}
 use Rattle.checker.proofs.Effects.{same-dead, gives-local, gives-applies}
 use borrow.Author.Needs.{needs}
 use Rattle.checker.proofs.typing.judge.Statement.{statement}
@@ -17,7 +18,7 @@ same-length c = search needs
 
 -- src/typing.rt:71:9
 returns : tie.Need-returns
-returns c = λ v ls outer f row o h t. gives-local (c .before .effect-of .ensures v ls outer f row o h (same-dead t)) (c .if1 .taken)
+returns c = ((λ v ls outer f row o h t. gives-local (c .before .effect-of .ensures v ls outer f row o h (same-dead t)) (c .if1 .taken)), λ z. refl)
 
 -- src/typing.rt:76:5
 apply-requires : tie.Need-apply-requires
@@ -29,8 +30,11 @@ same-length-2 c = search needs
 
 -- src/typing.rt:56:1
 returns-2 : tie.Need-returns-2
-returns-2 c = λ v ls outer f row o h t.
-    gives-applies (c .before .before .before .before .before .effect-of .ensures v ls outer f row o h (same-dead t)) (c .before .before .before .before .if1 .left) (λ ins outs small is. c .before .before .apply .ensures outer ins outs f t small is)
+returns-2 c = (
+  (λ v ls outer f row o h t.
+    gives-applies (c .before .before .before .before .before .effect-of .ensures v ls outer f row o h (same-dead t)) (c .before .before .before .before .if1 .left) (λ ins outs small is. c .before .before .apply .ensures .0 outer ins outs f t small is)),
+  c .before .before .apply .ensures .1,
+)
 
 pub judge-spec : {M : Type 1} → statement M
 judge-spec =
