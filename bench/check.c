@@ -1,7 +1,7 @@
 /* The check of a whole strip: the header, then each instruction and its kinds. */
 #include <string.h>
 
-#include "typing.h"
+#include "walk.h"
 
 /* Answers DONE and where the first instruction is, or another code and its place. */
 static enum code header(const uint8_t *s, size_t len, size_t *place)
@@ -32,38 +32,16 @@ static enum code header(const uint8_t *s, size_t len, size_t *place)
 #undef REFUSE
 }
 
-/* Where `ends` is lent, it gets the place of each block's `end`. */
-static inline uint64_t walk(const uint8_t *s, size_t len, uint16_t *ends)
+uint64_t plain_matched(const uint8_t *s, size_t len, uint16_t *ends)
 {
-    size_t at;
-    enum code code = header(s, len, &at);
+    size_t place;
+    const enum code code = header(s, len, &place);
     if (code)
-        return answer(code, at, 0);
-    const int version = s[3];
-    struct typing t;
-    begin(&t, s);
-    for (;;) {
-        struct instruction in;
-        size_t place;
-        if ((code = decode(version, s, len, at, &in, &place)))
-            return answer(code, place, 0);
-        if (ends && in.op == END)
-            ends[t.frames[t.blocks].body] = at;
-        if ((code = typed(&t, &in))) {
-            if (code != TRAILING)
-                return answer(code, at, 0);
-            return in.end == len ? answer(DONE, 0, 0) : answer(TRAILING, in.end, 0);
-        }
-        at = in.end;
-    }
+        return answer(code, place, 0);
+    return s[3] == 1 ? walk_1(s, len) : walk(2, s, len, ends);
 }
 
 uint64_t plain_check(const uint8_t *s, size_t len)
 {
-    return walk(s, len, NULL);
-}
-
-uint64_t plain_matched(const uint8_t *s, size_t len, uint16_t ends[FILE_MOST])
-{
-    return walk(s, len, ends);
+    return plain_matched(s, len, NULL);
 }

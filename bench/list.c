@@ -102,16 +102,48 @@ static void put_immediates(struct text *t, const struct instruction *in)
     }
 }
 
-/* Answers the length of the listing of a strip that the check passes: the first code that typing gives is that of the last `end`. */
+/* Values go; in dead code as many of them as are known. */
+static void lower(struct typing *t, size_t count)
+{
+    t->depth = t->depth < t->floor + count ? t->floor : t->depth - count;
+}
+
+/* What an instruction does to the kinds; the check has found the ones that it takes. Answers whether it was the last one. */
+static int moved(struct typing *t, const struct instruction *in)
+{
+    const struct row *row = &rows[in->op];
+    switch (in->op) {
+    case BLOCK:
+    case LOOP:
+    case END:
+    case BR:
+    case BR_IF:
+    case LOCAL_TEE:
+        return typed(2, t, in) == TRAILING;
+    case DROP:
+    case LOCAL_SET:
+        lower(t, 1);
+        return 0;
+    case LOCAL_GET:
+        t->kinds[t->depth++] = t->strip[8 + in->index];
+        return 0;
+    }
+    lower(t, row->taken);
+    if (row->leaves[0])
+        t->kinds[t->depth++] = row->leaves[0];
+    return 0;
+}
+
+/* Answers the length of the listing. */
 static size_t written(const uint8_t *s, size_t len, uint8_t *out)
 {
     struct text text = { out, 0 };
-    struct typing t;
-    begin(&t, s);
+    struct room room;
+    struct typing t = begin(s, &room, NULL);
     for (size_t at = t.frames[0].body;;) {
         struct instruction in;
         size_t place;
-        decode(s[3], s, len, at, &in, &place);
+        decode(2, s, len, at, &in, &place);
         put_decimal(&text, at);
         put_byte(&text, ' ');
         put_kinds(&text, t.kinds, t.depth);
@@ -119,7 +151,7 @@ static size_t written(const uint8_t *s, size_t len, uint8_t *out)
         put(&text, names[in.op].text, names[in.op].len);
         put_immediates(&text, &in);
         put_byte(&text, '\n');
-        if (typed(&t, &in))
+        if (moved(&t, &in))
             return text.len;
         at = in.end;
     }

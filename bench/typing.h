@@ -17,25 +17,30 @@ struct frame {
     uint8_t dead;    /* whether a br has been passed in it, kept so too */
 };
 
+/* Apart from the numbers beside it, which a compiler keeps in registers only where nothing beside them is indexed. */
+struct room {
+    uint8_t kinds[STACK_MOST];            /* bottom first, of all frames */
+    struct frame frames[1 + BLOCKS_MOST]; /* the strip itself, then the open blocks */
+};
+
 struct typing {
     const uint8_t *strip;
+    uint8_t *kinds;
+    struct frame *frames;
+    uint16_t *ends; /* if lent, gets the place of each block's `end`, by the place of its first instruction */
     size_t locals;
-    uint8_t kinds[STACK_MOST]; /* bottom first, of all frames */
     size_t depth;
-    struct frame frames[1 + BLOCKS_MOST]; /* the strip itself, then the open blocks */
     size_t blocks;
     size_t floor; /* of the innermost frame */
     int dead;     /* of the innermost frame */
 };
 
 /* Before the first instruction of a strip whose header is good. */
-static inline void begin(struct typing *t, const uint8_t *strip)
+static inline struct typing begin(const uint8_t *strip, struct room *room, uint16_t *ends)
 {
-    t->strip = strip;
-    t->locals = strip[5] + strip[6];
-    t->depth = t->blocks = t->floor = t->dead = 0;
-    t->frames[0].body = 8 + strip[5] + strip[6] + strip[7];
-    t->frames[0].leaves = t->frames[0].carries = strip[7];
+    room->frames[0].body = 8 + strip[5] + strip[6] + strip[7];
+    room->frames[0].leaves = room->frames[0].carries = strip[7];
+    return (struct typing){ strip, room->kinds, room->frames, ends, strip[5] + strip[6], 0, 0, 0, 0 };
 }
 
 static inline const uint8_t *kinds_of(const struct typing *t, const struct frame *f)
@@ -46,12 +51,12 @@ static inline const uint8_t *kinds_of(const struct typing *t, const struct frame
 /* Takes kinds off the stack, if they are on top of it; in dead code those under the known values may be missing. */
 static inline int take(struct typing *t, const uint8_t *kinds, size_t count)
 {
-    const size_t known = t->depth - t->floor;
-    if (known < count) {
+    if (t->depth < t->floor + count) {
         if (!t->dead)
             return 0;
-        kinds += count - known;
-        count = known;
+        const size_t missing = t->floor + count - t->depth;
+        kinds += missing;
+        count -= missing;
     }
     t->depth -= count;
     for (size_t i = 0; i < count; i++)
@@ -60,13 +65,26 @@ static inline int take(struct typing *t, const uint8_t *kinds, size_t count)
     return 1;
 }
 
-/* Puts kinds on the stack. */
-static inline enum code leave(struct typing *t, const uint8_t *kinds, size_t count)
+static inline int take_one(struct typing *t, uint8_t kind)
 {
-    if (STACK_MOST < t->depth + count)
+    if (t->depth == t->floor)
+        return t->dead;
+    return t->kinds[--t->depth] == kind;
+}
+
+static inline enum code leave(struct typing *t, uint8_t kind)
+{
+    if (t->depth == STACK_MOST)
         return DEEP;
-    memcpy(t->kinds + t->depth, kinds, count);
-    t->depth += count;
+    t->kinds[t->depth++] = kind;
+    return DONE;
+}
+
+static inline enum code leave_all(struct typing *t, const uint8_t *kinds, size_t count)
+{
+    for (size_t i = 0; i < count; i++)
+        if (leave(t, kinds[i]))
+            return DEEP;
     return DONE;
 }
 
@@ -86,67 +104,70 @@ static inline enum code open_block(struct typing *t, const struct instruction *i
 }
 
 /* Answers TRAILING for the `end` of the strip itself: what follows it is that. */
-static inline enum code close_block(struct typing *t)
+static inline enum code close_block(struct typing *t, const struct instruction *in)
 {
     const struct frame *f = &t->frames[t->blocks];
     if (!take(t, kinds_of(t, f), f->leaves) || t->depth != t->floor)
         return RESULT;
     if (t->blocks == 0)
         return TRAILING;
+    if (t->ends)
+        t->ends[f->body] = in->end - 1;
     t->blocks--;
     t->floor = t->frames[t->blocks].floor;
     t->dead = t->frames[t->blocks].dead;
-    return leave(t, kinds_of(t, f), f->leaves);
+    return leave_all(t, kinds_of(t, f), f->leaves);
 }
 
 /* What br_if takes under its condition stays there; nothing known stays after br. */
 static inline enum code branch(struct typing *t, const struct instruction *in)
 {
-    static const uint8_t condition = I32;
     if (t->blocks < in->index)
         return LABEL;
     const struct frame *to = &t->frames[t->blocks - in->index];
-    if ((in->op == BR_IF && !take(t, &condition, 1)) || !take(t, kinds_of(t, to), to->carries))
+    if ((in->op == BR_IF && !take_one(t, I32)) || !take(t, kinds_of(t, to), to->carries))
         return OPERAND;
     if (in->op == BR_IF)
-        return leave(t, kinds_of(t, to), to->carries);
+        return leave_all(t, kinds_of(t, to), to->carries);
     t->depth = t->floor;
     t->dead = 1;
     return DONE;
 }
 
-/* One instruction: answers DONE, a code whose place is the instruction, or TRAILING as above. */
-static inline enum code typed(struct typing *t, const struct instruction *in)
+/* One instruction: answers DONE, a code whose place is the instruction, or TRAILING as above. Version 1 has no blocks, and where the
+   compiler knows the version it asks nothing about them. */
+static inline enum code typed(int version, struct typing *t, const struct instruction *in)
 {
     switch (in->op) {
     case BLOCK:
     case LOOP:
-        return open_block(t, in);
+        return version < 2 ? OPCODE : open_block(t, in);
     case END:
-        return close_block(t);
+        return close_block(t, in);
     case BR:
     case BR_IF:
-        return branch(t, in);
+        return version < 2 ? OPCODE : branch(t, in);
     case DROP:
         if (t->depth == t->floor)
             return t->dead ? DONE : OPERAND;
         t->depth--;
         return DONE;
     case LOCAL_GET:
+        return t->locals <= in->index ? LOCAL : leave(t, t->strip[8 + in->index]);
     case LOCAL_SET:
     case LOCAL_TEE: {
         if (t->locals <= in->index)
             return LOCAL;
-        const uint8_t *kind = t->strip + 8 + in->index;
-        if (in->op != LOCAL_GET && !take(t, kind, 1))
+        const uint8_t kind = t->strip[8 + in->index];
+        if (!take_one(t, kind))
             return OPERAND;
-        return in->op == LOCAL_SET ? DONE : leave(t, kind, 1);
+        return in->op == LOCAL_SET ? DONE : leave(t, kind);
     }
     default: {
         const struct row *row = &rows[in->op];
         if (!take(t, (const uint8_t *)row->takes, row->taken))
             return OPERAND;
-        return row->leaves[0] ? leave(t, (const uint8_t *)row->leaves, 1) : DONE;
+        return row->leaves[0] ? leave(t, row->leaves[0]) : DONE;
     }
     }
 }
