@@ -1,4 +1,5 @@
-/* The listing of a strip that the check passes (requests C-11 and C-13): a line an instruction, with the kinds known on the stack before it. */
+/* The listing of a strip that the check passes (requests C-11 and C-13): a line an instruction, with the kinds that are known on the
+   stack before it. */
 #include <stdio.h>
 #include <string.h>
 

@@ -29,8 +29,9 @@ static inline uint64_t answer(unsigned code, size_t place, uint32_t steps)
 
 uint64_t plain_check(const uint8_t *strip, size_t strip_len);
 
-/* The check before a run: of each block and loop it writes the place of its `end` where the place of its first instruction says. */
-uint64_t plain_matched(const uint8_t *strip, size_t strip_len, uint16_t ends[FILE_MOST]);
+/* The check before a run: of each block and loop it writes the place of its `end` where the place of its first instruction says, if `ends`
+   is lent: FILE_MOST numbers. */
+uint64_t plain_matched(const uint8_t *strip, size_t strip_len, uint16_t *ends);
 
 uint64_t plain_run(const uint8_t *strip, size_t strip_len, const uint8_t *args, size_t args_len, uint8_t *memory, size_t memory_len,
                    uint8_t *results, size_t results_len, uint32_t budget);

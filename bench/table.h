@@ -7,7 +7,8 @@
 /* An instruction's number: its first byte, or VECTOR + the number after FD. */
 enum {
     BLOCK = 0x02, LOOP = 0x03, END = 0x0B, BR = 0x0C, BR_IF = 0x0D, DROP = 0x1A, LOCAL_GET = 0x20, LOCAL_SET = 0x21, LOCAL_TEE = 0x22,
-    I32_CONST = 0x41, I64_CONST = 0x42, I32_EQZ = 0x45, I32_LT_U = 0x49, I32_ADD = 0x6A, I32_SUB = 0x6B, PREFIX = 0xFD, VECTOR = 0x100, INSTRUCTIONS = 0x200
+    I32_CONST = 0x41, I64_CONST = 0x42, I32_EQZ = 0x45, I32_LT_U = 0x49, I32_ADD = 0x6A, I32_SUB = 0x6B,
+    PREFIX = 0xFD, VECTOR = 0x100, INSTRUCTIONS = 0x200
 };
 
 /* The last three are of version 2: what version 1 lacks is told by them, so that its other rows are asked nothing more. */
