@@ -4,8 +4,9 @@
 
 #include "straight.h"
 
-/* Each loop that ends counts in a local of its own, after the locals that other code works on. */
-enum { COUNTERS = 3, BODY_FULL = STRIP_MOST / 2 };
+/* After the locals that other code works on: each loop that ends counts in a local of its own, and a vector that is to be stored waits
+   in one until its address is there. */
+enum { COUNTERS = 3, RESERVED = COUNTERS + 1, BODY_FULL = STRIP_MOST / 2 };
 
 static struct {
     uint8_t op, type;
@@ -14,17 +15,9 @@ static struct {
 } opened[BLOCKS_MOST + 8];
 static size_t blocks, counting;
 
-/* Something is to be wrong somewhere. */
-static int slipping;
-
-static int slip(void)
+static size_t first_reserved(void)
 {
-    return slipping && !below(24);
-}
-
-static size_t first_counter(void)
-{
-    return head.parameters + head.locals - COUNTERS;
+    return head.parameters + head.locals - RESERVED;
 }
 
 /* The kinds that a branch to a label takes. */
@@ -55,11 +48,15 @@ static void fit(const uint8_t *kinds, size_t count)
         put_const(kinds[same]);
 }
 
-static void open_block(unsigned op)
+static uint8_t some_type(void)
 {
     static const uint8_t good[] = { EMPTY, EMPTY, I32, I64, V128 };
     static const uint8_t bad[] = { 0x00, 0x3F, 0x41, 0x6F, 0x70, 0x7A, 0x7C, 0x7D, 0x80, 0xC0, 0xFF };
-    const uint8_t type = slip() ? bad[below(sizeof bad)] : good[below(sizeof good)];
+    return slip() && !below(4) ? bad[below(sizeof bad)] : good[below(sizeof good)];
+}
+
+static void open_block(unsigned op, uint8_t type)
+{
     put_op(op);
     put(type);
     opened[blocks].op = op;
@@ -100,18 +97,35 @@ static void put_condition(void)
         put_row(I32_EQZ);
         break;
     default:
-        put_local(LOCAL_GET, first_counter() + below(COUNTERS));
-        put_i32(below(4));
+        if (below(2))
+            put_local(LOCAL_GET, first_reserved() + below(COUNTERS));
+        else
+            put_i32(some_number());
+        put_i32(below(2) ? (int32_t)below(4) : (int32_t)some_number());
         put_row(I32_LT_U);
     }
+}
+
+/* The value on top goes to memory, where it is seen after the run. */
+static void put_store(void)
+{
+    const size_t waiting = first_reserved() + COUNTERS;
+    if (body.floor < body.depth && body.kinds[body.depth - 1] != V128)
+        put_row(VECTOR + (body.kinds[body.depth - 1] == I32 ? 0x11 : 0x12));
+    put_local(LOCAL_SET, waiting);
+    put_i32(64 < body.memory_len ? (int32_t)below(body.memory_len - 40) : (int32_t)some_number());
+    put_local(LOCAL_GET, waiting);
+    put_op(VECTOR + 0x0B);
+    put_number(0, 5, below(5));
+    put_number(0, 5, some_offset());
+    took(2);
 }
 
 static void put_branch(unsigned op, size_t label)
 {
     const uint8_t *kinds;
     const size_t count = label_kinds(label, &kinds);
-    if (!slip())
-        offer(kinds, count);
+    offer(kinds, count);
     const int bare = body.dead && body.depth == body.floor && below(2);
     if (op == BR_IF && !bare)
         put_condition();
@@ -161,17 +175,17 @@ static void put_items(unsigned n);
 
 static void put_loop(void)
 {
-    const size_t counter = first_counter() + counting++;
+    const size_t counter = first_reserved() + counting++;
     put_i32(1 + below(4));
     put_local(LOCAL_SET, counter);
-    open_block(LOOP);
+    open_block(LOOP, some_type());
     put_items(below(6));
     if (!below(24))
         put_branch(BR, 0);
     else if (below(4))
         put_turn(counter, 0);
     else { /* from inside a block */
-        open_block(BLOCK);
+        open_block(BLOCK, some_type());
         put_turn(counter, 1);
         put_items(below(3));
         close_block();
@@ -185,19 +199,20 @@ static void put_items(unsigned n)
     for (; n && body.len < BODY_FULL; n--) {
         const unsigned item = below(64);
         if (item < 8 && blocks < BLOCKS_MOST) {
-            open_block(BLOCK);
+            open_block(BLOCK, some_type());
             put_items(below(6));
             close_block();
         } else if (item < 13 && counting < COUNTERS && blocks + 2 <= BLOCKS_MOST)
             put_loop();
         else if (item < 18 && (blocks || !below(8)))
             put_branch(BR_IF, some_label());
-        else if (item < 19 && (blocks || !below(8)))
+        else if (item < 19 && (blocks || !below(8))) {
             put_branch(BR, some_label());
-        else if (item < 21)
-            put_row(VECTOR + 0x0B);
+            n += below(4);
+        } else if (item < 25)
+            put_store();
         else
-            put_some(first_counter());
+            put_some(first_reserved());
     }
 }
 
@@ -208,9 +223,9 @@ static void put_nested(void)
     while (blocks < most) {
         if (!below(3))
             put_const(all_kinds[below(3)]);
-        open_block(below(8) ? BLOCK : LOOP);
+        open_block(below(8) ? BLOCK : LOOP, some_type());
     }
-    put_row(VECTOR + 0x0B);
+    put_store();
     const size_t label = some_label();
     if (below(2))
         put_branch(BR, label);
@@ -219,18 +234,24 @@ static void put_nested(void)
     while (blocks) {
         put_items(below(3));
         close_block();
+        if (!below(4))
+            put_store();
     }
 }
 
 /* A stack that is full or nearly so, and on it a block whose `end` is in dead code. */
 static void put_full(void)
 {
-    while (body.depth < STACK_MOST - below(3))
+    for (size_t most = STACK_MOST - below(2); body.depth < most;)
         put_const(all_kinds[below(3)]);
-    open_block(BLOCK);
-    put_branch(BR, below(2));
-    if (below(2))
-        put_branch(BR_IF, below(2));
+    open_block(BLOCK, EMPTY);
+    open_block(BLOCK, some_type());
+    put_branch(BR, 1);
+    if (!below(4))
+        put_branch(BR_IF, below(3));
+    if (!below(4))
+        put_local(LOCAL_TEE, first_reserved() + below(RESERVED));
+    close_block();
     close_block();
     drop_to(below(8));
 }
@@ -240,12 +261,13 @@ static void make_blocks(struct strip *s, size_t memory_len, int slips)
 {
     begin(2, memory_len);
     memset(head.local_kinds + head.parameters + head.locals, I32, COUNTERS);
-    head.locals += COUNTERS;
+    head.locals += RESERVED;
+    head.local_kinds[head.parameters + head.locals - 1] = V128;
     head.results = below(RESULTS_MOST + 1);
     for (int i = 0; i < head.results; i++)
         head.result_kinds[i] = all_kinds[below(3)];
     body.calm = 1;
-    slipping = slips;
+    body.slips = slips;
     blocks = counting = 0;
     put_items(below(4));
     switch (below(8)) {

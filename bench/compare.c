@@ -172,7 +172,7 @@ static void spoil(struct strip *s)
 {
     for (unsigned n = 1 + below(3); n && s->len; n--) {
         const size_t at = some_place(s);
-        switch (below(12)) {
+        switch (below(14)) {
         case 0:
             put_in(s, at, chance() >> 56);
             break;
@@ -200,6 +200,10 @@ static void spoil(struct strip *s)
         case 7:
             put_in(s, at, chance() >> 56);
             put_in(s, at, PREFIX);
+            break;
+        case 8: /* the other version */
+            if (8 <= s->len && !below(4))
+                s->bytes[3] ^= 3;
             break;
         default:
             s->bytes[at] = below(2) ? below(18) : chance() >> 56;

@@ -34,8 +34,15 @@ static struct {
     unsigned used[BODY_MOST];
     size_t count;
     size_t memory_len;
-    int calm; /* few accesses out of bounds */
+    int calm;  /* few accesses out of bounds */
+    int slips; /* something is to be wrong somewhere */
 } body;
+
+/* In dead code more often: much passes there that would not elsewhere. */
+static int slip(void)
+{
+    return body.slips && !below(body.dead ? 4 : 32);
+}
 
 static void put(uint8_t b)
 {
@@ -112,6 +119,8 @@ static void offer(const void *kinds, size_t count)
 {
     const uint8_t *wanted = kinds;
     const size_t known = body.depth - body.floor, there = known < count ? known : count;
+    if (slip())
+        return;
     if (!memcmp(body.kinds + body.depth - there, wanted + count - there, there) && (there == count || (body.dead && below(4))))
         return;
     for (size_t i = 0; i < count; i++)
@@ -207,7 +216,7 @@ static void begin(uint8_t version, size_t memory_len)
     for (int i = 0; i < head.parameters + head.locals; i++)
         head.local_kinds[i] = all_kinds[below(3)];
     body.len = body.depth = body.floor = body.count = 0;
-    body.dead = body.calm = 0;
+    body.dead = body.calm = body.slips = 0;
     body.memory_len = memory_len;
 }
 
