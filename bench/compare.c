@@ -172,7 +172,7 @@ static void spoil(struct strip *s)
 {
     for (unsigned n = 1 + below(3); n && s->len; n--) {
         const size_t at = some_place(s);
-        switch (below(14)) {
+        switch (below(16)) {
         case 0:
             put_in(s, at, chance() >> 56);
             break;
@@ -205,8 +205,15 @@ static void spoil(struct strip *s)
             if (8 <= s->len && !below(4))
                 s->bytes[3] ^= 3;
             break;
-        default:
-            s->bytes[at] = below(2) ? below(18) : chance() >> 56;
+        case 9: /* a lane, a kind, another label */
+            s->bytes[at] = below(4) ? below(18) : all_kinds[below(3)];
+            break;
+        default: {
+            static const uint8_t firsts[] = {
+                BLOCK, LOOP, END, BR, BR_IF, DROP, LOCAL_GET, LOCAL_SET, LOCAL_TEE, I32_CONST, I64_CONST, I32_EQZ, I32_LT_U, I32_ADD, PREFIX
+            };
+            s->bytes[at] = below(4) ? firsts[below(sizeof firsts)] : chance() >> 56;
+        }
         }
     }
 }
@@ -262,12 +269,12 @@ static void note(const struct strip *s, uint64_t run)
     whole.fewer += code == DONE && steps < instructions;
 }
 
+/* Of the version, if there is one. */
 static const struct strip *some_official(uint8_t version)
 {
-    const struct strip *s;
-    do
+    const struct strip *s = &official[below(officials)];
+    for (int tries = 100; tries && s->bytes[3] != version; tries--)
         s = &official[below(officials)];
-    while (s->bytes[3] != version);
     return s;
 }
 
@@ -278,21 +285,23 @@ static size_t some_length(int calm)
     return !below(200) ? MEMORY_MOST : i < sizeof sizes / sizeof *sizes ? sizes[i] : 1000;
 }
 
+/* Versions by turns: whole strips, strips that slip or are spoilt, official ones spoilt. In version 2 most strips have blocks. */
 static void run_chance(unsigned long n)
 {
     static struct lent x, again;
     static struct strip s;
     for (unsigned long i = 0; i < n; i++) {
         const uint8_t version = 1 + i % 2;
-        const int way = i / 2 % 3, blocks_too = version == 2 && below(8), slips = blocks_too && way == 1 && below(2);
-        x.memory_len = some_length(blocks_too);
-        if (way == 2)
+        const int straight = version == 1 || !below(8), is_whole = i / 2 % 3 == 0, is_official = i / 2 % 3 == 2;
+        const int slips = !is_whole && !straight && below(2);
+        x.memory_len = some_length(!straight);
+        if (is_official)
             s = *some_official(version);
-        else if (blocks_too)
-            make_blocks(&s, x.memory_len, slips);
-        else
+        else if (straight)
             make_straight(&s, version, x.memory_len);
-        if (way && !slips)
+        else
+            make_blocks(&s, x.memory_len, slips);
+        if (is_official || (!is_whole && !slips))
             spoil(&s);
         if (i % 101 == 0)
             list(s.bytes, s.len);
@@ -300,9 +309,9 @@ static void run_chance(unsigned long n)
         copy(&again, &x);
         const uint64_t run = compared(s.bytes, s.len, &x);
         const int done = (run & 0xFF) == DONE;
-        if (way == 0 && blocks_too)
+        if (is_whole && !straight)
             note(&s, run);
-        if (way == 0 && !blocks_too && done)
+        if (is_whole && straight && done)
             for (size_t k = 0; k < body.count; k++)
                 completed[body.used[k]]++;
         if (version == 2 && done) { /* again, with just as many steps as it takes, one less, or any number below */
@@ -319,8 +328,8 @@ static void report(void)
     for (int c = 0; c < 256; c++)
         if (codes[c])
             printf(" %d:%lu", c, codes[c]);
-    printf("\nwith blocks, not spoilt: %lu, of these %lu pass the check, %lu DONE, %lu TRAP, %lu BUDGET\n", whole.made, whole.passed, whole.done,
-           whole.trapped, whole.spent);
+    printf("\nwith blocks, not spoilt: %lu, of these %lu pass the check, %lu DONE, %lu TRAP, %lu BUDGET\n", whole.made, whole.passed,
+           whole.done, whole.trapped, whole.spent);
     printf("of those DONE %lu took more steps than they have instructions, %lu fewer\n", whole.more, whole.fewer);
     unsigned long carried = 0, least = -1;
     for (int op = 0; op < INSTRUCTIONS; op++)
@@ -329,8 +338,7 @@ static void report(void)
             if (completed[op] < least)
                 least = completed[op];
         }
-    printf("each of the %lu instructions of straight code beside `end` completed at least %lu times in runs that ended with DONE\n", carried,
-           least);
+    printf("each of the %lu instructions without blocks completed at least %lu times in straight strips that were DONE\n", carried, least);
 }
 
 int main(int n, char **words)
