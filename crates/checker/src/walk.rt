@@ -41,7 +41,7 @@ pub fn follow(
         locals,
         takes,
         d.entry,
-        d.index,
+        d.immediate,
         kinds,
         blocks,
         state,
