@@ -88,11 +88,11 @@ module _ {s : List ℕ} {p : ℕ} {kinds blocks : List ℕ} {state : State} (w :
               absurd (typed-inner u (reads-once r (its .1) .1 ∙ it .1) (omega (arith, nested-many (w .framed .nested), it .0)))
 
       module _ (other : (eqb (state .nest) 0 && eqb (groupIn (d .entry)) 0) ≡ false) where
-        pub turn-ready : Ready s (getD s 5 0 + getD s 6 0) takes (d .entry) (d .index) kinds blocks (state .depth) (state .nest) (state .floor)
+        pub turn-ready : Ready s (getD s 5 0 + getD s 6 0) takes (d .entry) (d .immediate) kinds blocks (state .depth) (state .nest) (state .floor)
         turn-ready = ready going d is b read other
 
         pub next-step : {kinds′ blocks′ : List ℕ} (state′ : State)
-            → ((c : Code) (i : Instr) (ls rs : List Kind) (fs : List Frame) → Faces s (getD s 5 0 + getD s 6 0) takes (d .entry) (d .index) kinds blocks (state .depth) (state .nest) (state .floor) (state .dead) c i ls rs fs
+            → ((c : Code) (i : Instr) (ls rs : List Kind) (fs : List Frame) → Faces s (getD s 5 0 + getD s 6 0) takes (d .entry) (d .immediate) kinds blocks (state .depth) (state .nest) (state .floor) (state .dead) c i ls rs fs
             → Judges ls rs i c fs kinds′ blocks′ (state′ .depth) (state′ .nest) (state′ .floor) (state′ .dead) (state′ .code))
             → Keeps (state′ .code) (state′ .depth) kinds kinds′ × Keeps (state′ .code) (state′ .nest) blocks blocks′ → length kinds′ ≡ length kinds → length blocks′ ≡ length blocks
             → Steps s p kinds blocks state kinds′ blocks′ state′

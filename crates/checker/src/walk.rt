@@ -30,5 +30,14 @@ pub fn follow(strip: &[u8], at: usize, kinds: &mut [u8], blocks: &mut [u32], sta
     if body::is_last(d.entry, state.nest) {
         return state;
     }
-    turns::turn(strip, locals, takes, d.entry, d.index, kinds, blocks, state)
+    turns::turn(
+        strip,
+        locals,
+        takes,
+        d.entry,
+        d.immediate,
+        kinds,
+        blocks,
+        state,
+    )
 }
