@@ -84,10 +84,10 @@ module _ {rs : List Kind} {kinds blocks : List ℕ} {depth nest floor : ℕ} {de
           framed-top′ = nested-dead (k .around)
 
       by-leaving : {ls : List Kind} {i : Instr} {after : List ℕ} {code d : ℕ} → Leaves (allValues (k .next ∷ k .rest)) (k .top .results) after code d → Judges ls rs i (plain End) (k .top ∷ k .next ∷ k .rest) after blocks d (nest - 1) l e code
-      by-leaving (too-many big) = too-deep (closes h) (subst (λ (x : List Kind). stackLimit < length x) (append-assoc (allValues (k .rest)) (k .next .values) (k .top .results)) big)
+      by-leaving (too-many big) = too-deep (closes (ends h)) (subst (λ (x : List Kind). stackLimit < length x) (append-assoc (allValues (k .rest)) (k .next .values) (k .top .results)) big)
       by-leaving {after = after} {d = d} (left small g) =
           let same = append-assoc (allValues (k .rest)) (k .next .values) (k .top .results) in
-          typed (closes h)
+          typed (closes (ends h))
           (record {
             holds = subst (Holds after d) same g;
             nested = outside;
