@@ -49,16 +49,17 @@ labelled (block {f = f} {g = g} body e o) =
 
 pub live-inhabited : {s : List ℕ} {h : Header} {p : ℕ} {f : Frame} {fs : List Frame} → Reaches s h p (f ∷ fs) → Live (f ∷ fs) → (c : Config) × (c .place ≡ p) × Sound s h c
 live-inhabited {h = h} {p = p} {f = f} {fs = fs} reached live =
-    let n = labelled (all-opened reached) in
-    (record { place = p; state = record { stack = map zeroOf (reverse (f .values)); locals = map zeroOf (locals h); memory = [] }; labels = n .0 },
-    refl,
-    record {
-      frame = f;
-      outer = fs;
-      reached = reached;
-      live = live;
-      fits = record { stacked = zero-kinds (reverse (f .values)); nested = n .1; held = zero-kinds (locals h); stack-range = all-range [] (reverse (f .values)) tt; local-range = all-range [] (locals h) tt; memory-range = λ k. omega arith };
-    })
+    let n = labelled (all-opened reached) in (
+      record { place = p; state = record { stack = map zeroOf (reverse (f .values)); locals = map zeroOf (locals h); memory = [] }; labels = n .0 },
+      refl,
+      record {
+        frame = f;
+        outer = fs;
+        reached = reached;
+        live = live;
+        fits = record { stacked = zero-kinds (reverse (f .values)); nested = n .1; held = zero-kinds (locals h); stack-range = all-range [] (reverse (f .values)) tt; local-range = all-range [] (locals h) tt; memory-range = λ k. omega arith };
+      },
+    )
 
 -- so where a rule is broken in live code, some sound state is stuck
 pub stuck-inhabited : {s : List ℕ} {h : Header} {code p : ℕ} {f : Frame} {fs : List Frame} → Breach s code p → LOCAL ≤ code → (code ≡ TRAILING → ⊥) → Reaches s h p (f ∷ fs)
