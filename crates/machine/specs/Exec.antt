@@ -139,7 +139,7 @@ execVector Bitselect i c = popV128 (c .stack) (λ m st. popV128 st (λ b st. pop
 execVector (Test o) i c = popV128 (c .stack) (λ a st. push c st (I32 (test o a)))
 execVector (Shift o) i c = popI32 (c .stack) (λ n st. popV128 st (λ a st. push c st (V128 (shift o a n))))
 
--- of a strip whose results are of these kinds; blocks and branches are the whole strip's, and by themselves do nothing
+-- of a strip whose results are of these kinds; what blocks and branches do is said of the whole strip (standard), and by itself each is stuck
 abbrev pub exec : List Kind → Code → Instr → State → Outcome
 exec rs (plain p) i c = execPlain rs p i c
 exec rs (control k) i c = stuck

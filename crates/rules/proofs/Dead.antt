@@ -1,5 +1,5 @@
--- Code after a `br` is typed exactly as Core's any-kind stack has it (02, C-13; Core 2.0, 3.3.8, 3.3.9): by what some whole stack lets it do, and no more; and what is known
--- after it is what every such stack leaves. In live code nothing is any.
+-- Code after a `br` is typed exactly as Core's any-kind stack has it (02, C-13; Core 2.0, 3.3.8, 3.3.9): by what some whole stack lets it do, and no more; and
+-- what is known after it is what every such stack leaves. In live code nothing is any.
 use Prim.Native.Nat.{ℕ}
 use mathlib.Core.Path.{_≡_, refl, ap, ap₂, sym, _∙_, subst}
 use mathlib.Core.Bool.{Bool, true, false}
@@ -47,7 +47,9 @@ taken : {f g : Frame} (v ins : List Kind) → Fills f g → g .values ≡ v ++ i
 taken {f} {g} v ins w e = by (split (w .under) (f .values) v ins (sym (ap (λ (x : Frame). x .values) (w .whole)) ∙ e))
   where
     cut : (d : Bool) → f .dead ≡ d → (k : List Kind) → k ++ f .values ≡ ins → w .under ≡ v ++ k → Taken f v ins
-    cut true d k p q = record { below = []; under = v; has = any k d p; left = sym (append-nil v); none-live = λ l. absurd (let z : _≡_ {A = ℕ} 0 1 = cc (l, d) in omega arith) }
+    cut true d k p q =
+        let not-live : f .dead ≡ false → v ≡ [] = λ l. absurd (let z : _≡_ {A = ℕ} 0 1 = cc (l, d) in omega arith) in
+        record { below = []; under = v; has = any k d p; left = sym (append-nil v); none-live = not-live }
     cut false d k p q =
         let both = no-front v k (sym q ∙ w .none-live d) in
         record { below = []; under = []; has = all-known (ap (λ (x : List Kind). x ++ f .values) (sym (both .1)) ∙ p); left = both .0; none-live = λ l. refl }
@@ -203,7 +205,7 @@ dead-taken (each {f = f} w (each {f = f′} {fs = fs} w′ ws)) (end e) =
       fill = each (held (w′ .under) (f′ .values) w′ (ap (λ (x : Frame). x .values) (w′ .whole)) (ap (λ (x : Frame). x .results) (w .whole)) (w′ .none-live)) ws;
     }
 
--- DEAD CODE IS TYPED BY CORE'S ANY-KIND STACK: by what some stack that the frames stand for lets it do, and what it may leave is what the frames after it stand for
+-- DEAD CODE IS TYPED AS CORE HAS IT: by what some stack that the frames stand for lets it do; and what that may leave is what the frames after it stand for
 pub dead-exact : {ls : List Kind} {i : Instr} {c : Code} {fs gs′ : List Frame} → Typable ls i c fs gs′ ↔ Possible ls i c fs gs′
 dead-exact = (λ t. dead-given (t .typed) (t .fill), λ p. dead-taken (p .fill) (p .allowed))
 

@@ -1,5 +1,6 @@
--- Core's validation with no word of dead code (Core 2.0, 3.3.8, 3.3.9): every stack is whole, and after a `br` it is any, of any kinds. It is what frames mean: a dead one stands
--- for every stack that ends in its values, another for its values alone. What the rules pass is this within the limits (proofs/Dead, proofs/Core).
+-- Core's validation with no word of dead code (Core 2.0, 3.3.8, 3.3.9): every stack is whole, and after a `br` it is any. This is what frames mean: a dead one
+-- stands for every stack that ends in its values, another for its values alone. The rules pass what Core does, within the limits: dead-exact of proofs/Dead
+-- for one instruction; core-valid, valid-core of proofs/Core for a strip.
 use Prim.Native.Nat.{ℕ, _+_}
 use mathlib.Core.Path.{_≡_}
 use mathlib.Core.Bool.{true, false}
@@ -64,7 +65,8 @@ pub record Possible (ls : List Kind) (i : Instr) (c : Code) (fs gs′ : List Fra
 -- from the front Core allows it all, up to the place p and to these stacks
 pub data Passes (s : List ℕ) (h : Header) : ℕ → List Frame → Type 0 where
   from-front : Declares s h → Passes s h (length (headerBytes h)) (opened false (h .results) ∷ [])
-  one-more : {p n : ℕ} {i : Instr} {c : Code} {gs gs′ : List Frame} → Passes s h p gs → Reads (h .version) s p i c n → Allows (locals h) i c gs gs′ → Passes s h (p + n) gs′
+  one-more : {p n : ℕ} {i : Instr} {c : Code} {gs gs′ : List Frame} → Passes s h p gs → Reads (h .version) s p i c n → Allows (locals h) i c gs gs′
+      → Passes s h (p + n) gs′
 
 pub record CoreValid (s : List ℕ) : Type 0 where
   pub header : Header

@@ -9,7 +9,7 @@ use lib.ListN.{length}
 use Rattle.card.specs.Card.{DONE}
 use Rattle.limits.specs.Limits.{stackLimit}
 use Rattle.opcode.specs.Kind.{Kind}
-use Rattle.opcode.specs.Table.{ Code, plain, control, vector, Row, carried, float, unassigned}
+use Rattle.opcode.specs.Table.{Code, plain, control, vector, Row, carried, float, unassigned}
 use Rattle.opcode.proofs.Versions.{one-straight}
 use Rattle.instr.specs.declared.Instr.{Instr}
 use Rattle.instr.specs.declared.Decoded.{Decoded}

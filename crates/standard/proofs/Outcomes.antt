@@ -1,10 +1,9 @@
 -- Whatever an instruction comes to: it goes on by `goOn`, traps, ends or is stuck. What is so of these is so of every instruction.
-use Prim.Native.Nat.{ℕ}
+use Prim.Native.Nat.{ℕ, _+_}
 use mathlib.Core.Bool.{Bool, true, false, cond}
 use mathlib.Core.List.{List, [], _∷_, reverse}
 use lib.Dec.{ltb, leb, eqb}
 use lib.ListN.{length, getD}
-use Prim.Native.Nat.{_+_}
 use mir.Syntax.{Width, w8, w16, w32, w64, w128}
 use Rattle.operation.specs.Op.{Op, Load, LoadLane, Store, StoreLane, Const, Shuffle, Splat, ExtractLane, ReplaceLane, Unary, Binary, Bitselect, Test, Shift}
 use Rattle.opcode.specs.Kind.{Kind, kindByte}
