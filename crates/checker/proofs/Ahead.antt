@@ -1,5 +1,5 @@
 -- A strip that keeps every rule: at a place that is reached stands its own `end`, the last, or an instruction after which the next place is reached.
-use Prim.Native.Nat.{ℕ, _+_, _≤_, _<_}
+use Prim.Native.Nat.{ℕ, _+_, _<_}
 use mathlib.Core.Path.{_≡_, refl, sym, ap, subst, _∙_}
 use mathlib.Core.Bool.{Bool}
 use mathlib.Core.List.{List, [], _∷_}
@@ -7,7 +7,6 @@ use mathlib.Core.Logic.{_⊎_, inl, inr}
 use native.Mathlib.Omega.{arith}
 use lib.ListN.{length}
 use Rattle.card.specs.Card.{DONE}
-use Rattle.limits.specs.Limits.{stackLimit, nestLimit}
 use Rattle.opcode.specs.Kind.{Kind}
 use Rattle.opcode.specs.Table.{End, Code, plain}
 use Rattle.instr.specs.declared.Instr.{Instr}

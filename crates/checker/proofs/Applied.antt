@@ -13,7 +13,7 @@ use Rattle.opcode.specs.Kind.{Kind, kindByte}
 use Rattle.opcode.specs.Effect.{_⇒_}
 use Rattle.opcode.specs.Number.{packed}
 use Rattle.opcode.proofs.Effects.{kind-range}
-use Rattle.rules.specs.Typing.{Frame, Has, any}
+use Rattle.rules.specs.Typing.{Frame, Has}
 use Rattle.checker.specs.Walk.{Holds}
 use Rattle.checker.specs.Inner.Stack.{Top, Under, Small, Leaves, too-many, left as left-all, Applies, lacks, over, fits}
 use Rattle.checker.proofs.Held.{held-more}

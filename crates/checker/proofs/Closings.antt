@@ -14,7 +14,7 @@ use Rattle.opcode.specs.Table.{End, plain}
 use Rattle.instr.specs.declared.Instr.{Instr}
 use Rattle.rules.specs.Typing.{Frame, holding, allValues, Has, all-known, closes, Ends, ends}
 use Rattle.rules.proofs.Typings.{has-once}
-use Rattle.checker.specs.Walk.{Holds, word, Nested, block, Framed}
+use Rattle.checker.specs.Walk.{Holds, Nested, Framed}
 use Rattle.checker.specs.Inner.Stack.{Top, Under, under, missing, Leaves, too-many, left}
 use Rattle.checker.specs.Inner.Blocks.{topFirst}
 use Rattle.checker.specs.Inner.Judging.{Judges, no-results, too-deep, typed}

@@ -8,7 +8,6 @@ use lib.Seq.{drop-at, drop-drop}
 use Rattle.card.specs.Card.{DONE}
 use Rattle.card.specs.declared.Answer.{Answer}
 use Rattle.limits.specs.Limits.{resultLimit}
-use Rattle.leb128.specs.Bytes.{bytes}
 use Rattle.opcode.specs.Kind.{kindByte}
 use Rattle.rules.specs.Header.{Header, Declares, locals, kinds}
 use Rattle.rules.specs.Breach.{Says, breach}

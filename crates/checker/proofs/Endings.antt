@@ -17,7 +17,6 @@ use Rattle.rules.specs.Breach.{Breach, result, trailing}
 use Rattle.checker.specs.Inner.Stack.{Top, Under}
 use Rattle.checker.specs.Walk.{strip}
 use Rattle.checker.specs.Inner.Blocks.{topFirst}
-use Rattle.checker.specs.Inner.Judging.{typed}
 use Rattle.checker.specs.Inner.Parts.{AtEnd}
 use Rattle.checker.proofs.Closings.{ends-not, ends-here}
 

@@ -14,7 +14,7 @@ use Rattle.limits.specs.Limits.{fileLimit, stackLimit, nestLimit}
 use Rattle.leb128.specs.Bytes.{bytes}
 use Rattle.opcode.specs.Kind.{Kind}
 use Rattle.opcode.specs.Table.{End, Code, plain, carried}
-use Rattle.opcode.specs.Immediate.{index, long}
+use Rattle.opcode.specs.Immediate.{long}
 use Rattle.opcode.specs.Number.{groupOfCode}
 use Rattle.opcode.specs.Entry.{entryOf, groupIn}
 use Rattle.opcode.proofs.Id.{row-of-id}

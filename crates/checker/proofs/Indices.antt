@@ -16,8 +16,6 @@ use Rattle.instr.specs.declared.Instr.{Instr}
 use Rattle.instr.specs.Layout.{Head, AllowedIn, Allowed, rowIn, kept, keptOf, headOf}
 use Rattle.rules.specs.Typing.{Opens, block-opens, loop-opens}
 use Rattle.rules.specs.Strip.{Reads}
-use Rattle.rules.specs.Breach.{local}
-use Rattle.checker.specs.Walk.{block}
 use Rattle.checker.proofs.Words.{type-some}
 
 pub row-carried : (w : Row) (i : Instr) → Allowed w i → (c : Code) × (w ≡ carried c)

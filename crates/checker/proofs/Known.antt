@@ -1,15 +1,14 @@
 -- What is known at a place has one form in arrays and state: values, words and numbers follow from the frames, and the rest is as it was.
-use Prim.Native.Nat.{ℕ, suc, _+_, _≤_, _<_}
+use Prim.Native.Nat.{ℕ, suc, _+_, _≤_}
 use mathlib.Core.Path.{_≡_, refl, sym, ap, ap₂, subst, _∙_}
 use mathlib.Core.Bool.{Bool}
 use mathlib.Core.List.{List, [], _∷_, _++_}
 use native.Mathlib.Omega.{arith}
 use lib.ListN.{length, getD, take, drop, take-append-drop}
 use lib.Seq.{take-suc}
-use Rattle.limits.specs.Limits.{stackLimit, nestLimit}
-use Rattle.opcode.specs.Kind.{Kind, kindByte}
+use Rattle.opcode.specs.Kind.{Kind}
 use Rattle.rules.specs.Header.{Header}
-use Rattle.rules.specs.Typing.{Frame, allValues}
+use Rattle.rules.specs.Typing.{Frame}
 use Rattle.rules.specs.Strip.{Reaches}
 use Rattle.rules.proofs.Headers.{declares-once}
 use Rattle.rules.proofs.Onward.{declared, reached-once}

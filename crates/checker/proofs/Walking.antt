@@ -1,16 +1,16 @@
 -- One step of the walk: what the check does at a place that it has reached, where it turns nothing away.
 use Prim.Native.Nat.{ℕ, _+_, _^_, _≤_, _<_}
-use mathlib.Core.Path.{_≡_, refl, sym, ap, subst, _∙_}
-use mathlib.Core.Bool.{Bool, true, false, _&&_}
+use mathlib.Core.Path.{_≡_, sym, ap, _∙_}
+use mathlib.Core.Bool.{true, false, _&&_}
 use mathlib.Core.List.{List}
 use native.Mathlib.Omega.{arith}
 use lib.Dec.{eqb}
 use lib.ListN.{length, getD, drop}
 use Rattle.card.specs.Card.{DONE}
-use Rattle.limits.specs.Limits.{stackLimit, nestLimit, resultLimit}
+use Rattle.limits.specs.Limits.{resultLimit}
 use Rattle.leb128.specs.Bytes.{bytes}
 use Rattle.opcode.specs.Kind.{Kind}
-use Rattle.opcode.specs.Table.{End, Code, plain}
+use Rattle.opcode.specs.Table.{Code}
 use Rattle.opcode.specs.Entry.{groupIn}
 use Rattle.instr.specs.declared.Instr.{Instr}
 use Rattle.instr.specs.declared.Decoded.{Decoded}
@@ -20,7 +20,7 @@ use Rattle.instr.specs.Scan.{scanOf}
 use Rattle.instr.proofs.Decodes.{stands-decodes}
 use Rattle.rules.specs.Header.{Header, Declares, locals}
 use Rattle.rules.specs.Typing.{Frame, Types}
-use Rattle.rules.specs.Strip.{Reads, Within, past}
+use Rattle.rules.specs.Strip.{Reads, past}
 use Rattle.rules.proofs.Headers.{decodes-known}
 use Rattle.rules.proofs.Onward.{declared, reads-once, only}
 use Rattle.rules.proofs.Sorts.{typed-inner}

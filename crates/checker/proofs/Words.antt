@@ -11,7 +11,7 @@ use lib.ListN.{length}
 use Rattle.operation.specs.Vector.{number}
 use Rattle.opcode.specs.Kind.{Kind, i32, i64, v128, kindByte}
 use Rattle.opcode.specs.BlockType.{isBlockType, blockResults}
-use Rattle.checker.specs.Walk.{bit, word, block}
+use Rattle.checker.specs.Walk.{bit, word}
 use Rattle.checker.specs.Inner.Blocks.{topFirst}
 
 -- ---- block types

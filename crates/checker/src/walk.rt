@@ -20,13 +20,7 @@ pub fn outset() -> State
 }
 
 // From what is known at a place to what is known after the instruction there. The strip's own `end` leaves it as it is.
-pub fn follow(
-    strip: &[u8],
-    at: usize,
-    kinds: &mut [u8],
-    blocks: &mut [u32],
-    state: State,
-) -> State
+pub fn follow(strip: &[u8], at: usize, kinds: &mut [u8], blocks: &mut [u32], state: State) -> State
     requires { ⌜ Walks (now strip) at (now kinds) (now blocks) state ⌝ }
     ensures { λ r. ⌜ Steps (now (strip .entry)) at (now (kinds .entry)) (now (blocks .entry)) state (now (kinds .exit)) (now (blocks .exit)) r ⌝ }
 {
@@ -36,14 +30,5 @@ pub fn follow(
     if body::is_last(d.entry, state.nest) {
         return state;
     }
-    turns::turn(
-        strip,
-        locals,
-        takes,
-        d.entry,
-        d.immediate,
-        kinds,
-        blocks,
-        state,
-    )
+    turns::turn(strip, locals, takes, d.entry, d.immediate, kinds, blocks, state)
 }

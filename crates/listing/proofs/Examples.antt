@@ -1,7 +1,7 @@
 -- Worked lines: C-11's own, kinds bottom first, a signed constant, a lane after the offset; C-13's blocks, branches and dead code; and places aside.
 use mathlib.Core.Path.{_≡_, refl}
 use mathlib.Core.Bool.{false}
-use mathlib.Core.List.{List, [], _∷_, _++_}
+use mathlib.Core.List.{[], _∷_, _++_}
 use Rattle.text.specs.Decimal.{leading, decimal, spelled}
 use Rattle.text.specs.Words.{joined, newline}
 use Rattle.opcode.specs.Ascii.{ascii}

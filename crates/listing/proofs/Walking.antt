@@ -5,7 +5,7 @@ use mathlib.Core.List.{List, _++_}
 use native.Mathlib.Omega.{arith}
 use lib.ListN.{length, drop, getD}
 use lib.Seq.{sets-eq}
-use Rattle.limits.specs.Limits.{fileLimit, stackLimit}
+use Rattle.limits.specs.Limits.{fileLimit}
 use Rattle.opcode.specs.Kind.{Kind}
 use Rattle.opcode.specs.Table.{Code, latest, carried}
 use Rattle.opcode.specs.Number.{idOf, rowOf}
@@ -13,9 +13,8 @@ use Rattle.opcode.specs.Entry.{entryOf}
 use Rattle.opcode.proofs.Id.{row-of-id}
 use Rattle.opcode.proofs.Versions.{row-latest}
 use Rattle.instr.specs.declared.Instr.{Instr}
-use Rattle.instr.specs.declared.Decoded.{Decoded}
 use Rattle.instr.specs.declared.Fetched.{Fetched}
-use Rattle.instr.specs.Layout.{Stands, found, rowIn}
+use Rattle.instr.specs.Layout.{found, rowIn}
 use Rattle.instr.specs.Decode.{decodeIn}
 use Rattle.instr.specs.Fetch.{fetchOf}
 use Rattle.instr.proofs.Decodes.{stands-decodes}
@@ -26,7 +25,7 @@ use Rattle.rules.specs.Typing.{allValues}
 use Rattle.rules.specs.Strip.{Reads}
 use Rattle.rules.proofs.Headers.{decodes-known}
 use Rattle.rules.proofs.Strips.{header-counts}
-use Rattle.rules.proofs.Onward.{declared, reads-of}
+use Rattle.rules.proofs.Onward.{declared}
 use Rattle.checker.specs.declared.turns.State.{State}
 use Rattle.checker.specs.Walk.{Holds, Walks, Steps}
 use Rattle.checker.proofs.Ahead.{ahead, ahead-read}

@@ -1,70 +1,52 @@
+-- The header, and then the instructions.
 use native.Mathlib.Omega.{arith}
 use Rattle.checker.proofs.Counted.{counts-inside, headed-opens, headed-checked}
 use borrow.Author.Needs.{needs}
 use Rattle.checker.proofs.check.Statement.{statement}
 use Rattle.checker.proofs.check.Tie as tie
-use Rattle.checker.proofs.check.Reads as reads
-use Rattle.checker.proofs.check.Lts as lts
-use Rattle.checker.proofs.body.body.Reads as body-reads
-use Rattle.checker.proofs.header.header.Reads as header-reads
 
--- src/lib.rt:17:9
 header-requires : tie.Need-header-requires
 header-requires c κs = search needs
 
--- src/lib.rt:19:9
 returns : tie.Need-returns
 returns c = headed-checked (c .before .before .header .ensures) (c .if1 .taken)
 
--- src/lib.rt:21:18
 shared-slice-read-locals : tie.Need-shared-slice-read-locals
 shared-slice-read-locals c = omega (arith, counts-inside (headed-opens (c .before .before .before .header .ensures) (c .before .if1 .left) .counts))
 
--- src/lib.rt:21:18
 cast-locals : tie.Need-cast-locals
 cast-locals c = omega (arith, c .shared-slice-known2 .given 5)
 
--- src/lib.rt:21:38
 shared-slice-read-locals-2 : tie.Need-shared-slice-read-locals-2
 shared-slice-read-locals-2 c = omega (arith, counts-inside (headed-opens (c .before .before .before .before .header .ensures) (c .before .before .if1 .left) .counts))
 
--- src/lib.rt:21:38
 cast-locals-2 : tie.Need-cast-locals-2
 cast-locals-2 c = omega (arith, c .shared-slice-known3 .given 6)
 
--- src/lib.rt:21:18
 add-locals : tie.Need-add-locals
 add-locals c = omega (arith, c .shared-slice-known3 .given 5, c .shared-slice-known3 .given 6)
 
--- src/lib.rt:22:19
 shared-slice-read-results : tie.Need-shared-slice-read-results
 shared-slice-read-results c = omega (arith, counts-inside (headed-opens (c .before .before .before .before .before .header .ensures) (c .before .before .before .if1 .left) .counts))
 
--- src/lib.rt:22:19
 cast-results : tie.Need-cast-results
 cast-results c = omega (arith, c .shared-slice-known4 .given 7)
 
--- src/lib.rt:23:19
 shared-slice-read-version : tie.Need-shared-slice-read-version
 shared-slice-read-version c = omega (arith, counts-inside (headed-opens (c .before .before .before .before .before .before .header .ensures) (c .before .before .before .before .if1 .left) .counts))
 
--- src/lib.rt:23:19
 cast-version : tie.Need-cast-version
 cast-version c = omega (arith, c .shared-slice-known5 .given 3)
 
--- src/lib.rt:24:32
 add-body : tie.Need-add-body
 add-body c = omega (arith, c .shared-slice-known5 .given 5, c .shared-slice-known5 .given 6)
 
--- src/lib.rt:24:32
 add-body-2 : tie.Need-add-body-2
 add-body-2 c = omega (arith, c .shared-slice-known5 .given 5, c .shared-slice-known5 .given 6, c .shared-slice-known5 .given 7)
 
--- src/lib.rt:24:5
 body-requires : tie.Need-body-requires
 body-requires c κs = headed-opens (c .before .before .before .before .before .before .header .ensures) (c .before .before .before .before .if1 .left)
 
--- src/lib.rt:14:1
 returns-2 : tie.Need-returns-2
 returns-2 c = search needs
 

@@ -1,52 +1,38 @@
+-- The line, and then the step.
 use mathlib.Core.Path.{refl}
 use native.Mathlib.Omega.{arith}
 use Rattle.listing.proofs.Walking.{counts-inside, inside, shows, walked}
 use borrow.Author.Needs.{needs}
 use Rattle.listing.proofs.next_line.Statement.{statement}
 use Rattle.listing.proofs.next_line.Tie as tie
-use Rattle.listing.proofs.next_line.Reads as reads
-use Rattle.listing.proofs.next_line.Lts as lts
-use Rattle.checker.proofs.follow.Reads as follow-reads
-use Rattle.instr.proofs.fetch.Reads as fetch-reads
-use Rattle.listing.proofs.line.line.Reads as line-reads
 
--- src/lib.rt:105:26
 shared-slice-read-fetch : tie.Need-shared-slice-read-fetch
 shared-slice-read-fetch c = omega (arith, counts-inside (c .before .before .before .before .before .pre .0))
 
--- src/lib.rt:105:26
 cast-fetch : tie.Need-cast-fetch
 cast-fetch c = omega (arith, c .before .before .before .before .shared-slice-known .given 3 .fits)
 
--- src/lib.rt:105:9
 fetch-requires : tie.Need-fetch-requires
 fetch-requires c κs = search needs
 
--- src/lib.rt:108:9
 line-requires : tie.Need-line-requires
 line-requires c κs = shows (c .before .before .before .before .before .before .before .before .before .before .pre .0) (c .before .before .before .before .fetch .ensures) (c .before .before .before .before .before .before .before .before .before .before .pre .1)
 
--- src/lib.rt:109:16
 add-next : tie.Need-add-next
 add-next c = omega (arith, inside (c .before .before .before .before .before .before .before .before .before .before .before .before .before .before .pre .0) (c .before .before .before .before .before .before .before .before .fetch .ensures))
 
--- src/lib.rt:110:9
 follow-requires : tie.Need-follow-requires
 follow-requires c κs = search needs
 
--- src/lib.rt:94:1
 same-length : tie.Need-same-length
 same-length c = search needs
 
--- src/lib.rt:94:1
 same-length-2 : tie.Need-same-length-2
 same-length-2 c = search needs
 
--- src/lib.rt:94:1
 same-length-3 : tie.Need-same-length-3
 same-length-3 c = search needs
 
--- src/lib.rt:94:1
 returns : tie.Need-returns
 returns c = walked (c .before .before .before .before .follow .ensures) (c .before .before .before .before .before .before .before .before .before .before .before .before .before .before .before .fetch .ensures) (c .before .before .before .before .before .before .before .before .before .before .before .before .before .before .before .before .before .before .before .before .before .pre .1) (c .before .before .before .before .before .before .before .before .before .before .line .ensures) refl
 

@@ -1,10 +1,8 @@
+-- The highest byte of a word.
 use Rattle.checker.proofs.Words.{word-dead}
 use Rattle.checker.proofs.blocks.dead_in.Statement.{statement}
 use Rattle.checker.proofs.blocks.dead_in.Tie as tie
-use Rattle.checker.proofs.blocks.dead_in.Reads as reads
-use Rattle.checker.proofs.blocks.dead_in.Lts as lts
 
--- src/blocks.rt:38:1
 returns : tie.Need-returns
 returns c = λ floor type loop dead lf lt e. word-dead floor type loop dead lf lt e
 

@@ -1,10 +1,8 @@
+-- The third byte of a word.
 use Rattle.checker.proofs.Words.{word-loop}
 use Rattle.checker.proofs.blocks.loop_in.Statement.{statement}
 use Rattle.checker.proofs.blocks.loop_in.Tie as tie
-use Rattle.checker.proofs.blocks.loop_in.Reads as reads
-use Rattle.checker.proofs.blocks.loop_in.Lts as lts
 
--- src/blocks.rt:32:1
 returns : tie.Need-returns
 returns c = λ floor type loop dead lf lt e. word-loop floor type loop dead lf lt e
 

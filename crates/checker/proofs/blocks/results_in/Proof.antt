@@ -1,13 +1,11 @@
+-- The second byte of a word is the type.
 use mathlib.Core.Path.{sym, _∙_}
 use native.Mathlib.Omega.{arith}
 use Rattle.checker.proofs.Words.{word-type, type-small, type-none, type-one}
 use borrow.Author.Needs.{needs}
 use Rattle.checker.proofs.blocks.results_in.Statement.{statement}
 use Rattle.checker.proofs.blocks.results_in.Tie as tie
-use Rattle.checker.proofs.blocks.results_in.Reads as reads
-use Rattle.checker.proofs.blocks.results_in.Lts as lts
 
--- src/blocks.rt:50:9
 returns : tie.Need-returns
 returns c = (
   omega arith,
@@ -16,11 +14,9 @@ returns c = (
       type-none type is (sym t ∙ c .if1 .taken),
 )
 
--- src/blocks.rt:52:5
 cast-result : tie.Need-cast-result
 cast-result c = search needs
 
--- src/blocks.rt:45:1
 returns-2 : tie.Need-returns-2
 returns-2 c = (
   omega arith,

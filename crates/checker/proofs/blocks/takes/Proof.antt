@@ -1,3 +1,4 @@
+-- The strip's results, none of a loop, or those of the block's type.
 use mathlib.Core.Path.{sym, _∙_}
 use native.Mathlib.Omega.{arith}
 use Rattle.checker.proofs.Words.{type-small}
@@ -5,36 +6,25 @@ use Rattle.checker.proofs.Nests.{label-strip, label-block, takes-none, 
 use borrow.Author.Needs.{needs}
 use Rattle.checker.proofs.blocks.takes.Statement.{statement}
 use Rattle.checker.proofs.blocks.takes.Tie as tie
-use Rattle.checker.proofs.blocks.takes.Reads as reads
-use Rattle.checker.proofs.blocks.takes.Lts as lts
-use Rattle.checker.proofs.blocks.loop_in.Reads as loop-in-reads
-use Rattle.checker.proofs.blocks.results_in.Reads as results-in-reads
 
--- src/blocks.rt:61:9
 returns : tie.Need-returns
 returns c = (omega (arith, c .before .before .pre .0), λ rs fs floor dead e few w small. at-strip (c .if1 .taken) (label-strip w _ e few))
 
--- src/blocks.rt:63:20
 sub-w : tie.Need-sub-w
 sub-w c = search needs
 
--- src/blocks.rt:63:20
 sub-w-2 : tie.Need-sub-w-2
 sub-w-2 c = search needs
 
--- src/blocks.rt:63:13
 mul-w : tie.Need-mul-w
 mul-w c = search needs
 
--- src/blocks.rt:63:13
 shared-slice-read-w : tie.Need-shared-slice-read-w
 shared-slice-read-w c = search needs
 
--- src/blocks.rt:64:8
 loop-in-requires : tie.Need-loop-in-requires
 loop-in-requires c κs = search needs
 
--- src/blocks.rt:65:9
 returns-2 : tie.Need-returns-2
 returns-2 c = (
   omega arith,
@@ -43,11 +33,9 @@ returns-2 c = (
       takes-none d (sym (c .before .loop-in .ensures (d .floor) (d .type) (d .target .loop) (d .dead) (omega (arith, d .floor-small)) (type-small (d .type) (d .is-type)) (d .word-is)) ∙ c .if2 .taken),
 )
 
--- src/blocks.rt:67:5
 results-in-requires : tie.Need-results-in-requires
 results-in-requires c κs = search needs
 
--- src/blocks.rt:56:1
 returns-3 : tie.Need-returns-3
 returns-3 c = (
   omega (arith, c .results-in .ensures .0),

@@ -1,3 +1,4 @@
+-- A turn is one instruction.
 use borrow.Author.Needs.{needs}
 use Prim.Native.Nat.{_-_}
 use mathlib.Core.Path.{refl, sym, _∙_}
@@ -8,15 +9,6 @@ use Rattle.checker.proofs.Counted.{checked, counts-inside, few-results}
 use Rattle.checker.proofs.Goings.{Going, starts, refuses, moves, at-end, ready, breaks, goes}
 use Rattle.checker.proofs.body.body.Statement.{statement}
 use Rattle.checker.proofs.body.body.Tie as tie
-use Rattle.checker.proofs.body.body.Reads as reads
-use Rattle.checker.proofs.body.body.Lts as lts
-use Rattle.checker.proofs.answer.Reads as answer-reads
-use Rattle.checker.proofs.body.ending.Reads as ending-reads
-use Rattle.checker.proofs.body.is_last.Reads as is-last-reads
-use Rattle.checker.proofs.numbers.top_first.Reads as top-first-reads
-use Rattle.checker.proofs.walk.outset.Reads as outset-reads
-use Rattle.checker.proofs.turns.turn.Reads as turn-reads
-use Rattle.instr.proofs.scan.Reads as scan-reads
 
 abbrev Inv-loop : tie.InvT-loop
 Inv-loop strip version start locals results takes kinds₀ blocks₀ state₀ at₀ kinds blocks state at =
@@ -25,78 +17,60 @@ Inv-loop strip version start locals results takes kinds₀ blocks₀ state₀ at
 abbrev μ-loop : tie.MeasureT-loop
 μ-loop strip version start locals results takes kinds₀ blocks₀ state₀ at₀ kinds blocks state at = length strip - at
 
--- src/body.rt:19:43
 add-top-first : tie.Need-add-top-first Inv-loop μ-loop
 add-top-first c = omega (arith, counts-inside (c .before .pre .counts), c .before .pre .counts .declares .sized)
 
--- src/body.rt:19:9
 top-first-requires : tie.Need-top-first-requires Inv-loop μ-loop
 top-first-requires c κs = (counts-inside (c .before .pre .counts), few-results (c .before .pre .counts))
 
--- src/body.rt:30:5
 outset-requires : tie.Need-outset-requires Inv-loop μ-loop
 outset-requires c κs = search needs
 
 loop-holds : tie.Need-loop-holds Inv-loop μ-loop
 loop-holds c = starts _ _ refl refl (c .before .before .before .pre) (c .before .top-first .ensures) (c .outset .ensures)
 
--- src/body.rt:31:13
 scan-requires : tie.Need-scan-requires Inv-loop μ-loop
 scan-requires c κs = search needs
 
--- src/body.rt:33:13
 answer-requires : tie.Need-answer-requires Inv-loop μ-loop
 answer-requires c κs = search needs
 
--- src/body.rt:33:13
 returns : tie.Need-returns Inv-loop μ-loop
 returns c = checked (c .answer .ensures) (breach (refuses (c .before .before .before .before .loop .inv) (c .before .before .before .scan .result) (c .before .before .before .scan .ensures) (c .before .if1 .taken)))
 
--- src/body.rt:35:12
 is-last-requires : tie.Need-is-last-requires Inv-loop μ-loop
 is-last-requires c κs = search needs
 
--- src/body.rt:36:54
 slice-aggregate-ending : tie.Need-slice-aggregate-ending Inv-loop μ-loop
 slice-aggregate-ending c = search needs
 
--- src/body.rt:36:13
 ending-requires : tie.Need-ending-requires Inv-loop μ-loop
 ending-requires c κs = at-end (c .before .before .before .before .before .before .loop .inv) (c .before .before .before .before .before .scan .result) (c .before .before .before .before .before .scan .ensures) (λ j. c .before .before .before .before .before .before .before .before .before .shared-slice-known .given j .fits) (c .before .before .before .if1 .left) (sym (c .before .before .is-last .ensures) ∙ c .before .if2 .taken)
 
--- src/body.rt:36:13
 returns-2 : tie.Need-returns-2 Inv-loop μ-loop
 returns-2 c = c .ending .ensures
 
--- src/body.rt:44:13
 slice-aggregate-turn : tie.Need-slice-aggregate-turn Inv-loop μ-loop
 slice-aggregate-turn c = search needs
 
--- src/body.rt:45:13
 slice-aggregate-turn-2 : tie.Need-slice-aggregate-turn-2 Inv-loop μ-loop
 slice-aggregate-turn-2 c = search needs
 
--- src/body.rt:38:9
 turn-requires : tie.Need-turn-requires Inv-loop μ-loop
 turn-requires c κs = ready (c .before .before .before .before .before .before .before .loop .inv) (c .before .before .before .before .before .before .scan .result) (c .before .before .before .before .before .before .scan .ensures) (λ j. c .before .before .before .before .before .before .before .before .before .before .shared-slice-known .given j .fits) (c .before .before .before .before .if1 .left) (sym (c .before .before .before .is-last .ensures) ∙ c .before .before .if2 .left)
 
--- src/body.rt:49:13
 answer-requires-2 : tie.Need-answer-requires-2 Inv-loop μ-loop
 answer-requires-2 c κs = search needs
 
--- src/body.rt:49:13
 returns-3 : tie.Need-returns-3 Inv-loop μ-loop
 returns-3 c = checked (c .answer2 .ensures) (breach (breaks (c .before .before .before .before .before .before .before .before .before .before .before .before .before .loop .inv) (c .before .before .before .before .before .before .before .before .before .before .before .before .scan .result) (c .before .before .before .before .before .before .before .before .before .before .before .before .scan .ensures) (λ j. c .before .before .before .before .before .before .before .before .before .before .before .before .before .before .before .before .shared-slice-known .given j .fits) (c .before .before .before .before .before .before .before .before .before .before .if1 .left) (sym (c .before .before .before .before .before .before .before .before .before .is-last .ensures) ∙ c .before .before .before .before .before .before .before .before .if2 .left) (c .before .before .before .before .before .turn .ensures .0) (c .before .if3 .taken)))
 
--- src/body.rt:51:9
 add-at : tie.Need-add-at Inv-loop μ-loop
 add-at c = omega (arith, moves (c .before .before .before .before .before .before .before .before .before .before .before .before .before .loop .inv) (c .before .before .before .before .before .before .before .before .before .before .before .before .scan .result) (c .before .before .before .before .before .before .before .before .before .before .before .before .scan .ensures) (λ j. c .before .before .before .before .before .before .before .before .before .before .before .before .before .before .before .before .shared-slice-known .given j .fits) (c .before .before .before .before .before .before .before .before .before .before .if1 .left))
 
--- src/body.rt:30:5
 loop-less : tie.Need-loop-less Inv-loop μ-loop
 loop-less c = omega (arith, moves (c .before .before .before .before .before .before .before .before .before .before .before .before .before .loop .inv) (c .before .before .before .before .before .before .before .before .before .before .before .before .scan .result) (c .before .before .before .before .before .before .before .before .before .before .before .before .scan .ensures) (λ j. c .before .before .before .before .before .before .before .before .before .before .before .before .before .before .before .before .shared-slice-known .given j .fits) (c .before .before .before .before .before .before .before .before .before .before .if1 .left))
 
--- src/body.rt:30:5
 loop-again : tie.Need-loop-again Inv-loop μ-loop
 loop-again c = goes (c .before .before .before .before .before .before .before .before .before .before .before .before .before .loop .inv) (c .before .before .before .before .before .before .before .before .before .before .before .before .scan .result) (c .before .before .before .before .before .before .before .before .before .before .before .before .scan .ensures) (λ j. c .before .before .before .before .before .before .before .before .before .before .before .before .before .before .before .before .shared-slice-known .given j .fits) (c .before .before .before .before .before .before .before .before .before .before .if1 .left) (sym (c .before .before .before .before .before .before .before .before .before .is-last .ensures) ∙ c .before .before .before .before .before .before .before .before .if2 .left) (c .before .before .before .before .before .turn .ensures .0) (c .before .if3 .left) (search needs) (search needs)
 

@@ -1,3 +1,4 @@
+-- No block is open, and the group is that of `end`.
 use Prim.Native.Nat.{ℕ}
 use mathlib.Core.Path.{sym, ap, _∙_}
 use mathlib.Core.Bool.{Bool, _&&_}
@@ -7,19 +8,13 @@ use Rattle.opcode.specs.Entry.{groupIn}
 use borrow.Author.Needs.{needs}
 use Rattle.checker.proofs.body.is_last.Statement.{statement}
 use Rattle.checker.proofs.body.is_last.Tie as tie
-use Rattle.checker.proofs.body.is_last.Reads as reads
-use Rattle.checker.proofs.body.is_last.Lts as lts
-use Rattle.opcode.proofs.group.Reads as group-reads
 
--- src/body.rt:60:9
 returns : tie.Need-returns
 returns c = sym (ap (λ (x : Bool). x && eqb (groupIn (c .before .args .entry)) 0) (ne-eqb (c .before .args .nest) 0 (c .if1 .taken)))
 
--- src/body.rt:62:5
 group-requires : tie.Need-group-requires
 group-requires c κs = search needs
 
--- src/body.rt:56:1
 returns-2 : tie.Need-returns-2
 returns-2 c = ap (λ (x : ℕ). eqb x 0) (c .group .ensures) ∙ sym (ap (λ (x : Bool). x && eqb (groupIn (c .before .before .args .entry)) 0) (eq-eqb (c .before .before .args .nest) 0 (c .before .if1 .left)))
 

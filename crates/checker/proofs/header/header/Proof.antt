@@ -1,3 +1,4 @@
+-- The header's questions, in their order.
 use Prim.Native.Nat.{ℕ}
 use mathlib.Core.Path.{ap}
 use mathlib.Core.List.{List}
@@ -9,171 +10,130 @@ use Rattle.checker.proofs.Fronts.{headed-broken, marked, fronted, versi
 use borrow.Author.Needs.{needs}
 use Rattle.checker.proofs.header.header.Statement.{statement}
 use Rattle.checker.proofs.header.header.Tie as tie
-use Rattle.checker.proofs.header.header.Reads as reads
-use Rattle.checker.proofs.header.header.Lts as lts
-use Rattle.checker.proofs.answer.Reads as answer-reads
-use Rattle.checker.proofs.header.is_other_version.Reads as is-other-version-reads
-use Rattle.checker.proofs.header.kinds.Reads as kinds-reads
 
--- src/header.rt:16:9
 answer-requires : tie.Need-answer-requires
 answer-requires c κs = search needs
 
--- src/header.rt:16:9
 returns : tie.Need-returns
 returns c = headed-broken (c .answer .ensures) (long (c .before .if1 .taken))
 
--- src/header.rt:19:9
 answer-requires-2 : tie.Need-answer-requires-2
 answer-requires-2 c κs = search needs
 
--- src/header.rt:19:9
 returns-2 : tie.Need-returns-2
 returns-2 c = headed-broken (c .answer2 .ensures) (stub (c .before .if2 .taken))
 
--- src/header.rt:21:8
 shared-slice-read-if3 : tie.Need-shared-slice-read-if3
 shared-slice-read-if3 c = search needs
 
--- src/header.rt:22:9
 answer-requires-3 : tie.Need-answer-requires-3
 answer-requires-3 c κs = search needs
 
--- src/header.rt:22:9
 returns-3 : tie.Need-returns-3
 returns-3 c = let sized : Sized (c .before .before .before .before .before .before .args .strip .now) = record { most = c .before .before .before .before .if1 .left; least = c .before .before .before .if2 .left } in
     headed-broken (c .answer3 .ensures) (unmarked sized (λ rest e. c .before .if3 .taken (ap (λ (x : List ℕ). getD x 0 0) e)))
 
--- src/header.rt:24:8
 shared-slice-read-if4 : tie.Need-shared-slice-read-if4
 shared-slice-read-if4 c = search needs
 
--- src/header.rt:25:9
 answer-requires-4 : tie.Need-answer-requires-4
 answer-requires-4 c κs = search needs
 
--- src/header.rt:25:9
 returns-4 : tie.Need-returns-4
 returns-4 c = let sized : Sized (c .before .before .before .before .before .before .before .before .args .strip .now) = record { most = c .before .before .before .before .before .before .if1 .left; least = c .before .before .before .before .before .if2 .left } in
     headed-broken (c .answer4 .ensures) (unmarked sized (λ rest e. c .before .if4 .taken (ap (λ (x : List ℕ). getD x 1 0) e)))
 
--- src/header.rt:27:8
 shared-slice-read-if5 : tie.Need-shared-slice-read-if5
 shared-slice-read-if5 c = search needs
 
--- src/header.rt:28:9
 answer-requires-5 : tie.Need-answer-requires-5
 answer-requires-5 c κs = search needs
 
--- src/header.rt:28:9
 returns-5 : tie.Need-returns-5
 returns-5 c = let sized : Sized (c .before .before .before .before .before .before .before .before .before .before .args .strip .now) = record { most = c .before .before .before .before .before .before .before .before .if1 .left; least = c .before .before .before .before .before .before .before .if2 .left } in
     headed-broken (c .answer5 .ensures) (unmarked sized (λ rest e. c .before .if5 .taken (ap (λ (x : List ℕ). getD x 2 0) e)))
 
--- src/header.rt:30:25
 shared-slice-read-is-other-version : tie.Need-shared-slice-read-is-other-version
 shared-slice-read-is-other-version c = search needs
 
--- src/header.rt:30:8
 is-other-version-requires : tie.Need-is-other-version-requires
 is-other-version-requires c κs = search needs
 
--- src/header.rt:31:9
 answer-requires-6 : tie.Need-answer-requires-6
 answer-requires-6 c κs = search needs
 
--- src/header.rt:31:9
 returns-6 : tie.Need-returns-6
 returns-6 c = let s = c .before .before .before .before .before .before .before .before .before .before .before .before .before .args .strip .now in
     let sized : Sized s = record { most = c .before .before .before .before .before .before .before .before .before .before .before .if1 .left; least = c .before .before .before .before .before .before .before .before .before .before .if2 .left } in
     headed-broken (c .answer6 .ensures)
     (other-version _ sized (marked s (sized .least) (c .before .before .before .before .before .before .before .before .if3 .left) (c .before .before .before .before .before .before .if4 .left) (c .before .before .before .before .if5 .left)) (version-byte s (sized .least) (c .before .before .before .before .before .before .before .before .if3 .left) (c .before .before .before .before .before .before .if4 .left) (c .before .before .before .before .if5 .left) (inl (c .before .before .is-other-version .ensures .other (c .before .if6 .taken)))))
 
--- src/header.rt:33:8
 shared-slice-read-if7 : tie.Need-shared-slice-read-if7
 shared-slice-read-if7 c = search needs
 
--- src/header.rt:34:9
 answer-requires-7 : tie.Need-answer-requires-7
 answer-requires-7 c κs = search needs
 
--- src/header.rt:34:9
 returns-7 : tie.Need-returns-7
 returns-7 c = let s = c .before .before .before .before .before .before .before .before .before .before .before .before .before .before .before .args .strip .now in
     let sized : Sized s = record { most = c .before .before .before .before .before .before .before .before .before .before .before .before .before .if1 .left; least = c .before .before .before .before .before .before .before .before .before .before .before .before .if2 .left } in
     headed-broken (c .answer7 .ensures)
     (other-version _ sized (marked s (sized .least) (c .before .before .before .before .before .before .before .before .before .before .if3 .left) (c .before .before .before .before .before .before .before .before .if4 .left) (c .before .before .before .before .before .before .if5 .left)) (version-byte s (sized .least) (c .before .before .before .before .before .before .before .before .before .before .if3 .left) (c .before .before .before .before .before .before .before .before .if4 .left) (c .before .before .before .before .before .before .if5 .left) (inr (c .before .if7 .taken))))
 
--- src/header.rt:36:13
 shared-slice-read-p : tie.Need-shared-slice-read-p
 shared-slice-read-p c = search needs
 
--- src/header.rt:36:13
 cast-p : tie.Need-cast-p
 cast-p c = omega (arith, c .shared-slice-known7 .given 5)
 
--- src/header.rt:38:9
 answer-requires-8 : tie.Need-answer-requires-8
 answer-requires-8 c κs = search needs
 
--- src/header.rt:38:9
 returns-8 : tie.Need-returns-8
 returns-8 c = let s = c .before .before .before .before .before .before .before .before .before .before .before .before .before .before .before .before .before .args .strip .now in
     let sized : Sized s = record { most = c .before .before .before .before .before .before .before .before .before .before .before .before .before .before .before .if1 .left; least = c .before .before .before .before .before .before .before .before .before .before .before .before .before .before .if2 .left } in
     headed-broken (c .answer8 .ensures)
     (parameters _ _ _ sized (c .before .before .before .before .before .before .is-other-version .ensures .carried (c .before .before .before .before .before .if6 .left)) (fronted s (sized .least) (c .before .before .before .before .before .before .before .before .before .before .before .before .if3 .left) (c .before .before .before .before .before .before .before .before .before .before .if4 .left) (c .before .before .before .before .before .before .before .before .if5 .left) (c .before .before .before .if7 .left)) (c .before .if8 .taken))
 
--- src/header.rt:40:13
 shared-slice-read-l : tie.Need-shared-slice-read-l
 shared-slice-read-l c = search needs
 
--- src/header.rt:40:13
 cast-l : tie.Need-cast-l
 cast-l c = omega (arith, c .shared-slice-known8 .given 6)
 
--- src/header.rt:42:9
 answer-requires-9 : tie.Need-answer-requires-9
 answer-requires-9 c κs = search needs
 
--- src/header.rt:42:9
 returns-9 : tie.Need-returns-9
 returns-9 c = let s = c .before .before .before .before .before .before .before .before .before .before .before .before .before .before .before .before .before .before .before .args .strip .now in
     let sized : Sized s = record { most = c .before .before .before .before .before .before .before .before .before .before .before .before .before .before .before .before .before .if1 .left; least = c .before .before .before .before .before .before .before .before .before .before .before .before .before .before .before .before .if2 .left } in
     headed-broken (c .answer9 .ensures)
     (further _ _ _ _ sized (c .before .before .before .before .before .before .before .before .is-other-version .ensures .carried (c .before .before .before .before .before .before .before .if6 .left)) (fronted s (sized .least) (c .before .before .before .before .before .before .before .before .before .before .before .before .before .before .if3 .left) (c .before .before .before .before .before .before .before .before .before .before .before .before .if4 .left) (c .before .before .before .before .before .before .before .before .before .before .if5 .left) (c .before .before .before .before .before .if7 .left)) (c .before .before .before .if8 .left) (c .before .if9 .taken))
 
--- src/header.rt:44:13
 shared-slice-read-r : tie.Need-shared-slice-read-r
 shared-slice-read-r c = search needs
 
--- src/header.rt:44:13
 cast-r : tie.Need-cast-r
 cast-r c = omega (arith, c .shared-slice-known9 .given 7)
 
--- src/header.rt:46:9
 answer-requires-10 : tie.Need-answer-requires-10
 answer-requires-10 c κs = search needs
 
--- src/header.rt:46:9
 returns-10 : tie.Need-returns-10
 returns-10 c = let s = c .before .before .before .before .before .before .before .before .before .before .before .before .before .before .before .before .before .before .before .before .before .args .strip .now in
     let sized : Sized s = record { most = c .before .before .before .before .before .before .before .before .before .before .before .before .before .before .before .before .before .before .before .if1 .left; least = c .before .before .before .before .before .before .before .before .before .before .before .before .before .before .before .before .before .before .if2 .left } in
     headed-broken (c .answer10 .ensures)
     (results _ _ _ _ _ sized (c .before .before .before .before .before .before .before .before .before .before .is-other-version .ensures .carried (c .before .before .before .before .before .before .before .before .before .if6 .left)) (fronted s (sized .least) (c .before .before .before .before .before .before .before .before .before .before .before .before .before .before .before .before .if3 .left) (c .before .before .before .before .before .before .before .before .before .before .before .before .before .before .if4 .left) (c .before .before .before .before .before .before .before .before .before .before .before .before .if5 .left) (c .before .before .before .before .before .before .before .if7 .left)) (c .before .before .before .before .before .if8 .left) (c .before .before .before .if9 .left) (c .before .if10 .taken))
 
--- src/header.rt:48:18
 add-kinds : tie.Need-add-kinds
 add-kinds c = search needs
 
--- src/header.rt:48:18
 add-kinds-2 : tie.Need-add-kinds-2
 add-kinds-2 c = search needs
 
--- src/header.rt:48:5
 kinds-requires : tie.Need-kinds-requires
 kinds-requires c κs = search needs
 
--- src/header.rt:12:1
 returns-11 : tie.Need-returns-11
 returns-11 c = let s = c .before .before .before .before .before .before .before .before .before .before .before .before .before .before .before .before .before .before .before .before .before .args .strip .now in
     let sized : Sized s = record { most = c .before .before .before .before .before .before .before .before .before .before .before .before .before .before .before .before .before .before .before .if1 .left; least = c .before .before .before .before .before .before .before .before .before .before .before .before .before .before .before .before .before .before .if2 .left } in

@@ -1,3 +1,4 @@
+-- A byte that is no version's, as the table knows them.
 use mathlib.Core.Path.{sym, _∙_}
 use borrow.Author.Needs.{needs}
 use Rattle.checker.proofs.Fronts.{other-none, other-one}

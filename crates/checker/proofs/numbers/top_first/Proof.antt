@@ -1,3 +1,4 @@
+-- The kinds from the first on, the last read in the lowest byte.
 use borrow.Author.Needs.{needs}
 use Prim.Native.Nat.{ℕ, _+_, _-_, _*_, _%_, _^_}
 use mathlib.Core.Path.{sym, subst}
@@ -5,9 +6,6 @@ use native.Mathlib.Omega.{arith}
 use Rattle.checker.proofs.Digits.{Reading, reads-none, reads-more, reads-all}
 use Rattle.checker.proofs.numbers.top_first.Statement.{statement}
 use Rattle.checker.proofs.numbers.top_first.Tie as tie
-use Rattle.checker.proofs.numbers.top_first.Reads as reads
-use Rattle.checker.proofs.numbers.top_first.Lts as lts
-use Rattle.checker.proofs.numbers.wide.Reads as wide-reads
 
 abbrev Inv-loop : tie.InvT-loop
 Inv-loop strip from n all₀ k₀ all k = Reading strip from n k all
@@ -15,45 +13,35 @@ Inv-loop strip from n all₀ k₀ all k = Reading strip from n k all
 abbrev μ-loop : tie.MeasureT-loop
 μ-loop strip from n all₀ k₀ all k = n - k
 
--- src/numbers.rt:25:5
 loop-holds : tie.Need-loop-holds Inv-loop μ-loop
 loop-holds c = reads-none (c .before .args .strip .now) (c .before .args .from) (c .before .args .n)
 
--- src/numbers.rt:26:15
 mul-all : tie.Need-mul-all Inv-loop μ-loop
 mul-all c = search needs
 
--- src/numbers.rt:26:51
 add-wide : tie.Need-add-wide Inv-loop μ-loop
 add-wide c = omega (arith, c .before .before .before .pre .0, c .loop-test .taken)
 
--- src/numbers.rt:26:45
 shared-slice-read-wide : tie.Need-shared-slice-read-wide Inv-loop μ-loop
 shared-slice-read-wide c = omega (arith, c .before .before .before .before .pre .0, c .before .loop-test .taken)
 
--- src/numbers.rt:26:40
 wide-requires : tie.Need-wide-requires Inv-loop μ-loop
 wide-requires c κs = search needs
 
--- src/numbers.rt:26:15
 add-all : tie.Need-add-all Inv-loop μ-loop
 add-all c = omega (arith, c .wide .ensures, c .before .shared-slice-known2 .given (c .before .before .before .before .before .args .from + c .before .before .before .loop .k) .fits)
 
--- src/numbers.rt:27:9
 add-k : tie.Need-add-k Inv-loop μ-loop
 add-k c = search needs
 
--- src/numbers.rt:25:5
 loop-less : tie.Need-loop-less Inv-loop μ-loop
 loop-less c = search needs
 
--- src/numbers.rt:25:5
 loop-again : tie.Need-loop-again Inv-loop μ-loop
 loop-again c = let a = c .before .before .before .before .before .args in let l = c .before .before .before .loop in
     subst (λ (x : ℕ). Reading (a .strip .now) (a .from) (a .n) (l .k + 1) (l .all % 2 ^ 24 * 256 + x)) (sym (c .wide .ensures))
     (reads-more (a .strip .now) (a .from) (a .n) (l .inv) (c .before .before .before .before .before .pre .1) (c .before .before .loop-test .taken) (c .before .shared-slice-known2 .given (a .from + l .k) .fits))
 
--- src/numbers.rt:19:1
 returns : tie.Need-returns Inv-loop μ-loop
 returns c = (c .before .loop .inv .small, reads-all (c .before .before .before .args .strip .now) (c .before .before .before .args .from) (c .before .before .before .args .n) (c .before .loop .inv) (c .loop-test .left))
 

@@ -1,3 +1,4 @@
+-- Operands missing, none left, no room, or one left.
 use Prim.Native.Nat.{_/_, _^_}
 use mathlib.Core.Path.{refl}
 use native.Mathlib.Omega.{arith}
@@ -6,59 +7,43 @@ use Rattle.checker.proofs.Applied.{low-bytes, applies-lacks, applies-no
 use borrow.Author.Needs.{needs}
 use Rattle.checker.proofs.stack.apply.Statement.{statement}
 use Rattle.checker.proofs.stack.apply.Tie as tie
-use Rattle.checker.proofs.stack.apply.Reads as reads
-use Rattle.checker.proofs.stack.apply.Lts as lts
-use Rattle.checker.proofs.stack.under.Reads as under-reads
 
--- src/stack.rt:81:22
 cast-under : tie.Need-cast-under
 cast-under c = search needs
 
--- src/stack.rt:81:9
 under-requires : tie.Need-under-requires
 under-requires c κs = search needs
 
--- src/stack.rt:83:9
 same-length : tie.Need-same-length
 same-length c = search needs
 
--- src/stack.rt:83:9
 returns : tie.Need-returns
 returns c = ((λ outer ins outs f t small is. applies-lacks small is t (c .before .before .before .before .pre .1) (c .before .under .ensures outer ins f t (low-bytes small is)) (c .if1 .taken)), λ z. refl)
 
--- src/stack.rt:88:18
 cast-result : tie.Need-cast-result
 cast-result c = search needs
 
--- src/stack.rt:90:9
 same-length-2 : tie.Need-same-length-2
 same-length-2 c = search needs
 
--- src/stack.rt:90:9
 returns-2 : tie.Need-returns-2
 returns-2 c = ((λ outer ins outs f t small is. applies-none small is t (c .before .before .before .before .before .pre .1) (c .before .before .under .ensures outer ins f t (low-bytes small is)) (c .before .if1 .left) (c .if2 .taken)), λ z. refl)
 
--- src/stack.rt:96:9
 same-length-3 : tie.Need-same-length-3
 same-length-3 c = search needs
 
--- src/stack.rt:96:9
 returns-3 : tie.Need-returns-3
 returns-3 c = ((λ outer ins outs f t small is. applies-over small is t (c .before .before .before .before .before .before .pre .1) (c .before .before .before .under .ensures outer ins f t (low-bytes small is)) (c .before .if2 .left) (omega (arith, c .if3 .taken))), λ z. refl)
 
--- src/stack.rt:101:5
 slice-write-kinds : tie.Need-slice-write-kinds
 slice-write-kinds c = search needs
 
--- src/stack.rt:104:16
 add-t14 : tie.Need-add-t14
 add-t14 c = search needs
 
--- src/stack.rt:71:1
 same-length-4 : tie.Need-same-length-4
 same-length-4 c = search needs
 
--- src/stack.rt:71:1
 returns-4 : tie.Need-returns-4
 returns-4 c = ((λ outer ins outs f t small is. applies-one small is t (c .before .before .before .before .before .before .pre .1) (c .before .before .before .under .ensures outer ins f t (low-bytes small is)) (c .before .if2 .left) (c .before .before .before .before .before .before .pre .2) (omega (arith, c .before .before .if1 .left, c .if3 .left))), λ z. let start = c .before .before .before .before .before .before in one-set (start .args .kinds .now) (c .before .before .before .under .result) (start .args .effect / 2 ^ 24))
 

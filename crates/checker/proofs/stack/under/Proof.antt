@@ -1,10 +1,9 @@
+-- A turn passes one operand.
 use borrow.Author.Needs.{needs}
 use native.Mathlib.Omega.{arith}
 use Rattle.checker.proofs.Operands.{Popping, pops, pops-on, any-there, none-there, other-there, all-popped}
 use Rattle.checker.proofs.stack.under.Statement.{statement}
 use Rattle.checker.proofs.stack.under.Tie as tie
-use Rattle.checker.proofs.stack.under.Reads as reads
-use Rattle.checker.proofs.stack.under.Lts as lts
 
 abbrev Inv-loop : tie.InvT-loop
 Inv-loop operands kinds depth floor dead left₀ base₀ left base = Popping operands kinds depth floor dead left base
@@ -12,55 +11,42 @@ Inv-loop operands kinds depth floor dead left₀ base₀ left base = Popping ope
 abbrev μ-loop : tie.MeasureT-loop
 μ-loop operands kinds depth floor dead left₀ base₀ left base = base
 
--- src/stack.rt:30:5
 loop-holds : tie.Need-loop-holds Inv-loop μ-loop
 loop-holds c = let a = c .args in pops (a .operands) (a .kinds .now) (a .depth) (a .floor) (a .dead) (c .pre .0)
 
--- src/stack.rt:33:17
 returns : tie.Need-returns Inv-loop μ-loop
 returns c = λ outer ins f t e. any-there (c .before .before .before .loop .inv) outer ins f t e (c .before .before .loop-test .taken) (c .before .if1 .taken) (c .if2 .taken)
 
--- src/stack.rt:35:20
 add-result : tie.Need-add-result Inv-loop μ-loop
 add-result c = search needs
 
--- src/stack.rt:35:13
 returns-2 : tie.Need-returns-2 Inv-loop μ-loop
 returns-2 c = λ outer ins f t e. none-there (c .before .before .before .loop .inv) outer ins f t e (c .before .before .loop-test .taken) (c .before .if1 .taken) (c .if2 .left) 65 (omega arith)
 
--- src/stack.rt:37:18
 sub-if3 : tie.Need-sub-if3 Inv-loop μ-loop
 sub-if3 c = omega (arith, c .before .before .loop .inv .least, c .if1 .left)
 
--- src/stack.rt:37:12
 shared-slice-read-if3 : tie.Need-shared-slice-read-if3 Inv-loop μ-loop
 shared-slice-read-if3 c = omega (arith, c .before .before .before .loop .inv .least, c .before .before .before .loop .inv .most, c .before .if1 .left, c .before .before .before .before .pre .1)
 
--- src/stack.rt:37:31
 cast-if3 : tie.Need-cast-if3 Inv-loop μ-loop
 cast-if3 c = search needs
 
--- src/stack.rt:38:20
 add-result-2 : tie.Need-add-result-2 Inv-loop μ-loop
 add-result-2 c = search needs
 
--- src/stack.rt:38:13
 returns-3 : tie.Need-returns-3 Inv-loop μ-loop
 returns-3 c = λ outer ins f t e. other-there (c .before .before .before .before .loop .inv) outer ins f t e (c .before .before .before .loop-test .taken) (c .before .before .if1 .left) (c .if3 .taken) 65 (omega arith)
 
--- src/stack.rt:41:9
 sub-base : tie.Need-sub-base Inv-loop μ-loop
 sub-base c = omega (arith, c .before .before .before .before .loop .inv .least, c .before .before .if1 .left)
 
--- src/stack.rt:30:5
 loop-less : tie.Need-loop-less Inv-loop μ-loop
 loop-less c = omega (arith, c .before .before .before .before .loop .inv .least, c .before .before .if1 .left)
 
--- src/stack.rt:30:5
 loop-again : tie.Need-loop-again Inv-loop μ-loop
 loop-again c = pops-on (c .before .before .before .before .loop .inv) (c .before .before .before .loop-test .taken) (c .before .before .if1 .left) (c .if3 .left)
 
--- src/stack.rt:24:1
 returns-4 : tie.Need-returns-4 Inv-loop μ-loop
 returns-4 c = λ outer ins f t e. all-popped (c .before .loop .inv) outer ins f t e (c .loop-test .left)
 

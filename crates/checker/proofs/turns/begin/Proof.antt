@@ -1,3 +1,4 @@
+-- No room for a block more, or one more word.
 use Prim.Native.Nat.{ℕ}
 use mathlib.Core.Path.{_≡_, refl, sym, subst}
 use mathlib.Core.Bool.{true}
@@ -9,44 +10,32 @@ use Rattle.checker.proofs.Beginnings.{begins-none, begins}
 use borrow.Author.Needs.{needs}
 use Rattle.checker.proofs.turns.begin.Statement.{statement}
 use Rattle.checker.proofs.turns.begin.Tie as tie
-use Rattle.checker.proofs.turns.begin.Reads as reads
-use Rattle.checker.proofs.turns.begin.Lts as lts
-use Rattle.checker.proofs.blocks.word_of.Reads as word-of-reads
-use Rattle.checker.proofs.turns.refused.Reads as refused-reads
 
--- src/turns.rt:50:9
 refused-requires : tie.Need-refused-requires
 refused-requires c κs = search needs
 
--- src/turns.rt:50:9
 returns : tie.Need-returns
 returns c = ((λ i ls rs fs kinds e is w. as-coded (c .refused .ensures) (begins-none (c .before .before .before .args .looped) w (c .before .if1 .taken))), λ z. refl)
 
--- src/turns.rt:52:17
 word-of-requires : tie.Need-word-of-requires
 word-of-requires c κs = search needs
 
--- src/turns.rt:52:5
 mul-blocks : tie.Need-mul-blocks
 mul-blocks c = search needs
 
--- src/turns.rt:52:5
 slice-write-blocks : tie.Need-slice-write-blocks
 slice-write-blocks c = search needs
 
--- src/turns.rt:56:15
 add-t8 : tie.Need-add-t8
 add-t8 c = search needs
 
--- src/turns.rt:44:1
 same-length : tie.Need-same-length
 same-length c = search needs
 
--- src/turns.rt:44:1
 returns-2 : tie.Need-returns-2
 returns-2 c = (
   (λ i ls rs fs kinds e is w.
-    begins (c .before .before .before .args .looped) (c .before .before .before .args .block) (c .word-of .result) (omega (arith, c .before .before .before .pre .2, c .before .if1 .left)) (c .before .before .before .pre .3) (c .word-of .ensures) (subst (λ (x : ℕ). isBlockType x ≡ true) (sym e) is) (sym e) w),
+      begins (c .before .before .before .args .looped) (c .before .before .before .args .block) (c .word-of .result) (omega (arith, c .before .before .before .pre .2, c .before .if1 .left)) (c .before .before .before .pre .3) (c .word-of .ensures) (subst (λ (x : ℕ). isBlockType x ≡ true) (sym e) is) (sym e) w),
   λ z. let start = c .before .before .before in one-set (start .args .blocks .now) (start .args .state .nest) (c .word-of .result),
 )
 

@@ -1,3 +1,4 @@
+-- Other results, or they are left on what is around the block.
 use mathlib.Core.Path.{refl}
 use native.Mathlib.Omega.{arith}
 use Rattle.checker.proofs.Words.{type-small}
@@ -7,81 +8,60 @@ use Rattle.checker.proofs.Closings.{ends-here, results-number, closing-
 use borrow.Author.Needs.{needs}
 use Rattle.checker.proofs.turns.close.Statement.{statement}
 use Rattle.checker.proofs.turns.close.Tie as tie
-use Rattle.checker.proofs.turns.close.Reads as reads
-use Rattle.checker.proofs.turns.close.Lts as lts
-use Rattle.checker.proofs.blocks.dead_in.Reads as dead-in-reads
-use Rattle.checker.proofs.blocks.floor_in.Reads as floor-in-reads
-use Rattle.checker.proofs.blocks.results_in.Reads as results-in-reads
-use Rattle.checker.proofs.stack.leave.Reads as leave-reads
-use Rattle.checker.proofs.stack.under.Reads as under-reads
-use Rattle.checker.proofs.turns.refused.Reads as refused-reads
 
--- src/turns.rt:67:13
 sub-n : tie.Need-sub-n
 sub-n c = search needs
 
--- src/turns.rt:68:13
 mul-w : tie.Need-mul-w
 mul-w c = search needs
 
--- src/turns.rt:68:13
 shared-slice-read-w : tie.Need-shared-slice-read-w
 shared-slice-read-w c = search needs
 
--- src/turns.rt:69:9
 results-in-requires : tie.Need-results-in-requires
 results-in-requires c κs = search needs
 
--- src/turns.rt:71:9
 under-requires : tie.Need-under-requires
 under-requires c κs = search needs
 
--- src/turns.rt:73:9
 refused-requires : tie.Need-refused-requires
 refused-requires c κs = search needs
 
--- src/turns.rt:73:9
 same-length : tie.Need-same-length
 same-length c = search needs
 
--- src/turns.rt:73:9
 returns : tie.Need-returns
 returns c = (
   (λ i ls rs fs w.
-    let k = closing (w .nested) (c .before .before .before .before .before .before .before .before .before .pre .0) in
-    let r = results-number w k (c .before .before .before .before .results-in .result) (c .before .before .before .before .results-in .ensures .1 (k .outer-floor) (k .type) (k .top .loop) (k .outer-dead) (closing-small w k) (k .is-type) (k .word-is)) in
-    as-coded (c .refused .ensures) (closes-not w k (c .before .before .under .ensures _ (k .top .results) (k .top) (closing-top w k) (r .0)) (c .before .if1 .taken))),
+      let k = closing (w .nested) (c .before .before .before .before .before .before .before .before .before .pre .0) in
+      let r = results-number w k (c .before .before .before .before .results-in .result) (c .before .before .before .before .results-in .ensures .1 (k .outer-floor) (k .type) (k .top .loop) (k .outer-dead) (closing-small w k) (k .is-type) (k .word-is)) in
+      as-coded (c .refused .ensures) (closes-not w k (c .before .before .under .ensures _ (k .top .results) (k .top) (closing-top w k) (r .0)) (c .before .if1 .taken))),
   λ z. refl,
 )
 
--- src/turns.rt:75:9
 leave-requires : tie.Need-leave-requires
 leave-requires c κs = search needs
 
--- src/turns.rt:80:16
 floor-in-requires : tie.Need-floor-in-requires
 floor-in-requires c κs = search needs
 
--- src/turns.rt:81:15
 dead-in-requires : tie.Need-dead-in-requires
 dead-in-requires c κs = search needs
 
--- src/turns.rt:63:1
 same-length-2 : tie.Need-same-length-2
 same-length-2 c = search needs
 
--- src/turns.rt:63:1
 returns-2 : tie.Need-returns-2
 returns-2 c = (
   (λ i ls rs fs w.
-    let k = closing (w .nested) (c .before .before .before .before .before .before .before .before .before .before .before .before .before .before .pre .0) in
-    let r = results-number w k (c .before .before .before .before .before .before .before .before .before .results-in .result) (c .before .before .before .before .before .before .before .before .before .results-in .ensures .1 (k .outer-floor) (k .type) (k .top .loop) (k .outer-dead) (closing-small w k) (k .is-type) (k .word-is)) in
-    let u = c .before .before .before .before .before .before .before .under .ensures _ (k .top .results) (k .top) (closing-top w k) (r .0) in
-    let small = type-small (k .type) (k .is-type) in
-    closes-by w k u (ends-here u (c .before .before .before .before .before .before .if1 .left) (omega (arith, c .before .before .before .before .before .before .before .before .before .before .before .before .before .before .pre .2, c .before .before .before .before .before .before .before .before .before .before .before .before .before .before .pre .3)))
-    (c .before .floor-in .ensures (k .outer-floor) (k .type) (k .top .loop) (k .outer-dead) (closing-small w k) small (k .word-is))
-    (c .dead-in .ensures (k .outer-floor) (k .type) (k .top .loop) (k .outer-dead) (closing-small w k) small (k .word-is))
-    (c .before .before .before .before .leave .ensures .0 _ (k .top .results) (closing-held w k) (r .1))),
+      let k = closing (w .nested) (c .before .before .before .before .before .before .before .before .before .before .before .before .before .before .pre .0) in
+      let r = results-number w k (c .before .before .before .before .before .before .before .before .before .results-in .result) (c .before .before .before .before .before .before .before .before .before .results-in .ensures .1 (k .outer-floor) (k .type) (k .top .loop) (k .outer-dead) (closing-small w k) (k .is-type) (k .word-is)) in
+      let u = c .before .before .before .before .before .before .before .under .ensures _ (k .top .results) (k .top) (closing-top w k) (r .0) in
+      let small = type-small (k .type) (k .is-type) in
+      closes-by w k u (ends-here u (c .before .before .before .before .before .before .if1 .left) (omega (arith, c .before .before .before .before .before .before .before .before .before .before .before .before .before .before .pre .2, c .before .before .before .before .before .before .before .before .before .before .before .before .before .before .pre .3)))
+      (c .before .floor-in .ensures (k .outer-floor) (k .type) (k .top .loop) (k .outer-dead) (closing-small w k) small (k .word-is))
+      (c .dead-in .ensures (k .outer-floor) (k .type) (k .top .loop) (k .outer-dead) (closing-small w k) small (k .word-is))
+      (c .before .before .before .before .leave .ensures .0 _ (k .top .results) (closing-held w k) (r .1))),
   c .before .before .before .before .leave .ensures .1,
 )
 

@@ -1,21 +1,16 @@
+-- The innermost block's values change, and nothing else.
 use Rattle.checker.proofs.Same.{as-index}
 use Rattle.checker.proofs.Straights.{straight}
 use borrow.Author.Needs.{needs}
 use Rattle.checker.proofs.turns.straight.Statement.{statement}
 use Rattle.checker.proofs.turns.straight.Tie as tie
-use Rattle.checker.proofs.turns.straight.Reads as reads
-use Rattle.checker.proofs.turns.straight.Lts as lts
-use Rattle.checker.proofs.typing.judge.Reads as judge-reads
 
--- src/turns.rt:155:9
 judge-requires : tie.Need-judge-requires
 judge-requires c κs = search needs
 
--- src/turns.rt:144:1
 same-length : tie.Need-same-length
 same-length c = search needs
 
--- src/turns.rt:144:1
 returns : tie.Need-returns
 returns c = ((λ v i ls rs fs blocks row o e h w. straight o w (λ outer f t. as-index e (c .before .before .judge .ensures .0 v ls outer f row o h t))), c .before .before .judge .ensures .1)
 

@@ -1,3 +1,4 @@
+-- By the signature, by the value on top, or by the local.
 use Prim.Native.Nat.{_+_, _-_}
 use mathlib.Core.Path.{refl, sym, _∙_}
 use native.Mathlib.Omega.{arith}
@@ -7,92 +8,69 @@ use Rattle.checker.proofs.Effects.{effected-signature, effected-none, e
 use borrow.Author.Needs.{needs}
 use Rattle.checker.proofs.typing.effect_of.Statement.{statement}
 use Rattle.checker.proofs.typing.effect_of.Tie as tie
-use Rattle.checker.proofs.typing.effect_of.Reads as reads
-use Rattle.checker.proofs.typing.effect_of.Lts as lts
-use Rattle.opcode.proofs.effect.Reads as effect-reads
-use Rattle.opcode.proofs.group.Reads as group-reads
 
--- src/typing.rt:32:9
 effect-requires : tie.Need-effect-requires
 effect-requires c κs = search needs
 
--- src/typing.rt:34:9
 returns : tie.Need-returns
 returns c = λ v ls outer f row o h t. effected-signature ls (c .before .before .before .before .args .index) v f _ (c .before .effect .ensures ∙ effect-in (carried v) row) (c .if1 .taken)
 
--- src/typing.rt:36:9
 group-requires : tie.Need-group-requires
 group-requires c κs = search needs
 
--- src/typing.rt:40:20
 cast-result : tie.Need-cast-result
 cast-result c = search needs
 
--- src/typing.rt:40:13
 returns-2 : tie.Need-returns-2
 returns-2 c = λ v ls outer f row o h t. effected-none ls (c .before .before .before .before .before .before .before .args .index) f _ t v _ (c .before .before .group .ensures ∙ group-in (carried v) row) (c .before .if2 .taken) (c .if3 .taken) refl
 
--- src/typing.rt:42:22
 sub-result : tie.Need-sub-result
 sub-result c = search needs
 
--- src/typing.rt:42:16
 shared-slice-read-result : tie.Need-shared-slice-read-result
 shared-slice-read-result c = search needs
 
--- src/typing.rt:42:16
 cast-result-2 : tie.Need-cast-result-2
 cast-result-2 c = omega (arith, c .shared-slice-known3 .given (c .before .before .before .before .before .before .before .before .args .depth - 1))
 
--- src/typing.rt:42:9
 returns-3 : tie.Need-returns-3
 returns-3 c = λ v ls outer f row o h t. effected-drop ls (c .before .before .before .before .before .before .before .before .args .index) f _ t v _ (c .before .before .before .group .ensures ∙ group-in (carried v) row) (c .before .before .if2 .taken) (c .before .before .before .before .before .before .before .before .pre .1) (c .before .if3 .left) refl
 
--- src/typing.rt:46:9
 returns-4 : tie.Need-returns-4
 returns-4 c = λ v ls outer f row o h t.
     let names = names-local v _ _ o (c .before .before .before .before .effect .ensures ∙ effect-in (carried v) row) (c .before .before .before .if1 .left) (c .before .before .group .ensures ∙ group-in (carried v) row) (c .before .if2 .left) in
     effected-undeclared ls (c .before .before .before .before .before .before .before .args .index) f _ (c .before .before .before .before .before .before .before .args .strip .now) h v names (c .if4 .taken) refl
 
--- src/typing.rt:48:19
 add-k : tie.Need-add-k
 add-k c = search needs
 
--- src/typing.rt:48:13
 shared-slice-read-k : tie.Need-shared-slice-read-k
 shared-slice-read-k c = search needs
 
--- src/typing.rt:48:13
 cast-k : tie.Need-cast-k
 cast-k c = omega (arith, c .shared-slice-known4 .given (8 + c .before .before .before .before .before .before .before .before .args .index))
 
--- src/typing.rt:50:36
 mul-result : tie.Need-mul-result
 mul-result c = omega (arith, c .before .shared-slice-known4 .given (8 + c .before .before .before .before .before .before .before .before .before .args .index))
 
--- src/typing.rt:52:14
 mul-result-2 : tie.Need-mul-result-2
 mul-result-2 c = omega (arith, c .before .shared-slice-known4 .given (8 + c .before .before .before .before .before .before .before .before .before .args .index))
 
--- src/typing.rt:52:14
 add-result : tie.Need-add-result
 add-result c = omega (arith, c .before .shared-slice-known4 .given (8 + c .before .before .before .before .before .before .before .before .before .args .index))
 
--- src/typing.rt:20:1
 returns-5 : tie.Need-returns-5
 returns-5 c = λ v ls outer f row o h t.
     let group = c .before .before .before .before .group .ensures ∙ group-in (carried v) row in
     let names = names-local v _ _ o (c .before .before .before .before .before .before .effect .ensures ∙ effect-in (carried v) row) (c .before .before .before .before .before .if1 .left) group (c .before .before .before .if2 .left) in
     effected-get ls (c .before .before .before .before .before .before .before .before .before .args .index) f _ (c .before .before .before .before .before .before .before .before .before .args .strip .now) h v names (c .before .before .if4 .left) _ refl (sym group ∙ c .match .keys1) refl
 
--- src/typing.rt:20:1
 returns-6 : tie.Need-returns-6
 returns-6 c = λ v ls outer f row o h t.
     let group = c .before .before .before .before .group .ensures ∙ group-in (carried v) row in
     let names = names-local v _ _ o (c .before .before .before .before .before .before .effect .ensures ∙ effect-in (carried v) row) (c .before .before .before .before .before .if1 .left) group (c .before .before .before .if2 .left) in
     effected-set ls (c .before .before .before .before .before .before .before .before .before .args .index) f _ (c .before .before .before .before .before .before .before .before .before .args .strip .now) h v names (c .before .before .if4 .left) _ refl (sym group ∙ c .match .keys2) refl
 
--- src/typing.rt:20:1
 returns-7 : tie.Need-returns-7
 returns-7 c = λ v ls outer f row o h t.
     let group = c .before .before .before .before .group .ensures ∙ group-in (carried v) row in

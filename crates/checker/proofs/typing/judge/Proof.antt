@@ -1,38 +1,29 @@
+-- An undeclared local, or by what the instruction takes and leaves.
 use mathlib.Core.Path.{refl}
 use Rattle.checker.proofs.Effects.{same-dead, gives-local, gives-applies}
 use borrow.Author.Needs.{needs}
 use Rattle.checker.proofs.typing.judge.Statement.{statement}
 use Rattle.checker.proofs.typing.judge.Tie as tie
-use Rattle.checker.proofs.typing.judge.Reads as reads
-use Rattle.checker.proofs.typing.judge.Lts as lts
-use Rattle.checker.proofs.stack.apply.Reads as apply-reads
-use Rattle.checker.proofs.typing.effect_of.Reads as effect-of-reads
 
--- src/typing.rt:69:9
 effect-of-requires : tie.Need-effect-of-requires
 effect-of-requires c κs = search needs
 
--- src/typing.rt:71:9
 same-length : tie.Need-same-length
 same-length c = search needs
 
--- src/typing.rt:71:9
 returns : tie.Need-returns
 returns c = ((λ v ls outer f row o h t. gives-local (c .before .effect-of .ensures v ls outer f row o h (same-dead t)) (c .if1 .taken)), λ z. refl)
 
--- src/typing.rt:76:5
 apply-requires : tie.Need-apply-requires
 apply-requires c κs = search needs
 
--- src/typing.rt:56:1
 same-length-2 : tie.Need-same-length-2
 same-length-2 c = search needs
 
--- src/typing.rt:56:1
 returns-2 : tie.Need-returns-2
 returns-2 c = (
   (λ v ls outer f row o h t.
-    gives-applies (c .before .before .before .before .before .effect-of .ensures v ls outer f row o h (same-dead t)) (c .before .before .before .before .if1 .left) (λ ins outs small is. c .before .before .apply .ensures .0 outer ins outs f t small is)),
+      gives-applies (c .before .before .before .before .before .effect-of .ensures v ls outer f row o h (same-dead t)) (c .before .before .before .before .if1 .left) (λ ins outs small is. c .before .before .apply .ensures .0 outer ins outs f t small is)),
   c .before .before .apply .ensures .1,
 )
 
