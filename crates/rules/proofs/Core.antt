@@ -17,7 +17,8 @@ use Rattle.rules.specs.Breach.{At, deep, nest}
 use Rattle.rules.specs.Core.{AllFill, none, each, Passes, from-front, one-more, CoreValid, Typable, Allows, PastLimit, too-deep, too-nested}
 use Rattle.rules.proofs.Sorts.{typed-opens}
 use Rattle.rules.proofs.Onward.{reached-within}
-use Rattle.rules.proofs.Dead.{filled, fresh, dead-taken, dead-given, ends-taken, ends-given}
+use Rattle.rules.proofs.Filling.{filled, fresh}
+use Rattle.rules.proofs.Dead.{dead-taken, dead-given, ends-taken, ends-given}
 
 -- ---- what the rules reach, Core does
 

@@ -3,6 +3,7 @@ pub mod Ranks
 pub mod Headers
 pub mod Typings
 pub mod Sorts
+pub mod Filling
 pub mod Dead
 pub mod Onward
 pub mod Events
