@@ -112,6 +112,20 @@ pub record Worded (fs : List Frame) (n w : ℕ) : Type 0 where
   pub is-type : isBlockType type ≡ true
   pub results-are : target .results ≡ blockResults type
 
+worded-outer : {f : Frame} {fs : List Frame} {n w w′ : ℕ} → Worded fs n w → w′ ≡ w → Worded (f ∷ fs) (suc n) w′
+worded-outer d e =
+    record {
+      target = d .target;
+      label = outer (d .label);
+      floor = d .floor;
+      type = d .type;
+      dead = d .dead;
+      floor-small = d .floor-small;
+      word-is = e ∙ d .word-is;
+      is-type = d .is-type;
+      results-are = d .results-are;
+    }
+
 module _ {rs : List Kind} {blocks : List ℕ} where
   pub label-strip : {nest floor : ℕ} {dead : Bool} {fs : List Frame} → Nested rs blocks nest floor dead fs → (takes : ℕ) → topFirst rs ≡ takes → length rs ≤ resultLimit → Labelled fs nest takes
   label-strip (strip {f} l r) takes e few =
@@ -141,18 +155,8 @@ module _ {rs : List Kind} {blocks : List ℕ} where
       under-all : {m : ℕ} {gs : List Frame} (top : Frame) (rest : List Frame) → gs ≡ top ∷ rest → length (allValues rest) ≡ m → m ≤ length (allValues gs)
       under-all top rest e l = omega (arith, l, ap (λ (x : List Frame). length (allValues x)) e, length-append (allValues rest) (top .values))
   label-block (block y {nest} {f = f} {g} {fs} n w t r) small (suc k) h =
-      let d = label-block n (omega (arith, small, length-append (allValues (g ∷ fs)) (f .values))) k (omega arith) in
-      record {
-        target = d .target;
-        label = outer (d .label);
-        floor = d .floor;
-        type = d .type;
-        dead = d .dead;
-        floor-small = d .floor-small;
-        word-is = ap (λ (x : ℕ). getD blocks x 0) (let z : suc nest - suc k - 1 ≡ nest - k - 1 = omega arith in z) ∙ d .word-is;
-        is-type = d .is-type;
-        results-are = d .results-are;
-      }
+      worded-outer (label-block n (omega (arith, small, length-append (allValues (g ∷ fs)) (f .values))) k (omega arith))
+      (ap (λ (x : ℕ). getD blocks x 0) (let z : suc nest - suc k - 1 ≡ nest - k - 1 = omega arith in z))
 
   -- none beyond the strip
   pub no-such : {nest floor : ℕ} {dead : Bool} {fs : List Frame} → Nested rs blocks nest floor dead fs → (n : ℕ) → nest < n → (g : Frame) → Target fs n g → ⊥

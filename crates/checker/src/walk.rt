@@ -19,7 +19,8 @@ pub fn outset() -> State
     }
 }
 
-// From what is known at a place to what is known after the instruction there. The strip's own `end` leaves it as it is.
+// From what is known at a place to what is known after the instruction there, which it reads by itself: of who calls only what the walk keeps
+// is asked. The strip's own `end` leaves it as it is.
 pub fn follow(strip: &[u8], at: usize, kinds: &mut [u8], blocks: &mut [u32], state: State) -> State
     requires { ⌜ Walks (now strip) at (now kinds) (now blocks) state ⌝ }
     ensures { λ r. ⌜ Steps (now (strip .entry)) at (now (kinds .entry)) (now (blocks .entry)) state (now (kinds .exit)) (now (blocks .exit)) r ⌝ }

@@ -64,18 +64,15 @@ module _ {s kinds blocks text : List ℕ} {state : State} {at : ℕ} (p : Follow
       by (inr w) = w
 
   module _ {r : Next} {kinds′ blocks′ text′ : List ℕ} (w : Walked s at kinds blocks state text r kinds′ blocks′ text′) (kept : length text′ ≡ length text) where
-    abbrev pub shown : List ℕ
-    shown = lineOf (w .steps)
-
     -- the line is in the text, from its front on
     pub line-fits : r .len ≤ length text′
-    line-fits = omega (arith, ap length (w .bytes), length-append shown (drop (r .len) text), w .len)
+    line-fits = omega (arith, ap length (w .bytes), length-append (lineOf (w .steps)) (drop (r .len) text), w .len)
 
     pub no-longer : r .len ≤ longest
     no-longer = omega (arith, line-fits, kept, p .room)
 
-    pub line-is : take (r .len) text′ ≡ shown
-    line-is = ap (take (r .len)) (w .bytes) ∙ take-at shown (drop (r .len) text) (r .len) (sym (w .len))
+    pub line-is : take (r .len) text′ ≡ lineOf (w .steps)
+    line-is = ap (take (r .len)) (w .bytes) ∙ take-at (lineOf (w .steps)) (drop (r .len) text) (r .len) (sym (w .len))
 
     pub onward : (at < r .at) × (r .at ≤ length s)
     onward = (omega (arith, w .at, stands-some (w .steps .stands)), omega (arith, w .at, stands-inside (w .steps .stands)))

@@ -22,11 +22,11 @@ use Rattle.checker.specs.Walk.{startOf, outset}
 use Rattle.checker.proofs.Starts.{starts-at}
 use Rattle.listing.specs.Line.{line}
 use Rattle.listing.specs.Listing.{Lines, no-more, one-more, Listing}
-use Rattle.listing.specs.Walk.{longest, Walked}
+use Rattle.listing.specs.Walk.{longest, lineOf, Walked}
 use Rattle.listing.specs.declared.Next.{Next}
 use Rattle.listing.specs.Inner.Pass.{Passed}
 use Rattle.listing.proofs.Lines.{listed}
-use Rattle.listing.proofs.Following.{Follows, follow-begins, shown, no-longer, line-is, onward, follow-on}
+use Rattle.listing.proofs.Following.{Follows, follow-begins, no-longer, line-is, onward, follow-on}
 
 pub record Passing (s out₀ out kinds blocks text : List ℕ) (state : State) (at to : ℕ) : Type 0 where
   pub all : List ℕ
@@ -92,7 +92,7 @@ module _ {s out₀ out kinds blocks text : List ℕ} {state : State} {at to : �
 
   module _ (l : at < length s) {r : Next} {kinds′ blocks′ text′ : List ℕ} (w : Walked s at kinds blocks state text r kinds′ blocks′ text′) (kept : length text′ ≡ length text) where
     abbrev told : List ℕ
-    told = shown (p .follows) l w kept
+    told = lineOf (w .steps)
 
     head : Front s (p .listing .valid .header) at (p .left)
     head = first (p .here) l
