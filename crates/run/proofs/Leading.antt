@@ -6,6 +6,7 @@ use mathlib.Core.List.{List, [], _∷_, _++_, reverse, append-assoc}
 use native.Mathlib.Omega.{arith}
 use lib.Arith.{lt-of-le-ne}
 use lib.ListN.{length, getD, take, drop, length-append, length-map, length-reverse, take-append-drop}
+use Rattle.leb128.specs.Bytes.{bytes}
 use Rattle.limits.specs.Limits.{slot, stackLimit, stackBytes, nestLimit}
 use Rattle.machine.specs.Value.{Value, kindOf, bytesOf}
 use Rattle.machine.specs.Memory.{part}
@@ -16,15 +17,15 @@ use Rattle.rules.specs.Header.{Header}
 use Rattle.rules.specs.Typing.{opened}
 use Rattle.rules.specs.Strip.{Valid}
 use Rattle.rules.proofs.Onward.{declared}
-use Rattle.opcode.specs.Table.{known}
 use Rattle.standard.specs.Closing.{close}
-use Rattle.standard.specs.Inner.{ClosesIn}
 use Rattle.standard.specs.Standard.{Label, Config, going, ended, withStack, along, resume, jump, branch}
 use Rattle.standard.specs.Safety.{Sound, Safe, safe-going, safe-ended}
 use Rattle.standard.proofs.ValueKinds.{fit-kinds}
 use Rattle.standard.proofs.Unwinding.{Left, finds-end}
+use Rattle.closing.specs.Search.{endOf}
+use Rattle.closing.proofs.Exact.{finds}
 use Rattle.run.specs.Inner.Carried.{underAll, wayOf, LOOP, Leads, Led, leads-on, leads-out}
-use Rattle.run.proofs.HeaderBytes.{version-read, result-count, Counts, counts-read}
+use Rattle.run.proofs.HeaderBytes.{result-count, Counts, counts-read}
 use Rattle.run.proofs.Marking.{count-under, rep-under, rep-same, part-bytes, unhalted, unhalted-if, nested-few, targets, out-of, Target, target}
 
 module _ {s : List ℕ} {h : Header} where
@@ -62,9 +63,6 @@ module _ {s : List ℕ} (v : Valid s) {σ : State} {ls : List Label} {index dept
 
   pub below-nest : (index ≡ nest → ⊥) → index < nest
   below-nest ne = lt-of-le-ne target-most ne
-
-  pub version-fits : known (getD s 3 0) ≡ true
-  version-fits = subst (λ (n : ℕ). known n ≡ true) (sym (version-read (declared (v .reached)))) (declared (v .reached) .versioned)
 
   -- ---- out of the strip
 
@@ -164,16 +162,14 @@ module _ {s : List ℕ} (v : Valid s) {σ : State} {ls : List Label} {index dept
         })
 
     -- a block is left
-    module _ (other : getD marks (3 * k + 1) 0 ≡ LOOP → ⊥) (q : ℕ) (found : (p : ℕ) → ClosesIn (getD s 3 0) s (nestLimit - 1 - k) (getD marks (3 * k + 2) 0) p → q ≡ p) where
+    module _ (other : getD marks (3 * k + 1) 0 ≡ LOOP → ⊥) (b : bytes s) (q : ℕ) (found : q ≡ endOf s (nestLimit - 1 - k) (getD marks (3 * k + 2) 0)) where
       to : Left s h (l .body) (opened (T .frame .loop) (T .frame .results)) (T .around) (T .outer)
       to = finds-end v (T .reached)
 
       q-is : q ≡ to .place
       q-is =
-          found (to .place)
-          (subst (λ (b : ℕ). ClosesIn (getD s 3 0) s (nestLimit - 1 - k) b (to .place)) (sym body-is)
-          (subst (λ (n : ℕ). ClosesIn n s (nestLimit - 1 - k) (l .body) (to .place)) (sym (version-read (declared (v .reached))))
-          (to .with-room (nestLimit - 1 - k) (omega (arith, T .frames, rest-many, k-small)))))
+          found ∙ ap (endOf s (nestLimit - 1 - k)) body-is
+          ∙ finds b (to .with-room (nestLimit - 1 - k) (omega (arith, T .frames, rest-many, k-small)))
 
       no-loop : l .loop ≡ false
       no-loop = block-by (l .loop) (length (l .results)) (λ e. other (way-is ∙ e))

@@ -158,7 +158,7 @@ fn branch(
             nest: k + 1,
         };
     }
-    let next = closing::close(strip[3] as u16, strip, body, limits::NEST - 1 - k);
+    let next = closing::close(strip, body, limits::NEST - 1 - k);
     if way == 0 {
         return Next {
             at: next,

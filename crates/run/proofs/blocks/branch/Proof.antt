@@ -1,6 +1,6 @@
 use mathlib.Core.Path.{refl}
 use native.Mathlib.Omega.{arith}
-use Rattle.run.proofs.Leading.{counts, results-there, leaves-strip, below-nest, k-small, k-inside, loops, leaves-bare, deep-enough, leaves-with, version-fits}
+use Rattle.run.proofs.Leading.{counts, results-there, leaves-strip, below-nest, k-small, k-inside, loops, leaves-bare, deep-enough, leaves-with}
 use borrow.Author.Needs.{needs}
 use Rattle.run.proofs.blocks.branch.Statement.{statement}
 use Rattle.run.proofs.blocks.branch.Tie as tie
@@ -79,51 +79,43 @@ shared-slice-read-body c = omega (arith, k-small (c .before .before .before .bef
 
 -- src/blocks.rt:158:19
 add-t24 : tie.Need-add-t24
-add-t24 c = omega (arith, k-small (c .before .before .before .before .before .before .before .pre .valid) (c .before .before .before .before .before .before .before .pre .leads) (c .before .before .before .before .if1 .left) refl, k-inside (c .before .before .before .before .before .before .before .pre .valid) (c .before .before .before .before .before .before .before .pre .leads) (c .before .before .before .before .if1 .left) refl)
+add-t24 c = search needs
 
 -- src/blocks.rt:155:9
 returns-2 : tie.Need-returns-2
 returns-2 c = λ v σ ls locals mem L. loops v L (c .before .before .before .before .if1 .left) refl (c .if2 .taken)
 
--- src/blocks.rt:161:31
-shared-slice-read-close : tie.Need-shared-slice-read-close
-shared-slice-read-close c = omega (arith, counts (c .before .before .before .before .before .before .before .before .pre .valid) (c .before .before .before .before .before .before .before .before .pre .leads))
-
--- src/blocks.rt:161:31
-cast-close : tie.Need-cast-close
-cast-close c = omega (arith, c .shared-slice-known7 .given 3 .fits)
-
--- src/blocks.rt:161:61
+-- src/blocks.rt:161:44
 sub-close : tie.Need-sub-close
-sub-close c = omega (arith, k-small (c .before .before .before .before .before .before .before .before .pre .valid) (c .before .before .before .before .before .before .before .before .pre .leads) (c .before .before .before .before .before .if1 .left) refl, k-inside (c .before .before .before .before .before .before .before .before .pre .valid) (c .before .before .before .before .before .before .before .before .pre .leads) (c .before .before .before .before .before .if1 .left) refl)
+sub-close c = search needs
 
--- src/blocks.rt:161:61
+-- src/blocks.rt:161:44
 sub-close-2 : tie.Need-sub-close-2
-sub-close-2 c = omega (arith, k-small (c .before .before .before .before .before .before .before .before .pre .valid) (c .before .before .before .before .before .before .before .before .pre .leads) (c .before .before .before .before .before .if1 .left) refl, k-inside (c .before .before .before .before .before .before .before .before .pre .valid) (c .before .before .before .before .before .before .before .before .pre .leads) (c .before .before .before .before .before .if1 .left) refl)
+sub-close-2 c = omega (arith, k-small (c .before .before .before .before .before .before .before .pre .valid) (c .before .before .before .before .before .before .before .pre .leads) (c .before .before .before .before .if1 .left) refl, k-inside (c .before .before .before .before .before .before .before .pre .valid) (c .before .before .before .before .before .before .before .pre .leads) (c .before .before .before .before .if1 .left) refl)
 
 -- src/blocks.rt:161:9
 close-requires : tie.Need-close-requires
-close-requires c κs = version-fits (c .before .before .before .before .before .before .before .before .pre .valid) (c .before .before .before .before .before .before .before .before .pre .leads)
+close-requires c κs = search needs
 
 -- src/blocks.rt:163:9
 returns-3 : tie.Need-returns-3
-returns-3 c = λ v σ ls locals mem L. leaves-bare v L (c .before .before .before .before .before .before .before .if1 .left) refl (c .before .before .before .if2 .left) (c .before .close .result) (c .before .close .ensures) (c .if3 .taken)
+returns-3 c = λ v σ ls locals mem L. leaves-bare v L (c .before .before .before .before .before .before .if1 .left) refl (c .before .before .if2 .left) (λ j. c .before .before .before .before .before .before .before .before .shared-slice-known .given j .fits) (c .before .close .result) (c .before .close .ensures) (c .if3 .taken)
 
 -- src/blocks.rt:169:27
 sub-carry : tie.Need-sub-carry
-sub-carry c = omega (arith, deep-enough (c .before .before .before .before .before .before .before .before .before .before .before .pre .valid) (c .before .before .before .before .before .before .before .before .before .before .before .pre .leads) (c .before .before .before .before .before .before .before .before .if1 .left) refl (c .before .before .before .before .if2 .left) (c .before .before .close .result) (c .before .before .close .ensures) (c .before .if3 .left))
+sub-carry c = omega (arith, deep-enough (c .before .before .before .before .before .before .before .before .before .before .pre .valid) (c .before .before .before .before .before .before .before .before .before .before .pre .leads) (c .before .before .before .before .before .before .before .if1 .left) refl (c .before .before .before .if2 .left) (λ j. c .before .before .before .before .before .before .before .before .before .shared-slice-known .given j .fits) (c .before .before .close .result) (c .before .before .close .ensures) (c .before .if3 .left))
 
 -- src/blocks.rt:169:5
 carry-requires : tie.Need-carry-requires
-carry-requires c κs = let e = deep-enough (c .before .before .before .before .before .before .before .before .before .before .before .pre .valid) (c .before .before .before .before .before .before .before .before .before .before .before .pre .leads) (c .before .before .before .before .before .before .before .before .if1 .left) refl (c .before .before .before .before .if2 .left) (c .before .before .close .result) (c .before .before .close .ensures) (c .before .if3 .left) in (omega (arith, e), omega (arith, e), e .3)
+carry-requires c κs = let e = deep-enough (c .before .before .before .before .before .before .before .before .before .before .pre .valid) (c .before .before .before .before .before .before .before .before .before .before .pre .leads) (c .before .before .before .before .before .before .before .if1 .left) refl (c .before .before .before .if2 .left) (λ j. c .before .before .before .before .before .before .before .before .before .shared-slice-known .given j .fits) (c .before .before .close .result) (c .before .before .close .ensures) (c .before .if3 .left) in (omega (arith, e), omega (arith, e), e .3)
 
 -- src/blocks.rt:172:16
 add-t22 : tie.Need-add-t22
-add-t22 c = omega (arith, deep-enough (c .before .before .before .before .before .before .before .before .before .before .before .before .pre .valid) (c .before .before .before .before .before .before .before .before .before .before .before .before .pre .leads) (c .before .before .before .before .before .before .before .before .before .if1 .left) refl (c .before .before .before .before .before .if2 .left) (c .before .before .before .close .result) (c .before .before .before .close .ensures) (c .before .before .if3 .left))
+add-t22 c = omega (arith, deep-enough (c .before .before .before .before .before .before .before .before .before .before .before .pre .valid) (c .before .before .before .before .before .before .before .before .before .before .before .pre .leads) (c .before .before .before .before .before .before .before .before .if1 .left) refl (c .before .before .before .before .if2 .left) (λ j. c .before .before .before .before .before .before .before .before .before .before .shared-slice-known .given j .fits) (c .before .before .before .close .result) (c .before .before .before .close .ensures) (c .before .before .if3 .left))
 
 -- src/blocks.rt:132:1
 returns-4 : tie.Need-returns-4
-returns-4 c = λ v σ ls locals mem L. leaves-with v L (c .before .before .before .before .before .before .before .before .before .if1 .left) refl (c .before .before .before .before .before .if2 .left) (c .before .before .before .close .result) (c .before .before .before .close .ensures) (c .before .before .if3 .left) (c .carry .ensures)
+returns-4 c = λ v σ ls locals mem L. leaves-with v L (c .before .before .before .before .before .before .before .before .if1 .left) refl (c .before .before .before .before .if2 .left) (λ j. c .before .before .before .before .before .before .before .before .before .before .shared-slice-known .given j .fits) (c .before .before .before .close .result) (c .before .before .before .close .ensures) (c .before .before .if3 .left) (c .carry .ensures)
 
 pub branch-spec : {M : Type 1} → statement M
 branch-spec =
@@ -148,8 +140,6 @@ branch-spec =
     shared-slice-read-body
     add-t24
     returns-2
-    shared-slice-read-close
-    cast-close
     sub-close
     sub-close-2
     close-requires
