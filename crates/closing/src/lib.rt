@@ -1,37 +1,35 @@
-// The place after the `end` that closes a block, found from the bytes: inside it the search recurses into blocks, with nesting room that falls.
-ghost use mathlib.Core.Path.{_≡_};
-ghost use mathlib.Core.Bool.{true, _||_};
-ghost use Prim.Native.Nat.{ℕ};
-ghost use lib.Dec.{eqb};
-ghost use Rattle.opcode.specs.Table.{known};
-ghost use Rattle.standard.specs.Inner.{ClosesIn};
+// The `end` that closes a block, found from the bytes. They were checked, so the search goes over an instruction and asks nothing of it but where the next one stands.
+mod passing;
 
-pub fn close(version: u16, s: &[u8], start: usize, room: usize) -> usize
-    requires { ⌜ known version ≡ true ⌝ }
-    ensures { λ r. ⌜ ((q : ℕ) → ClosesIn version (now (s .entry)) room start q → r ≡ q) ⌝ }
+ghost use mathlib.Core.Path.{_≡_};
+ghost use mathlib.Core.Bool.{_||_};
+ghost use lib.Dec.{eqb};
+ghost use Rattle.closing.specs.Search.{endOf};
+
+// The place after the `end` of the block whose body begins at `start`, 0 where there is none: inside it the search recurses into blocks, with nesting room that falls.
+pub fn close(s: &[u8], start: usize, room: usize) -> usize
+    ensures { λ r. ⌜ r ≡ endOf (now (s .entry)) room start ⌝ }
 {
     let mut at = start;
     loop {
-        let d = instr::scan(version, s, at);
-        if d.code != card::DONE {
+        if s.len() <= at {
             return 0;
         }
-        let next = at + d.len;
-        let group = opcode::group(d.entry);
-        if group == opcode::GROUP_END {
-            return next;
+        let i = passing::pass(s, at);
+        if i.group == opcode::GROUP_END {
+            return i.next;
         }
-        if opens(group) {
+        if opens(i.group) {
             if room == 0 {
                 return 0;
             }
-            let m = close(version, s, next, room - 1);
-            if m < next {
+            let m = close(s, i.next, room - 1);
+            if m <= i.next {
                 return 0;
             }
             at = m;
         } else {
-            at = next;
+            at = i.next;
         }
     }
 }

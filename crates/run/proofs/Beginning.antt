@@ -16,7 +16,7 @@ use Rattle.standard.specs.Safety.{Sound}
 use Rattle.standard.proofs.Begin.{begin-sound}
 use Rattle.run.specs.Meter.{Left, meter}
 use Rattle.run.specs.Inner.Steps.{Ready, Drove}
-use Rattle.run.specs.Inner.Carried.{Carries, Going}
+use Rattle.run.specs.Inner.Carried.{openIn, Carries, Going}
 use Rattle.run.proofs.Start.{args-long, counted, start-holds}
 
 module _ {s args out : List ℕ} (r : Ready s args out) where
@@ -36,7 +36,7 @@ module _ {s args out : List ℕ} (r : Ready s args out) where
     sound : Sound s h c
     sound = begin-sound (r .valid) (r .values) mem (record { kinds = r .given .kinds; range = r .given .range; bytes = λ k. b k .fits })
 
-    begins : Carries s h c at 0 0 (replicate stackBytes 0) (replicate (3 * nestLimit) 0) locals mem
+    begins : Carries s h c at 0 (openIn (replicate (3 * nestLimit + 1) 0)) (replicate stackBytes 0) (replicate (3 * nestLimit + 1) 0) locals mem
     begins =
         record {
           place = sym e;
@@ -46,14 +46,14 @@ module _ {s args out : List ℕ} (r : Ready s args out) where
               (start-holds h args (r .values) (r .given) few-locals mem b sound);
           many = refl;
           marked = tt;
-          marks-long = length-replicate {A = ℕ} (3 * nestLimit) 0;
+          marks-long = length-replicate {A = ℕ} (3 * nestLimit + 1) 0;
         }
 
-    pub may-begin : Going s out at 0 0 (replicate stackBytes 0) (replicate (3 * nestLimit) 0) locals mem
+    pub may-begin : Going s out at 0 (openIn (replicate (3 * nestLimit + 1) 0)) (replicate stackBytes 0) (replicate (3 * nestLimit + 1) 0) locals mem
     may-begin = record { held = record { valid = r .valid; config = c; carries = begins }; slots = r .slots }
 
     -- what is left then is what the standard's machine leaves
     pub drove : {budget : ℕ} {l : Left}
-        → ((v : Valid s) (c : Config) → Carries s (v .header) c at 0 0 (replicate stackBytes 0) (replicate (3 * nestLimit) 0) locals mem → l ≡ meter s (v .header) budget 0 c out)
+        → ((v : Valid s) (c : Config) → Carries s (v .header) c at 0 (openIn (replicate (3 * nestLimit + 1) 0)) (replicate stackBytes 0) (replicate (3 * nestLimit + 1) 0) locals mem → l ≡ meter s (v .header) budget 0 c out)
         → Drove s args mem out budget l
     drove went = record { ready = r; same = went (r .valid) c begins }

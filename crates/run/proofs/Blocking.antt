@@ -187,7 +187,7 @@ module _ {s : List ℕ} (v : Valid s) {c : Config} {at depth nest : ℕ} {stack 
     block-step : step s h c ≡ enter false i len c
     block-step = stepped (control Block) (by-group (λ (k : Code). k ≡ control Block) 25 refl (S .code) (sym (S .group-is) ∙ e))
 
-    pub room-for-block : (nest < nestLimit) × (length marks ≡ 3 * nestLimit)
+    pub room-for-block : (nest < nestLimit) × (length marks ≡ 3 * nestLimit + 1)
     room-for-block = (few false block-step, C .marks-long)
 
     pub block-begins : {way : ℕ} {marks′ : List ℕ} → way ≡ length (blockResults block) → marks′ ≡ set (set (set marks (3 * nest) depth) (3 * nest + 1) way) (3 * nest + 2) (at + len)
@@ -198,7 +198,7 @@ module _ {s : List ℕ} (v : Valid s) {c : Config} {at depth nest : ℕ} {stack 
     loop-step : step s h c ≡ enter true i len c
     loop-step = stepped (control Loop) (by-group (λ (k : Code). k ≡ control Loop) 26 refl (S .code) (sym (S .group-is) ∙ e))
 
-    pub room-for-loop : (nest < nestLimit) × (length marks ≡ 3 * nestLimit)
+    pub room-for-loop : (nest < nestLimit) × (length marks ≡ 3 * nestLimit + 1)
     room-for-loop = (few true loop-step, C .marks-long)
 
     pub loop-begins : {marks′ : List ℕ} → marks′ ≡ set (set (set marks (3 * nest) depth) (3 * nest + 1) LOOP) (3 * nest + 2) (at + len)

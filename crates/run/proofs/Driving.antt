@@ -4,9 +4,7 @@ use mathlib.Core.Path.{_≡_, refl, ap, ap₂, sym, _∙_, subst}
 use mathlib.Core.Bool.{Bool, true, false}
 use mathlib.Core.List.{List}
 use native.Mathlib.Omega.{arith}
-use native.Mathlib.Nat.{sub-zero}
 use native.Mathlib.Numerals.{add-one}
-use lib.Arith.{lt-of-le-ne}
 use lib.ListN.{length}
 use Rattle.card.specs.Card.{DONE, TRAP, BUDGET}
 use Rattle.limits.specs.Limits.{slot, stackLimit, fileLimit}
@@ -27,7 +25,7 @@ use Rattle.machine.specs.Inner.Fit.{Ready as Apt}
 use Rattle.machine.specs.declared.access.Bounds.{Bounds}
 use Rattle.machine.specs.declared.access.Bounds.the-variants.{Clear, Past}
 use Rattle.rules.specs.Header.{Header}
-use Rattle.rules.specs.Strip.{Reads, Reaches, front, past, Valid}
+use Rattle.rules.specs.Strip.{Reads, Valid}
 use Rattle.rules.proofs.Onward.{declared}
 use Rattle.standard.specs.Standard.{Config, Stage, going, ended, trapped, step}
 use Rattle.standard.specs.Safety.{Safe}
@@ -35,52 +33,44 @@ use Rattle.standard.proofs.Turn.{safe-step}
 use Rattle.run.specs.Meter.{Left, leaves, meter, meterBy}
 use Rattle.run.specs.Run.{Slots}
 use Rattle.run.specs.Inner.Carried.{turnsAt, Carries, Stacked, Going, Seen, Led, leads-on, leads-out}
-use Rattle.run.proofs.HeaderBytes.{version-read, result-count, start}
+use Rattle.run.proofs.HeaderBytes.{version-read, result-count}
+use Rattle.run.proofs.Places.{late}
 use Rattle.run.proofs.Leading.{sound-of}
 use Rattle.run.proofs.Turning.{row-is, fits, ready, is-clear, is-past, did}
 use Rattle.run.proofs.Ways.{Way, turning, goes-to, traps-at, way}
 
--- a budget that is not spent
-pub below : {steps budget : ℕ} → steps ≤ budget → (steps ≡ budget → ⊥) → steps < budget
-below l ne = lt-of-le-ne l ne
-
 pub not-clear : {b : Bounds} {a : ℕ} → b ≡ Past a → b ≡ Clear → ⊥
 not-clear e f = let z : _≡_ {A = ℕ} 0 1 = cc in omega arith
-
--- no instruction stands at place 0
-late : {s : List ℕ} {h : Header} {p : ℕ} {fs : List _} → Reaches s h p fs → 8 ≤ p
-late (front d) = omega (arith, start d)
-late (past r q t w) = omega (arith, late r)
 
 -- a strip has one number of results
 results-once : {s : List ℕ} (v w : Valid s) (out : List ℕ) → Slots (v .header .results) out → Slots (w .header .results) out
 results-once v w out e = e ∙ ap (λ (n : ℕ). slot * n) (sym (result-count (declared (v .reached))) ∙ result-count (declared (w .reached)))
 
--- from the configuration c₀ on
-pub record Drives (s : List ℕ) (v : Valid s) (c₀ : Config) (mem₀ out : List ℕ) (budget : ℕ) (mem results stack marks locals : List ℕ) (at depth nest steps : ℕ) : Type 0 where
+-- from the configuration c₀ on, with so much of the budget left
+pub record Drives (s : List ℕ) (v : Valid s) (c₀ : Config) (mem₀ out : List ℕ) (budget : ℕ) (mem results stack marks locals : List ℕ) (at depth nest left : ℕ) : Type 0 where
   pub config : Config
   pub carries : Carries s (v .header) config at depth nest stack marks locals mem
   pub slots : Slots (v .header .results) out
-  pub within : steps ≤ budget
-  pub same : meter s (v .header) budget 0 c₀ out ≡ meter s (v .header) (budget - steps) steps config out
+  pub within : left ≤ budget
+  pub same : meter s (v .header) budget 0 c₀ out ≡ meter s (v .header) left (budget - left) config out
   pub untouched : results ≡ out
   pub long : length mem ≡ length mem₀
 
 pub starts : {s : List ℕ} (v : Valid s) (c₀ : Config) (budget : ℕ) {out stack marks locals mem : List ℕ} {at depth nest : ℕ} → Carries s (v .header) c₀ at depth nest stack marks locals mem
-    → Going s out at depth nest stack marks locals mem → Drives s v c₀ mem out budget mem out stack marks locals at depth nest 0
+    → Going s out at depth nest stack marks locals mem → Drives s v c₀ mem out budget mem out stack marks locals at depth nest budget
 starts {s} v c₀ budget {out} C g =
     record {
       config = c₀;
       carries = C;
       slots = results-once (g .held .valid) v out (g .slots);
       within = omega arith;
-      same = ap (λ (n : ℕ). meter s (v .header) n 0 c₀ out) (sym (sub-zero budget));
+      same = let none : 0 ≡ budget - budget = omega arith in ap (λ (n : ℕ). meter s (v .header) budget n c₀ out) none;
       untouched = refl;
       long = refl;
     }
 
-module _ {s : List ℕ} {v : Valid s} {c₀ : Config} {mem₀ out : List ℕ} {budget : ℕ} {mem results stack marks locals : List ℕ} {at depth nest steps : ℕ}
-    (D : Drives s v c₀ mem₀ out budget mem results stack marks locals at depth nest steps) where
+module _ {s : List ℕ} {v : Valid s} {c₀ : Config} {mem₀ out : List ℕ} {budget : ℕ} {mem results stack marks locals : List ℕ} {at depth nest left : ℕ}
+    (D : Drives s v c₀ mem₀ out budget mem results stack marks locals at depth nest left) where
   abbrev h : Header
   h = v .header
 
@@ -92,35 +82,41 @@ module _ {s : List ℕ} {v : Valid s} {c₀ : Config} {mem₀ out : List ℕ} {b
   abbrev Is : Left → Type 0
   Is l = l ≡ meter s h budget 0 c₀ out
 
+  abbrev steps : ℕ
+  steps = budget - left
+
   -- what is left here
   here : (code : ℕ) → leaves code (c .place) steps (c .state .memory) out ≡ leaves code at steps mem results
   here code =
       ap (λ (p : ℕ). leaves code p steps (c .state .memory) out) (D .carries .place)
       ∙ ap₂ (λ (m o : List ℕ). leaves code at steps m o) (D .carries .rep .memory) (sym (D .untouched))
 
-  stops : {l : Left} → meter s h (budget - steps) steps c out ≡ l → Is l
+  stops : {l : Left} → meter s h left steps c out ≡ l → Is l
   stops e = sym (D .same ∙ e)
 
-  pub spent : steps ≡ budget → Is (leaves BUDGET at steps mem results)
+  pub spent : left ≡ 0 → Is (leaves BUDGET at budget mem results)
   unfolding meter
-  spent e = let none : budget - steps ≡ 0 = omega arith in stops (ap (λ (k : ℕ). meter s h k steps c out) none ∙ here BUDGET)
+  spent e =
+      let all : steps ≡ budget = omega arith in
+      stops (ap (λ (k : ℕ). meter s h k steps c out) e ∙ here BUDGET ∙ ap (λ (n : ℕ). leaves BUDGET at n mem results) all)
 
-  one : steps < budget → (g : Stage) → step s h c ≡ g → meter s h (budget - steps) steps c out ≡ meterBy steps c out (λ c. meter s h (budget - suc steps) (suc steps) c out) g
+  one : 0 < left → (g : Stage) → step s h c ≡ g → meter s h left steps c out ≡ meterBy steps c out (λ c. meter s h (left - 1) (suc steps) c out) g
   unfolding meter
   one more g e =
-      let next : budget - steps ≡ suc (budget - suc steps) = omega arith in
-      ap (λ (k : ℕ). meter s h k steps c out) next ∙ ap (meterBy steps c out (λ c. meter s h (budget - suc steps) (suc steps) c out)) e
+      let next : left ≡ suc (left - 1) = omega arith in
+      ap (λ (k : ℕ). meter s h k steps c out) next ∙ ap (meterBy steps c out (λ c. meter s h (left - 1) (suc steps) c out)) e
 
   -- one step further
-  goes-on : steps < budget → {d : Config} → step s h c ≡ going d → {mem′ stack′ marks′ locals′ : List ℕ} {at′ depth′ nest′ : ℕ} → Carries s h d at′ depth′ nest′ stack′ marks′ locals′ mem′
-      → length mem′ ≡ length mem → Drives s v c₀ mem₀ out budget mem′ results stack′ marks′ locals′ at′ depth′ nest′ (steps + 1)
+  goes-on : 0 < left → {d : Config} → step s h c ≡ going d → {mem′ stack′ marks′ locals′ : List ℕ} {at′ depth′ nest′ : ℕ} → Carries s h d at′ depth′ nest′ stack′ marks′ locals′ mem′
+      → length mem′ ≡ length mem → Drives s v c₀ mem₀ out budget mem′ results stack′ marks′ locals′ at′ depth′ nest′ (left - 1)
   goes-on more {d} e C kept =
+      let further : suc steps ≡ budget - (left - 1) = omega (arith, D .within) in
       record {
         config = d;
         carries = C;
         slots = D .slots;
-        within = omega arith;
-        same = D .same ∙ one more (going d) e ∙ ap (λ (n : ℕ). meter s h (budget - n) n d out) (sym (add-one steps));
+        within = omega (arith, D .within);
+        same = D .same ∙ one more (going d) e ∙ ap (λ (n : ℕ). meter s h (left - 1) n d out) further;
         untouched = D .untouched;
         long = kept ∙ D .long;
       }
@@ -222,11 +218,11 @@ module _ {s : List ℕ} {v : Valid s} {c₀ : Config} {mem₀ out : List ℕ} {b
                   by (goes-to r e q x) = ready r (h .results) (D .carries .rep) q
                   by (traps-at r e q x) = absurd (is-past r (h .results) (D .carries .rep) q b (told _ (row r)) clear)
 
-              pub onward : steps < budget → {depth′ : ℕ} {stack′ locals′ mem′ : List ℕ} → DidBy id i stack depth locals mem depth′ stack′ locals′ mem′ → length mem′ ≡ length mem
-                  → Drives s v c₀ mem₀ out budget mem′ results stack′ marks locals′ (at + d .len) depth′ nest (steps + 1)
+              pub onward : 0 < left → {depth′ : ℕ} {stack′ locals′ mem′ : List ℕ} → DidBy id i stack depth locals mem depth′ stack′ locals′ mem′ → length mem′ ≡ length mem
+                  → Drives s v c₀ mem₀ out budget mem′ results stack′ marks locals′ (at + d .len) depth′ nest (left - 1)
               onward more {depth′} {stack′} {locals′} {mem′} by-code kept = by stands
                 where
-                  by : Way s h c i (d .len) → Drives s v c₀ mem₀ out budget mem′ results stack′ marks locals′ (at + d .len) depth′ nest (steps + 1)
+                  by : Way s h c i (d .len) → Drives s v c₀ mem₀ out budget mem′ results stack′ marks locals′ (at + d .len) depth′ nest (left - 1)
                   by (turning r e) = both (sort r ∙ e) ordinary
                   by (traps-at r e q x) = absurd (is-past r (h .results) (D .carries .rep) q b (told _ (row r)) clear)
                   by (goes-to {τ = τ} r e q x) =
@@ -242,7 +238,7 @@ module _ {s : List ℕ} {v : Valid s} {c₀ : Config} {mem₀ out : List ℕ} {b
                       kept
 
             -- past its end
-            pub strayed : steps < budget → (b ≡ Clear → ⊥) → Is (leaves TRAP at steps mem results)
+            pub strayed : 0 < left → (b ≡ Clear → ⊥) → Is (leaves TRAP at steps mem results)
             strayed more out-of-reach = by stands
               where
                 by : Way s h c i (d .len) → Is (leaves TRAP at steps mem results)
@@ -266,7 +262,7 @@ module _ {s : List ℕ} {v : Valid s} {c₀ : Config} {mem₀ out : List ℕ} {b
         by (leads-on e C) = absurd (no-place C z)
         by (leads-out {vs} e q n few long bytes) = (omega (arith, few), omega (arith, few, long, results-long vs n))
 
-    pub finished : steps < budget → at′ ≡ 0 → {o : List ℕ} → o ≡ part (length results) (slot * depth′) stack′ → Is (leaves DONE 0 (steps + 1) mem o)
+    pub finished : 0 < left → at′ ≡ 0 → {o : List ℕ} → o ≡ part (length results) (slot * depth′) stack′ → Is (leaves DONE 0 (steps + 1) mem o)
     finished more z {o} written = by led
       where
         by : Led s h (step s h c) at′ depth′ nest′ stack′ marks′ locals mem → Is (leaves DONE 0 (steps + 1) mem o)
@@ -277,9 +273,9 @@ module _ {s : List ℕ} {v : Valid s} {c₀ : Config} {mem₀ out : List ℕ} {b
             ∙ ap₂ (λ (k : ℕ) (x : List ℕ). leaves DONE 0 k mem x) (sym (add-one steps))
             (sym (written ∙ ap (λ (k : ℕ). part k (slot * depth′) stack′) (results-long vs n) ∙ bytes)))
 
-    pub turned : steps < budget → (at′ ≡ 0 → ⊥) → Drives s v c₀ mem₀ out budget mem results stack′ marks′ locals at′ depth′ nest′ (steps + 1)
+    pub turned : 0 < left → (at′ ≡ 0 → ⊥) → Drives s v c₀ mem₀ out budget mem results stack′ marks′ locals at′ depth′ nest′ (left - 1)
     turned more ne = by led
       where
-        by : Led s h (step s h c) at′ depth′ nest′ stack′ marks′ locals mem → Drives s v c₀ mem₀ out budget mem results stack′ marks′ locals at′ depth′ nest′ (steps + 1)
+        by : Led s h (step s h c) at′ depth′ nest′ stack′ marks′ locals mem → Drives s v c₀ mem₀ out budget mem results stack′ marks′ locals at′ depth′ nest′ (left - 1)
         by (leads-on e C) = goes-on more e C refl
         by (leads-out e q n few long bytes) = absurd (ne q)

@@ -3,6 +3,7 @@ use Prim.Native.Nat.{ℕ, zero, suc, _+_, _*_, _-_, _≤_, _<_}
 use mathlib.Core.Path.{_≡_, refl, ap, ap₂, sym, _∙_, subst}
 use mathlib.Core.Bool.{Bool, true, false, cond}
 use mathlib.Core.List.{List, [], _∷_, _++_, reverse, append-assoc}
+use mathlib.Core.Option.{some}
 use native.Mathlib.Omega.{arith}
 use lib.Arith.{lt-of-le-ne}
 use lib.ListN.{length, getD, take, drop, length-append, length-map, length-reverse, take-append-drop}
@@ -16,13 +17,14 @@ use Rattle.rules.specs.Header.{Header}
 use Rattle.rules.specs.Typing.{opened}
 use Rattle.rules.specs.Strip.{Valid}
 use Rattle.rules.proofs.Onward.{declared}
-use Rattle.opcode.specs.Table.{known}
 use Rattle.standard.specs.Closing.{close}
 use Rattle.standard.specs.Inner.{ClosesIn}
 use Rattle.standard.specs.Standard.{Label, Config, going, ended, withStack, along, resume, jump, branch}
 use Rattle.standard.specs.Safety.{Sound, Safe, safe-going, safe-ended}
 use Rattle.standard.proofs.ValueKinds.{fit-kinds}
 use Rattle.standard.proofs.Unwinding.{Left, finds-end}
+use Rattle.run.specs.Inner.Ends.{Closable}
+use Rattle.run.proofs.Places.{late, early}
 use Rattle.run.specs.Inner.Carried.{underAll, wayOf, LOOP, Leads, Led, leads-on, leads-out}
 use Rattle.run.proofs.HeaderBytes.{version-read, result-count, Counts, counts-read}
 use Rattle.run.proofs.Marking.{count-under, rep-under, rep-same, part-bytes, unhalted, unhalted-if, nested-few, targets, out-of, Target, target}
@@ -62,9 +64,6 @@ module _ {s : List ℕ} (v : Valid s) {σ : State} {ls : List Label} {index dept
 
   pub below-nest : (index ≡ nest → ⊥) → index < nest
   below-nest ne = lt-of-le-ne target-most ne
-
-  pub version-fits : known (getD s 3 0) ≡ true
-  version-fits = subst (λ (n : ℕ). known n ≡ true) (sym (version-read (declared (v .reached)))) (declared (v .reached) .versioned)
 
   -- ---- out of the strip
 
@@ -163,17 +162,30 @@ module _ {s : List ℕ} (v : Valid s) {σ : State} {ls : List Label} {index dept
           marks-long = L .marks-long;
         })
 
-    -- a block is left
-    module _ (other : getD marks (3 * k + 1) 0 ≡ LOOP → ⊥) (q : ℕ) (found : (p : ℕ) → ClosesIn (getD s 3 0) s (nestLimit - 1 - k) (getD marks (3 * k + 2) 0) p → q ≡ p) where
-      to : Left s h (l .body) (opened (T .frame .loop) (T .frame .results)) (T .around) (T .outer)
-      to = finds-end v (T .reached)
+    -- where a block ends
+    to : Left s h (l .body) (opened (T .frame .loop) (T .frame .results)) (T .around) (T .outer)
+    to = finds-end v (T .reached)
 
+    pub closable : Closable s (getD marks (3 * k + 2) 0) (nestLimit - 1 - k)
+    closable =
+        record {
+          place = to .place;
+          closes =
+              subst (λ (b : ℕ). ClosesIn (getD s 3 0) s (nestLimit - 1 - k) b (to .place)) (sym body-is)
+              (subst (λ (n : ℕ). ClosesIn n s (nestLimit - 1 - k) (l .body) (to .place)) (sym (version-read (declared (v .reached))))
+              (to .with-room (nestLimit - 1 - k) (omega (arith, T .frames, rest-many, k-small))));
+          late = omega (arith, body-is, late (T .reached));
+          body-small = omega (arith, body-is, early v (T .reached));
+          place-small = omega (arith, early v (to .reached));
+        }
+
+    -- a block is left
+    module _ (other : getD marks (3 * k + 1) 0 ≡ LOOP → ⊥) (q : ℕ) (found : close (getD s 3 0) s (getD marks (3 * k + 2) 0) ≡ some q) where
       q-is : q ≡ to .place
       q-is =
-          found (to .place)
-          (subst (λ (b : ℕ). ClosesIn (getD s 3 0) s (nestLimit - 1 - k) b (to .place)) (sym body-is)
-          (subst (λ (n : ℕ). ClosesIn n s (nestLimit - 1 - k) (l .body) (to .place)) (sym (version-read (declared (v .reached))))
-          (to .with-room (nestLimit - 1 - k) (omega (arith, T .frames, rest-many, k-small)))))
+          let same : close (getD s 3 0) s (getD marks (3 * k + 2) 0) ≡ some (to .place) =
+          ap₂ (λ (n p : ℕ). close n s p) (version-read (declared (v .reached))) body-is ∙ to .found in
+          cc
 
       no-loop : l .loop ≡ false
       no-loop = block-by (l .loop) (length (l .results)) (λ e. other (way-is ∙ e))

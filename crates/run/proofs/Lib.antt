@@ -6,6 +6,8 @@ pub mod Turning
 pub mod Results
 pub mod Start
 pub mod Marking
+pub mod Places
+pub mod Keeping
 pub mod Leading
 pub mod Blocking
 pub mod Latest

@@ -4,7 +4,7 @@ use mathlib.Core.Path.{_≡_, refl, ap, ap₂, sym, _∙_, subst}
 use mathlib.Core.Bool.{Bool, true, false, cond}
 use mathlib.Core.List.{List, [], _∷_, _++_, reverse, reverse-cons, append-assoc}
 use native.Mathlib.Omega.{arith}
-use lib.ListN.{length, set, take, drop, length-append}
+use lib.ListN.{length, set, take, drop, length-append, length-set}
 use lib.Seq.{take-add, drop-drop, getD-set-same, getD-set-other, lt-length-set}
 use Rattle.limits.specs.Limits.{slot, nestLimit}
 use Rattle.machine.specs.Value.{Value, AllInRange, allBytes}
@@ -19,7 +19,7 @@ use Rattle.standard.specs.Standard.{Label, Stage, halted, withStack, countUnder
 use Rattle.standard.specs.Safety.{Nested, outermost, inside, Safe}
 use Rattle.standard.proofs.Nestings.{nested-many}
 use Rattle.standard.proofs.Never.{safe-unhalted}
-use Rattle.run.specs.Inner.Carried.{underAll, wayOf, Marked}
+use Rattle.run.specs.Inner.Carried.{underAll, wayOf, Marked, openIn, Carries, Led, leads-on, leads-out}
 use Rattle.run.proofs.Results.{all-append, all-one}
 
 -- ---- values under others
@@ -71,7 +71,7 @@ marked-kept (l ∷ ls) ms j x h m = (
 )
 
 -- one more
-pub marked-more : (l : Label) (ls : List Label) (ms : List ℕ) (n height way body : ℕ) → n ≡ length ls → n < nestLimit → length ms ≡ 3 * nestLimit
+pub marked-more : (l : Label) (ls : List Label) (ms : List ℕ) (n height way body : ℕ) → n ≡ length ls → n < nestLimit → length ms ≡ 3 * nestLimit + 1
     → height ≡ countUnder (l ∷ ls) → way ≡ wayOf l → body ≡ l .body → length (l .results) ≤ 1 → Marked ls ms
     → Marked (l ∷ ls) (set (set (set ms (3 * n) height) (3 * n + 1) way) (3 * n + 2) body)
 marked-more l ls ms n height way body e few long a b c d m =
@@ -162,3 +162,19 @@ module _ (s : List ℕ) (h : Header) where
           reached = t .reached;
           frames = t .frames;
         }
+
+-- the number of blocks changes with what is open
+pub recounted : {s : List ℕ} {h : Header} {g : Stage} {at depth n : ℕ} {stack marks marks′ locals mem : List ℕ} → marks′ ≡ set marks (3 * nestLimit) n
+    → Led s h g at depth n stack marks locals mem → Led s h g at depth (openIn marks′) stack marks′ locals mem
+recounted {marks = marks} {marks′} e (leads-out f z many few long bytes) = leads-out f z many few long bytes
+recounted {s} {h} {n = n} {marks = marks} {marks′} e (leads-on {d} f C) =
+    let few : length (d .labels) ≤ nestLimit = nested-few s h (C .sound .fits .nested) in
+    leads-on f
+    (record {
+      place = C .place;
+      sound = C .sound;
+      rep = C .rep;
+      many = C .many ∙ sym (ap openIn e ∙ getD-set-same marks (3 * nestLimit) n 0 (omega (arith, C .marks-long)));
+      marked = subst (Marked (d .labels)) (sym e) (marked-kept (d .labels) marks (3 * nestLimit) n (omega (arith, few)) (C .marked));
+      marks-long = ap length e ∙ length-set marks (3 * nestLimit) n ∙ C .marks-long;
+    })

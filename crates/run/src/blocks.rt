@@ -10,13 +10,21 @@ ghost use Rattle.opcode.specs.BlockType.{blockResults};
 ghost use Rattle.machine.specs.Inner.Flat.{Holds, topOf, low32};
 ghost use Rattle.rules.specs.Strip.{Valid};
 ghost use Rattle.standard.specs.Standard.{Config, step};
-ghost use Rattle.run.specs.Inner.Carried.{Carries, Stacked, Seen, Led, turnsAt, Branching, Branched};
+ghost use Rattle.run.specs.Inner.Carried.{openIn, Carries, Stacked, Seen, Led, turnsAt, Branching, Branched};
+ghost use Rattle.run.specs.Inner.Ends.{Kept};
+use crate::ends::end_of;
 
 // What a branch to a loop does; a block's number is that of its results.
 const LOOP: usize = 2;
 
-// Where the strip goes on, the values and the open blocks there. Place 0: it is left, with its results from the slot `depth` on.
+// Where the strip goes on, and the values there. Place 0: it is left, with its results from the slot `depth` on.
 pub(crate) struct Next {
+    pub at: usize,
+    pub depth: usize,
+}
+
+// The same of a branch, and the blocks that are open there.
+pub(crate) struct Target {
     pub at: usize,
     pub depth: usize,
     pub nest: usize,
@@ -45,61 +53,52 @@ pub(crate) fn turn(
     stack: &mut [u8; limits::STACK_BYTES],
     depth: usize,
     marks: &mut [usize; crate::MARKS],
-    nest: usize,
+    ends: &mut [u32; crate::ENDS],
 ) -> Next
-    requires { ⌜ Stacked (now strip) at depth nest (now stack) (now marks) × Seen (now strip) at group index block len ⌝ }
-    ensures { λ r. ⌜ ((v : Valid (now (strip .entry))) (c : Config) (locals mem : List ℕ) → Carries (now (strip .entry)) (v .header) c at depth nest (now (stack .entry)) (now (marks .entry)) locals mem → Led (now (strip .entry)) (v .header) (step (now (strip .entry)) (v .header) c) (r .at) (r .depth) (r .nest) (now (stack .exit)) (now (marks .exit)) locals mem) ⌝ }
+    requires { ⌜ Stacked (now strip) at depth (openIn (now marks)) (now stack) (now marks) × Seen (now strip) at group index block len × Kept (now strip) (now ends) ⌝ }
+    ensures { λ r. ⌜ ((v : Valid (now (strip .entry))) (c : Config) (locals mem : List ℕ) → Carries (now (strip .entry)) (v .header) c at depth (openIn (now (marks .entry))) (now (stack .entry)) (now (marks .entry)) locals mem → Led (now (strip .entry)) (v .header) (step (now (strip .entry)) (v .header) c) (r .at) (r .depth) (openIn (now (marks .exit))) (now (stack .exit)) (now (marks .exit)) locals mem) × Kept (now (strip .entry)) (now (ends .exit)) ⌝ }
 {
     let next = at + len;
+    let nest = marks[crate::OPEN];
     if group == opcode::GROUP_END {
         if nest == 0 {
-            return Next {
-                at: 0,
-                depth: 0,
-                nest,
-            };
+            return Next { at: 0, depth: 0 };
         }
-        return Next {
-            at: next,
-            depth,
-            nest: nest - 1,
-        };
+        marks[crate::OPEN] = nest - 1;
+        return Next { at: next, depth };
     }
     if group == opcode::GROUP_BLOCK {
         mark(marks, nest, depth, results_of(block), next);
-        return Next {
-            at: next,
-            depth,
-            nest: nest + 1,
-        };
+        return Next { at: next, depth };
     }
     if group == opcode::GROUP_LOOP {
         mark(marks, nest, depth, LOOP, next);
-        return Next {
-            at: next,
-            depth,
-            nest: nest + 1,
-        };
+        return Next { at: next, depth };
     }
     let top = depth - (group - opcode::GROUP_BR) as usize;
     if taken(group, stack, depth) {
-        return branch(strip, index as usize, stack, top, marks, nest);
+        let t = branch(strip, index as usize, stack, top, marks, nest, ends);
+        marks[crate::OPEN] = t.nest;
+        return Next {
+            at: t.at,
+            depth: t.depth,
+        };
     }
     Next {
         at: next,
         depth: top,
-        nest,
     }
 }
 
 // A block begins.
 fn mark(marks: &mut [usize], nest: usize, height: usize, way: usize, body: usize)
-    requires { ⌜ (nest < nestLimit) × (length (now marks) ≡ 3 * nestLimit) ⌝ }
-    ensures { λ r. ⌜ now (marks .exit) ≡ set (set (set (now (marks .entry)) (3 * nest) height) (3 * nest + 1) way) (3 * nest + 2) body ⌝ }
+    requires { ⌜ (nest < nestLimit) × (length (now marks) ≡ 3 * nestLimit + 1) ⌝ }
+    ensures { λ r. ⌜ now (marks .exit) ≡ set (set (set (set (now (marks .entry)) (3 * nest) height) (3 * nest + 1) way) (3 * nest + 2) body) (3 * nestLimit) (nest + 1) ⌝ }
 {
     marks[3 * nest] = height;
     marks[3 * nest + 1] = way;
     marks[3 * nest + 2] = body;
+    marks[crate::OPEN] = nest + 1;
 }
 
 // How many results a block of this type has.
@@ -136,12 +135,13 @@ fn branch(
     depth: usize,
     marks: &[usize],
     nest: usize,
-) -> Next
-    requires { ⌜ Branching (now strip) index depth nest (now stack) (now marks) ⌝ }
-    ensures { λ r. ⌜ Branched (now (strip .entry)) index depth nest (now (stack .entry)) (now (marks .entry)) (r .at) (r .depth) (r .nest) (now (stack .exit)) ⌝ }
+    ends: &mut [u32],
+) -> Target
+    requires { ⌜ Branching (now strip) index depth nest (now stack) (now marks) × Kept (now strip) (now ends) ⌝ }
+    ensures { λ r. ⌜ Branched (now (strip .entry)) index depth nest (now (stack .entry)) (now (marks .entry)) (r .at) (r .depth) (r .nest) (now (stack .exit)) × Kept (now (strip .entry)) (now (ends .exit)) ⌝ }
 {
     if index == nest {
-        return Next {
+        return Target {
             at: 0,
             depth: depth - strip[7] as usize,
             nest,
@@ -152,22 +152,22 @@ fn branch(
     let way = marks[3 * k + 1];
     let body = marks[3 * k + 2];
     if way == LOOP {
-        return Next {
+        return Target {
             at: body,
             depth: height,
             nest: k + 1,
         };
     }
-    let next = closing::close(strip[3] as u16, strip, body, limits::NEST - 1 - k);
+    let next = end_of(strip, body, limits::NEST - 1 - k, ends);
     if way == 0 {
-        return Next {
+        return Target {
             at: next,
             depth: height,
             nest: k,
         };
     }
     machine::carry(stack, depth - 1, height);
-    Next {
+    Target {
         at: next,
         depth: height + 1,
         nest: k,

@@ -3,7 +3,8 @@ ghost use mathlib.Core.Path.{_≡_};
 ghost use Prim.Native.Nat.{_+_, _*_, _≤_};
 ghost use lib.ListN.{length};
 ghost use Rattle.run.specs.Inner.Steps.{Ready, Drove};
-ghost use Rattle.run.specs.Inner.Carried.{Carries, Going};
+ghost use Rattle.run.specs.Inner.Carried.{openIn, Carries, Going};
+ghost use Rattle.run.specs.Inner.Ends.{Kept};
 ghost use Rattle.run.specs.Meter.{leaves, meter};
 ghost use Rattle.limits.specs.Limits.{slot, stackLimit, stackBytes};
 ghost use Rattle.opcode.specs.Number.{rowOf};
@@ -12,6 +13,7 @@ ghost use Rattle.machine.specs.Memory.{part};
 ghost use Rattle.machine.specs.Inner.Fit.{Ready as Apt, DidBy};
 ghost use Rattle.rules.specs.Strip.{Valid};
 ghost use Rattle.standard.specs.Standard.{Config};
+use crate::Closings;
 use crate::Labels;
 use crate::Stack;
 use crate::arguments::locals_of;
@@ -19,9 +21,6 @@ use crate::blocks;
 use card::Answer;
 use instr::Instr;
 use machine::Bounds;
-
-// Instructions are read by the latest version: one that a strip's own version has is the same there, and the check has asked for others.
-const LATEST: u16 = 2;
 
 // From the first instruction, with the arguments as locals and a zeroed stack.
 pub(crate) fn drive(
@@ -41,7 +40,9 @@ pub(crate) fn drive(
     };
     let mut labels = Labels {
         marks: [0usize; crate::MARKS],
-        nest: 0,
+    };
+    let mut ends = Closings {
+        words: [0u32; crate::ENDS],
     };
     let mut locals = locals_of(args, count);
     let at = 8 + count + strip[7] as usize;
@@ -54,7 +55,7 @@ pub(crate) fn drive(
         &mut stack.bytes,
         0,
         &mut labels.marks,
-        0,
+        &mut ends.words,
         &mut locals.bytes,
     )
 }
@@ -69,25 +70,25 @@ pub(crate) fn go_on(
     stack: &mut [u8; limits::STACK_BYTES],
     values: usize,
     marks: &mut [usize; crate::MARKS],
-    levels: usize,
+    ends: &mut [u32; crate::ENDS],
     locals: &mut [u8; limits::LOCAL_BYTES],
 ) -> Answer
-    requires { ⌜ Going (now strip) (now results) place values levels (now stack) (now marks) (now locals) (now mem) ⌝ }
-    ensures { λ r. ⌜ ((v : Valid (now (strip .entry))) (c : Config) → Carries (now (strip .entry)) (v .header) c place values levels (now (stack .entry)) (now (marks .entry)) (now (locals .entry)) (now (mem .entry)) → leaves (r .code) (r .place) (r .steps) (now (mem .exit)) (now (results .exit)) ≡ meter (now (strip .entry)) (v .header) budget 0 c (now (results .entry))) ⌝ }
+    requires { ⌜ Going (now strip) (now results) place values (openIn (now marks)) (now stack) (now marks) (now locals) (now mem) × Kept (now strip) (now ends) ⌝ }
+    ensures { λ r. ⌜ ((v : Valid (now (strip .entry))) (c : Config) → Carries (now (strip .entry)) (v .header) c place values (openIn (now (marks .entry))) (now (stack .entry)) (now (marks .entry)) (now (locals .entry)) (now (mem .entry)) → leaves (r .code) (r .place) (r .steps) (now (mem .exit)) (now (results .exit)) ≡ meter (now (strip .entry)) (v .header) budget 0 c (now (results .entry))) ⌝ }
 {
     let mut at = place;
     let mut depth = values;
-    let mut nest = levels;
-    let mut steps: u32 = 0;
+    let mut left = budget;
     loop {
-        if steps == budget {
+        if left == 0 {
             return Answer {
                 code: card::BUDGET,
                 place: at,
-                steps,
+                steps: budget,
             };
         }
-        let f = instr::fetch(LATEST, strip, at);
+        // By the latest version: one that a strip's own version has is the same there, and the check has asked for others.
+        let f = instr::fetch(opcode::LATEST, strip, at);
         let d = f.decoded;
         let i = d.instr;
         let group = opcode::group(f.entry);
@@ -102,31 +103,30 @@ pub(crate) fn go_on(
                 stack,
                 depth,
                 marks,
-                nest,
+                ends,
             );
             if t.at == 0 {
                 put_results(stack, t.depth, results);
                 return Answer {
                     code: card::DONE,
                     place: 0,
-                    steps: steps + 1,
+                    steps: budget - left + 1,
                 };
             }
             at = t.at;
             depth = t.depth;
-            nest = t.nest;
-            steps += 1;
+            left -= 1;
         } else {
             match machine::bounds(f.id, f.entry, i, stack, depth, mem.len()) {
                 Bounds::Clear => {
                     depth = machine::exec(f.id, f.entry, i, stack, depth, locals, mem);
                     at += d.len;
-                    steps += 1;
+                    left -= 1;
                 }
                 Bounds::Past(_) => return Answer {
                     code: card::TRAP,
                     place: at,
-                    steps,
+                    steps: budget - left,
                 },
             }
         }

@@ -40,6 +40,10 @@ Marked [] ms = Unit {0}
 Marked (l ∷ ls) ms =
     (getD ms (3 * length ls) 0 ≡ countUnder (l ∷ ls)) × (getD ms (3 * length ls + 1) 0 ≡ wayOf l) × (getD ms (3 * length ls + 2) 0 ≡ l .body) × (length (l .results) ≤ 1) × Marked ls ms
 
+-- at last, how many there are
+abbrev pub openIn : List ℕ → ℕ
+openIn ms = getD ms (3 * nestLimit) 0
+
 -- ---- a configuration
 
 abbrev pub wholeStack : Config → List Value
@@ -51,7 +55,7 @@ pub record Carries (s : List ℕ) (h : Header) (c : Config) (at depth nest : ℕ
   pub rep : Rep (withStack (c .state) (wholeStack c)) stack depth locals mem
   pub many : length (c .labels) ≡ nest
   pub marked : Marked (c .labels) marks
-  pub marks-long : length marks ≡ 3 * nestLimit
+  pub marks-long : length marks ≡ 3 * nestLimit + 1
 
 -- some configuration is held
 pub record Held (s : List ℕ) (at depth nest : ℕ) (stack marks locals mem : List ℕ) : Type 0 where
@@ -99,7 +103,7 @@ pub record Leads (s : List ℕ) (h : Header) (σ : State) (ls : List Label) (ind
   pub rep : Rep (withStack σ (σ .stack ++ underAll ls)) stack depth locals mem
   pub many : length ls ≡ nest
   pub marked : Marked ls marks
-  pub marks-long : length marks ≡ 3 * nestLimit
+  pub marks-long : length marks ≡ 3 * nestLimit + 1
   pub frames : List Frame
   pub nested : Nested s h frames ls
   pub safe : Safe s h (length (σ .memory)) (branch s h σ index ls)

@@ -1,14 +1,14 @@
+-- The invariant is one record for each configuration that the arrays may hold (`Driving.Drives`), and that the ends kept are true; each need of the loop cites one law.
 use borrow.Author.Needs.{needs}
+use native.Mathlib.Nat.{pos-of-ne-zero}
 use native.Mathlib.Omega.{arith}
 use mathlib.Core.Path.{ap, _∙_}
 use lib.ListN.{length}
-use Rattle.run.proofs.Driving.{below, not-clear, starts, spent, stacked, seen, inside, results-fit, finished, turned, bounds-fits, exec-apt, onward, strayed}
--- The invariant is one record for each configuration that the arrays may hold (`Driving.Drives`), and each need of the loop cites one law of it.
-use Prim.Native.Nat.{_-_}
 use Rattle.rules.specs.Strip.{Valid}
 use Rattle.standard.specs.Standard.{Config}
-use Rattle.run.specs.Inner.Carried.{Carries}
-use Rattle.run.proofs.Driving.{Drives}
+use Rattle.run.specs.Inner.Carried.{openIn, Carries}
+use Rattle.run.specs.Inner.Ends.{Kept}
+use Rattle.run.proofs.Driving.{Drives, not-clear, starts, spent, stacked, seen, inside, results-fit, finished, turned, bounds-fits, exec-apt, onward, strayed}
 use Rattle.run.proofs.running.go_on.Statement.{statement}
 use Rattle.run.proofs.running.go_on.Tie as tie
 use Rattle.run.proofs.running.go_on.Reads as reads
@@ -22,81 +22,84 @@ use Rattle.run.proofs.blocks.turns.Reads as turns-reads
 use Rattle.run.proofs.running.put_results.Reads as put-results-reads
 
 abbrev Inv-loop : tie.InvT-loop
-Inv-loop strip mem₀ results₀ budget place stack₀ values marks₀ levels locals₀ at₀ depth₀ nest₀ steps₀ mem results stack marks locals at depth nest steps =
-    (v : Valid strip) (c₀ : Config) → Carries strip (v .header) c₀ place values levels stack₀ marks₀ locals₀ mem₀
-    → Drives strip v c₀ mem₀ results₀ budget mem results stack marks locals at depth nest steps
+Inv-loop strip mem₀ results₀ budget place stack₀ values marks₀ ends₀ locals₀ at₀ depth₀ left₀ mem results stack marks ends locals at depth left =
+    ((v : Valid strip) (c₀ : Config) → Carries strip (v .header) c₀ place values (openIn marks₀) stack₀ marks₀ locals₀ mem₀
+    → Drives strip v c₀ mem₀ results₀ budget mem results stack marks locals at depth (openIn marks) left) × Kept strip ends
 
 abbrev μ-loop : tie.MeasureT-loop
-μ-loop strip mem₀ results₀ budget place stack₀ values marks₀ levels locals₀ at₀ depth₀ nest₀ steps₀ mem results stack marks locals at depth nest steps =
-    budget - steps
+μ-loop strip mem₀ results₀ budget place stack₀ values marks₀ ends₀ locals₀ at₀ depth₀ left₀ mem results stack marks ends locals at depth left = left
 
 -- src/running.rt:82:5
 loop-holds : tie.Need-loop-holds Inv-loop μ-loop
-loop-holds c = λ v c₀ C. starts v c₀ (c .before .before .before .args .budget) C (c .before .before .before .pre)
+loop-holds c = (λ v c₀ C. starts v c₀ (c .before .before .before .args .budget) C (c .before .before .before .pre .0), c .before .before .before .pre .1)
 
 -- src/running.rt:84:13
 same-length : tie.Need-same-length Inv-loop μ-loop
-same-length c = c .before .loop .inv (c .before .before .before .before .before .pre .held .valid) (c .before .before .before .before .before .pre .held .config) (c .before .before .before .before .before .pre .held .carries) .long
+same-length c = c .before .loop .inv .0 (c .before .before .before .before .before .pre .0 .held .valid) (c .before .before .before .before .before .pre .0 .held .config) (c .before .before .before .before .before .pre .0 .held .carries) .long
 
 -- src/running.rt:84:13
 same-length-2 : tie.Need-same-length-2 Inv-loop μ-loop
-same-length-2 c = ap length (c .before .loop .inv (c .before .before .before .before .before .pre .held .valid) (c .before .before .before .before .before .pre .held .config) (c .before .before .before .before .before .pre .held .carries) .untouched)
+same-length-2 c = ap length (c .before .loop .inv .0 (c .before .before .before .before .before .pre .0 .held .valid) (c .before .before .before .before .before .pre .0 .held .config) (c .before .before .before .before .before .pre .0 .held .carries) .untouched)
 
 -- src/running.rt:84:13
 returns : tie.Need-returns Inv-loop μ-loop
-returns c = λ v c₀ C. let D = c .before .loop .inv v c₀ C in spent D (c .if1 .taken)
+returns c = λ v c₀ C. spent (c .before .loop .inv .0 v c₀ C) (c .if1 .taken)
 
--- src/running.rt:90:13
+-- src/running.rt:91:13
 fetch-requires : tie.Need-fetch-requires Inv-loop μ-loop
 fetch-requires c κs = tt
 
--- src/running.rt:93:13
+-- src/running.rt:94:13
 group-requires : tie.Need-group-requires Inv-loop μ-loop
 group-requires c κs = tt
 
--- src/running.rt:94:12
+-- src/running.rt:95:12
 turns-requires : tie.Need-turns-requires Inv-loop μ-loop
 turns-requires c κs = tt
 
--- src/running.rt:95:17
+-- src/running.rt:96:17
 turn-requires : tie.Need-turn-requires Inv-loop μ-loop
-turn-requires c κs = let D = c .before .before .before .before .before .before .before .before .before .loop .inv (c .before .before .before .before .before .before .before .before .before .before .before .before .before .pre .held .valid) (c .before .before .before .before .before .before .before .before .before .before .before .before .before .pre .held .config) (c .before .before .before .before .before .before .before .before .before .before .before .before .before .pre .held .carries) in (stacked D, seen D (c .before .before .before .before .before .before .before .fetch .result) (c .before .before .before .before .before .before .before .fetch .ensures) (c .before .before .before .before .group .result) (c .before .before .before .before .group .ensures) (c .before .before .before .turns .ensures) (c .before .before .if2 .taken))
+turn-requires c κs = let D = c .before .before .before .before .before .before .before .before .before .before .loop .inv .0 (c .before .before .before .before .before .before .before .before .before .before .before .before .before .before .pre .0 .held .valid) (c .before .before .before .before .before .before .before .before .before .before .before .before .before .before .pre .0 .held .config) (c .before .before .before .before .before .before .before .before .before .before .before .before .before .before .pre .0 .held .carries) in (stacked D, seen D (c .before .before .before .before .before .before .before .before .fetch .result) (c .before .before .before .before .before .before .before .before .fetch .ensures) (c .before .before .before .before .before .group .result) (c .before .before .before .before .before .group .ensures) (c .before .before .before .before .turns .ensures) (c .before .before .before .if2 .taken), c .before .before .before .before .before .before .before .before .before .before .loop .inv .1)
 
--- src/running.rt:108:17
+-- src/running.rt:109:17
 put-results-requires : tie.Need-put-results-requires Inv-loop μ-loop
-put-results-requires c κs = let D = c .before .before .before .before .before .before .before .before .before .before .before .before .before .before .before .loop .inv (c .before .before .before .before .before .before .before .before .before .before .before .before .before .before .before .before .before .before .before .pre .held .valid) (c .before .before .before .before .before .before .before .before .before .before .before .before .before .before .before .before .before .before .before .pre .held .config) (c .before .before .before .before .before .before .before .before .before .before .before .before .before .before .before .before .before .before .before .pre .held .carries) in results-fit D (c .before .before .before .before .before .turn .ensures (c .before .before .before .before .before .before .before .before .before .before .before .before .before .before .before .before .before .before .before .pre .held .valid) (D .config) (c .before .before .before .before .before .before .before .before .before .before .before .before .before .before .before .loop .locals) (c .before .before .before .before .before .before .before .before .before .before .before .before .before .before .before .loop .mem) (D .carries)) (c .before .before .before .if3 .taken)
+put-results-requires c κs = let D = c .before .before .before .before .before .before .before .before .before .before .before .before .before .before .before .before .loop .inv .0 (c .before .before .before .before .before .before .before .before .before .before .before .before .before .before .before .before .before .before .before .before .pre .0 .held .valid) (c .before .before .before .before .before .before .before .before .before .before .before .before .before .before .before .before .before .before .before .before .pre .0 .held .config) (c .before .before .before .before .before .before .before .before .before .before .before .before .before .before .before .before .before .before .before .before .pre .0 .held .carries) in results-fit D (c .before .before .before .before .before .turn .ensures .0 (c .before .before .before .before .before .before .before .before .before .before .before .before .before .before .before .before .before .before .before .before .pre .0 .held .valid) (D .config) (c .before .before .before .before .before .before .before .before .before .before .before .before .before .before .before .before .loop .locals) (c .before .before .before .before .before .before .before .before .before .before .before .before .before .before .before .before .loop .mem) (D .carries)) (c .before .before .before .if3 .taken)
 
--- src/running.rt:112:28
-add-t30 : tie.Need-add-t30 Inv-loop μ-loop
-add-t30 c = omega (arith, below (c .before .before .before .before .before .before .before .before .before .before .before .before .before .before .before .before .before .before .loop .inv (c .before .before .before .before .before .before .before .before .before .before .before .before .before .before .before .before .before .before .before .before .before .before .pre .held .valid) (c .before .before .before .before .before .before .before .before .before .before .before .before .before .before .before .before .before .before .before .before .before .before .pre .held .config) (c .before .before .before .before .before .before .before .before .before .before .before .before .before .before .before .before .before .before .before .before .before .before .pre .held .carries) .within) (c .before .before .before .before .before .before .before .before .before .before .before .before .before .before .before .before .before .if1 .left), c .before .before .before .before .before .before .before .before .before .before .before .before .before .before .before .before .before .before .before .before .before .before .fits .budget)
+-- src/running.rt:113:28
+sub-t30 : tie.Need-sub-t30 Inv-loop μ-loop
+sub-t30 c = c .before .before .before .before .before .before .before .before .before .before .before .before .before .before .before .before .before .before .before .loop .inv .0 (c .before .before .before .before .before .before .before .before .before .before .before .before .before .before .before .before .before .before .before .before .before .before .before .pre .0 .held .valid) (c .before .before .before .before .before .before .before .before .before .before .before .before .before .before .before .before .before .before .before .before .before .before .before .pre .0 .held .config) (c .before .before .before .before .before .before .before .before .before .before .before .before .before .before .before .before .before .before .before .before .before .before .before .pre .0 .held .carries) .within
 
--- src/running.rt:109:17
+-- src/running.rt:113:28
+add-t31 : tie.Need-add-t31 Inv-loop μ-loop
+add-t31 c = omega (arith, c .before .before .before .before .before .before .before .before .before .before .before .before .before .before .before .before .before .before .before .loop .inv .0 (c .before .before .before .before .before .before .before .before .before .before .before .before .before .before .before .before .before .before .before .before .before .before .before .pre .0 .held .valid) (c .before .before .before .before .before .before .before .before .before .before .before .before .before .before .before .before .before .before .before .before .before .before .before .pre .0 .held .config) (c .before .before .before .before .before .before .before .before .before .before .before .before .before .before .before .before .before .before .before .before .before .before .before .pre .0 .held .carries) .within, pos-of-ne-zero (c .before .before .before .before .before .before .before .before .before .before .before .before .before .before .before .before .before .before .if1 .left), c .before .before .before .before .before .before .before .before .before .before .before .before .before .before .before .before .before .before .before .before .before .before .before .fits .budget)
+
+-- src/running.rt:110:17
 same-length-3 : tie.Need-same-length-3 Inv-loop μ-loop
-same-length-3 c = c .before .before .before .before .before .before .before .before .before .before .before .before .before .before .before .before .before .before .loop .inv (c .before .before .before .before .before .before .before .before .before .before .before .before .before .before .before .before .before .before .before .before .before .before .pre .held .valid) (c .before .before .before .before .before .before .before .before .before .before .before .before .before .before .before .before .before .before .before .before .before .before .pre .held .config) (c .before .before .before .before .before .before .before .before .before .before .before .before .before .before .before .before .before .before .before .before .before .before .pre .held .carries) .long
+same-length-3 c = c .before .before .before .before .before .before .before .before .before .before .before .before .before .before .before .before .before .before .before .loop .inv .0 (c .before .before .before .before .before .before .before .before .before .before .before .before .before .before .before .before .before .before .before .before .before .before .before .pre .0 .held .valid) (c .before .before .before .before .before .before .before .before .before .before .before .before .before .before .before .before .before .before .before .before .before .before .before .pre .0 .held .config) (c .before .before .before .before .before .before .before .before .before .before .before .before .before .before .before .before .before .before .before .before .before .before .before .pre .0 .held .carries) .long
 
--- src/running.rt:109:17
+-- src/running.rt:110:17
 same-length-4 : tie.Need-same-length-4 Inv-loop μ-loop
-same-length-4 c = c .before .before .put-results .kept .1 .1 .0 ∙ ap length (c .before .before .before .before .before .before .before .before .before .before .before .before .before .before .before .before .before .before .loop .inv (c .before .before .before .before .before .before .before .before .before .before .before .before .before .before .before .before .before .before .before .before .before .before .pre .held .valid) (c .before .before .before .before .before .before .before .before .before .before .before .before .before .before .before .before .before .before .before .before .before .before .pre .held .config) (c .before .before .before .before .before .before .before .before .before .before .before .before .before .before .before .before .before .before .before .before .before .before .pre .held .carries) .untouched)
+same-length-4 c = c .before .before .put-results .kept .1 .1 .0 ∙ ap length (c .before .before .before .before .before .before .before .before .before .before .before .before .before .before .before .before .before .before .before .loop .inv .0 (c .before .before .before .before .before .before .before .before .before .before .before .before .before .before .before .before .before .before .before .before .before .before .before .pre .0 .held .valid) (c .before .before .before .before .before .before .before .before .before .before .before .before .before .before .before .before .before .before .before .before .before .before .before .pre .0 .held .config) (c .before .before .before .before .before .before .before .before .before .before .before .before .before .before .before .before .before .before .before .before .before .before .before .pre .0 .held .carries) .untouched)
 
--- src/running.rt:109:17
+-- src/running.rt:110:17
 returns-2 : tie.Need-returns-2 Inv-loop μ-loop
-returns-2 c = λ v c₀ C. let D = c .before .before .before .before .before .before .before .before .before .before .before .before .before .before .before .before .before .before .loop .inv v c₀ C in finished D (c .before .before .before .before .before .before .before .before .turn .ensures v (D .config) (c .before .before .before .before .before .before .before .before .before .before .before .before .before .before .before .before .before .before .loop .locals) (c .before .before .before .before .before .before .before .before .before .before .before .before .before .before .before .before .before .before .loop .mem) (D .carries)) (below (D .within) (c .before .before .before .before .before .before .before .before .before .before .before .before .before .before .before .before .before .if1 .left)) (c .before .before .before .before .before .before .if3 .taken) (c .before .before .put-results .ensures)
+returns-2 c = λ v c₀ C. let D = c .before .before .before .before .before .before .before .before .before .before .before .before .before .before .before .before .before .before .before .loop .inv .0 v c₀ C in finished D (c .before .before .before .before .before .before .before .before .turn .ensures .0 v (D .config) (c .before .before .before .before .before .before .before .before .before .before .before .before .before .before .before .before .before .before .before .loop .locals) (c .before .before .before .before .before .before .before .before .before .before .before .before .before .before .before .before .before .before .before .loop .mem) (D .carries)) (pos-of-ne-zero (c .before .before .before .before .before .before .before .before .before .before .before .before .before .before .before .before .before .before .if1 .left)) (c .before .before .before .before .before .before .if3 .taken) (c .before .before .put-results .ensures)
 
 -- src/running.rt:118:13
-add-steps : tie.Need-add-steps Inv-loop μ-loop
-add-steps c = omega (arith, below (c .before .before .before .before .before .before .before .before .before .before .before .before .loop .inv (c .before .before .before .before .before .before .before .before .before .before .before .before .before .before .before .before .pre .held .valid) (c .before .before .before .before .before .before .before .before .before .before .before .before .before .before .before .before .pre .held .config) (c .before .before .before .before .before .before .before .before .before .before .before .before .before .before .before .before .pre .held .carries) .within) (c .before .before .before .before .before .before .before .before .before .before .before .if1 .left), c .before .before .before .before .before .before .before .before .before .before .before .before .before .before .before .before .fits .budget)
+sub-left : tie.Need-sub-left Inv-loop μ-loop
+sub-left c = pos-of-ne-zero (c .before .before .before .before .before .before .before .before .before .before .before .before .if1 .left)
 
 -- src/running.rt:82:5
 loop-less : tie.Need-loop-less Inv-loop μ-loop
-loop-less c = let more = below (c .before .before .before .before .before .before .before .before .before .before .before .before .loop .inv (c .before .before .before .before .before .before .before .before .before .before .before .before .before .before .before .before .pre .held .valid) (c .before .before .before .before .before .before .before .before .before .before .before .before .before .before .before .before .pre .held .config) (c .before .before .before .before .before .before .before .before .before .before .before .before .before .before .before .before .pre .held .carries) .within) (c .before .before .before .before .before .before .before .before .before .before .before .if1 .left) in omega arith
+loop-less c = omega (arith, pos-of-ne-zero (c .before .before .before .before .before .before .before .before .before .before .before .before .if1 .left))
 
 -- src/running.rt:82:5
 loop-again : tie.Need-loop-again Inv-loop μ-loop
-loop-again c = λ v c₀ C. let D = c .before .before .before .before .before .before .before .before .before .before .before .before .loop .inv v c₀ C in turned D (c .before .before .turn .ensures v (D .config) (c .before .before .before .before .before .before .before .before .before .before .before .before .loop .locals) (c .before .before .before .before .before .before .before .before .before .before .before .before .loop .mem) (D .carries)) (below (D .within) (c .before .before .before .before .before .before .before .before .before .before .before .if1 .left)) (c .if3 .left)
+loop-again c = (λ v c₀ C. let D = c .before .before .before .before .before .before .before .before .before .before .before .before .before .loop .inv .0 v c₀ C in turned D (c .before .before .turn .ensures .0 v (D .config) (c .before .before .before .before .before .before .before .before .before .before .before .before .before .loop .locals) (c .before .before .before .before .before .before .before .before .before .before .before .before .before .loop .mem) (D .carries)) (pos-of-ne-zero (c .before .before .before .before .before .before .before .before .before .before .before .before .if1 .left)) (c .if3 .left), c .before .before .turn .ensures .1)
 
 -- src/running.rt:120:19
 bounds-requires : tie.Need-bounds-requires Inv-loop μ-loop
-bounds-requires c κs = let D = c .before .before .before .before .before .before .before .before .before .loop .inv (c .before .before .before .before .before .before .before .before .before .before .before .before .before .pre .held .valid) (c .before .before .before .before .before .before .before .before .before .before .before .before .before .pre .held .config) (c .before .before .before .before .before .before .before .before .before .before .before .before .before .pre .held .carries) in bounds-fits D (c .before .before .before .before .before .before .before .fetch .result) (c .before .before .before .before .before .before .before .fetch .ensures) (c .before .before .before .before .group .result) (c .before .before .before .before .group .ensures) (c .before .before .before .turns .ensures) (c .before .before .if2 .left)
+bounds-requires c κs = let D = c .before .before .before .before .before .before .before .before .before .loop .inv .0 (c .before .before .before .before .before .before .before .before .before .before .before .before .before .pre .0 .held .valid) (c .before .before .before .before .before .before .before .before .before .before .before .before .before .pre .0 .held .config) (c .before .before .before .before .before .before .before .before .before .before .before .before .before .pre .0 .held .carries) in bounds-fits D (c .before .before .before .before .before .before .before .fetch .result) (c .before .before .before .before .before .before .before .fetch .ensures) (c .before .before .before .before .group .result) (c .before .before .before .before .group .ensures) (c .before .before .before .turns .ensures) (c .before .before .if2 .left)
 
 -- src/running.rt:122:61
 enum-told : tie.Need-enum-told Inv-loop μ-loop
@@ -104,39 +107,43 @@ enum-told c = search needs
 
 -- src/running.rt:122:21
 exec-requires : tie.Need-exec-requires Inv-loop μ-loop
-exec-requires c κs = let D = c .before .before .before .before .before .before .before .before .before .before .before .before .before .before .before .loop .inv (c .before .before .before .before .before .before .before .before .before .before .before .before .before .before .before .before .before .before .before .pre .held .valid) (c .before .before .before .before .before .before .before .before .before .before .before .before .before .before .before .before .before .before .before .pre .held .config) (c .before .before .before .before .before .before .before .before .before .before .before .before .before .before .before .before .before .before .before .pre .held .carries) in exec-apt D (c .before .before .before .before .before .before .before .before .before .before .before .before .before .fetch .result) (c .before .before .before .before .before .before .before .before .before .before .before .before .before .fetch .ensures) (c .before .before .before .before .before .before .before .before .before .before .group .result) (c .before .before .before .before .before .before .before .before .before .before .group .ensures) (c .before .before .before .before .before .before .before .before .before .turns .ensures) (c .before .before .before .before .before .before .before .before .if2 .left) (c .before .before .before .before .before .bounds .result) (c .before .before .before .before .before .bounds .ensures) (c .before .before .before .enum-told .given .1)
+exec-requires c κs = let D = c .before .before .before .before .before .before .before .before .before .before .before .before .before .before .before .loop .inv .0 (c .before .before .before .before .before .before .before .before .before .before .before .before .before .before .before .before .before .before .before .pre .0 .held .valid) (c .before .before .before .before .before .before .before .before .before .before .before .before .before .before .before .before .before .before .before .pre .0 .held .config) (c .before .before .before .before .before .before .before .before .before .before .before .before .before .before .before .before .before .before .before .pre .0 .held .carries) in exec-apt D (c .before .before .before .before .before .before .before .before .before .before .before .before .before .fetch .result) (c .before .before .before .before .before .before .before .before .before .before .before .before .before .fetch .ensures) (c .before .before .before .before .before .before .before .before .before .before .group .result) (c .before .before .before .before .before .before .before .before .before .before .group .ensures) (c .before .before .before .before .before .before .before .before .before .turns .ensures) (c .before .before .before .before .before .before .before .before .if2 .left) (c .before .before .before .before .before .bounds .result) (c .before .before .before .before .before .bounds .ensures) (c .before .before .before .enum-told .given .1)
 
 -- src/running.rt:123:21
 add-at : tie.Need-add-at Inv-loop μ-loop
-add-at c = let D = c .before .before .before .before .before .before .before .before .before .before .before .before .before .before .before .before .before .before .before .loop .inv (c .before .before .before .before .before .before .before .before .before .before .before .before .before .before .before .before .before .before .before .before .before .before .before .pre .held .valid) (c .before .before .before .before .before .before .before .before .before .before .before .before .before .before .before .before .before .before .before .before .before .before .before .pre .held .config) (c .before .before .before .before .before .before .before .before .before .before .before .before .before .before .before .before .before .before .before .before .before .before .before .pre .held .carries) in omega (arith, inside D (c .before .before .before .before .before .before .before .before .before .before .before .before .before .before .before .before .before .fetch .result) (c .before .before .before .before .before .before .before .before .before .before .before .before .before .before .before .before .before .fetch .ensures))
+add-at c = let D = c .before .before .before .before .before .before .before .before .before .before .before .before .before .before .before .before .before .before .before .loop .inv .0 (c .before .before .before .before .before .before .before .before .before .before .before .before .before .before .before .before .before .before .before .before .before .before .before .pre .0 .held .valid) (c .before .before .before .before .before .before .before .before .before .before .before .before .before .before .before .before .before .before .before .before .before .before .before .pre .0 .held .config) (c .before .before .before .before .before .before .before .before .before .before .before .before .before .before .before .before .before .before .before .before .before .before .before .pre .0 .held .carries) in omega (arith, inside D (c .before .before .before .before .before .before .before .before .before .before .before .before .before .before .before .before .before .fetch .result) (c .before .before .before .before .before .before .before .before .before .before .before .before .before .before .before .before .before .fetch .ensures))
 
 -- src/running.rt:124:21
-add-steps-2 : tie.Need-add-steps-2 Inv-loop μ-loop
-add-steps-2 c = omega (arith, below (c .before .before .before .before .before .before .before .before .before .before .before .before .before .before .before .before .before .before .before .loop .inv (c .before .before .before .before .before .before .before .before .before .before .before .before .before .before .before .before .before .before .before .before .before .before .before .pre .held .valid) (c .before .before .before .before .before .before .before .before .before .before .before .before .before .before .before .before .before .before .before .before .before .before .before .pre .held .config) (c .before .before .before .before .before .before .before .before .before .before .before .before .before .before .before .before .before .before .before .before .before .before .before .pre .held .carries) .within) (c .before .before .before .before .before .before .before .before .before .before .before .before .before .before .before .before .before .before .if1 .left), c .before .before .before .before .before .before .before .before .before .before .before .before .before .before .before .before .before .before .before .before .before .before .before .fits .budget)
+sub-left-2 : tie.Need-sub-left-2 Inv-loop μ-loop
+sub-left-2 c = pos-of-ne-zero (c .before .before .before .before .before .before .before .before .before .before .before .before .before .before .before .before .before .before .if1 .left)
 
 -- src/running.rt:82:5
 loop-less-2 : tie.Need-loop-less-2 Inv-loop μ-loop
-loop-less-2 c = let more = below (c .before .before .before .before .before .before .before .before .before .before .before .before .before .before .before .before .before .before .before .loop .inv (c .before .before .before .before .before .before .before .before .before .before .before .before .before .before .before .before .before .before .before .before .before .before .before .pre .held .valid) (c .before .before .before .before .before .before .before .before .before .before .before .before .before .before .before .before .before .before .before .before .before .before .before .pre .held .config) (c .before .before .before .before .before .before .before .before .before .before .before .before .before .before .before .before .before .before .before .before .before .before .before .pre .held .carries) .within) (c .before .before .before .before .before .before .before .before .before .before .before .before .before .before .before .before .before .before .if1 .left) in omega arith
+loop-less-2 c = omega (arith, pos-of-ne-zero (c .before .before .before .before .before .before .before .before .before .before .before .before .before .before .before .before .before .before .if1 .left))
 
 -- src/running.rt:82:5
 loop-again-2 : tie.Need-loop-again-2 Inv-loop μ-loop
-loop-again-2 c = λ v c₀ C. let D = c .before .before .before .before .before .before .before .before .before .before .before .before .before .before .before .before .before .before .before .loop .inv v c₀ C in onward D (c .before .before .before .before .before .before .before .before .before .before .before .before .before .before .before .before .before .fetch .result) (c .before .before .before .before .before .before .before .before .before .before .before .before .before .before .before .before .before .fetch .ensures) (c .before .before .before .before .before .before .before .before .before .before .before .before .before .before .group .result) (c .before .before .before .before .before .before .before .before .before .before .before .before .before .before .group .ensures) (c .before .before .before .before .before .before .before .before .before .before .before .before .before .turns .ensures) (c .before .before .before .before .before .before .before .before .before .before .before .before .if2 .left) (c .before .before .before .before .before .before .before .before .before .bounds .result) (c .before .before .before .before .before .before .before .before .before .bounds .ensures) (c .before .before .before .before .before .before .before .enum-told .given .1) (below (D .within) (c .before .before .before .before .before .before .before .before .before .before .before .before .before .before .before .before .before .before .if1 .left)) (c .before .before .before .exec .ensures) (c .before .before .before .exec .kept .1 .1 .1 .1 .1 .1 .0)
+loop-again-2 c = (λ v c₀ C. let D = c .before .before .before .before .before .before .before .before .before .before .before .before .before .before .before .before .before .before .before .loop .inv .0 v c₀ C in onward D (c .before .before .before .before .before .before .before .before .before .before .before .before .before .before .before .before .before .fetch .result) (c .before .before .before .before .before .before .before .before .before .before .before .before .before .before .before .before .before .fetch .ensures) (c .before .before .before .before .before .before .before .before .before .before .before .before .before .before .group .result) (c .before .before .before .before .before .before .before .before .before .before .before .before .before .before .group .ensures) (c .before .before .before .before .before .before .before .before .before .before .before .before .before .turns .ensures) (c .before .before .before .before .before .before .before .before .before .before .before .before .if2 .left) (c .before .before .before .before .before .before .before .before .before .bounds .result) (c .before .before .before .before .before .before .before .before .before .bounds .ensures) (c .before .before .before .before .before .before .before .enum-told .given .1) (pos-of-ne-zero (c .before .before .before .before .before .before .before .before .before .before .before .before .before .before .before .before .before .before .if1 .left)) (c .before .before .before .exec .ensures) (c .before .before .before .exec .kept .1 .1 .1 .1 .1 .1 .0), c .before .before .before .before .before .before .before .before .before .before .before .before .before .before .before .before .before .before .before .loop .inv .1)
 
--- src/running.rt:126:36
+-- src/running.rt:129:28
 enum-told-2 : tie.Need-enum-told-2 Inv-loop μ-loop
 enum-told-2 c = search needs
 
+-- src/running.rt:129:28
+sub-t42 : tie.Need-sub-t42 Inv-loop μ-loop
+sub-t42 c = c .before .before .before .before .before .before .before .before .before .before .before .before .loop .inv .0 (c .before .before .before .before .before .before .before .before .before .before .before .before .before .before .before .before .pre .0 .held .valid) (c .before .before .before .before .before .before .before .before .before .before .before .before .before .before .before .before .pre .0 .held .config) (c .before .before .before .before .before .before .before .before .before .before .before .before .before .before .before .before .pre .0 .held .carries) .within
+
 -- src/running.rt:126:36
 same-length-5 : tie.Need-same-length-5 Inv-loop μ-loop
-same-length-5 c = c .before .before .before .before .before .before .before .before .before .before .before .before .loop .inv (c .before .before .before .before .before .before .before .before .before .before .before .before .before .before .before .before .pre .held .valid) (c .before .before .before .before .before .before .before .before .before .before .before .before .before .before .before .before .pre .held .config) (c .before .before .before .before .before .before .before .before .before .before .before .before .before .before .before .before .pre .held .carries) .long
+same-length-5 c = c .before .before .before .before .before .before .before .before .before .before .before .before .loop .inv .0 (c .before .before .before .before .before .before .before .before .before .before .before .before .before .before .before .before .pre .0 .held .valid) (c .before .before .before .before .before .before .before .before .before .before .before .before .before .before .before .before .pre .0 .held .config) (c .before .before .before .before .before .before .before .before .before .before .before .before .before .before .before .before .pre .0 .held .carries) .long
 
 -- src/running.rt:126:36
 same-length-6 : tie.Need-same-length-6 Inv-loop μ-loop
-same-length-6 c = ap length (c .before .before .before .before .before .before .before .before .before .before .before .before .loop .inv (c .before .before .before .before .before .before .before .before .before .before .before .before .before .before .before .before .pre .held .valid) (c .before .before .before .before .before .before .before .before .before .before .before .before .before .before .before .before .pre .held .config) (c .before .before .before .before .before .before .before .before .before .before .before .before .before .before .before .before .pre .held .carries) .untouched)
+same-length-6 c = ap length (c .before .before .before .before .before .before .before .before .before .before .before .before .loop .inv .0 (c .before .before .before .before .before .before .before .before .before .before .before .before .before .before .before .before .pre .0 .held .valid) (c .before .before .before .before .before .before .before .before .before .before .before .before .before .before .before .before .pre .0 .held .config) (c .before .before .before .before .before .before .before .before .before .before .before .before .before .before .before .before .pre .0 .held .carries) .untouched)
 
 -- src/running.rt:126:36
 returns-3 : tie.Need-returns-3 Inv-loop μ-loop
-returns-3 c = λ v c₀ C. let D = c .before .before .before .before .before .before .before .before .before .before .before .before .loop .inv v c₀ C in strayed D (c .before .before .before .before .before .before .before .before .before .before .fetch .result) (c .before .before .before .before .before .before .before .before .before .before .fetch .ensures) (c .before .before .before .before .before .before .before .group .result) (c .before .before .before .before .before .before .before .group .ensures) (c .before .before .before .before .before .before .turns .ensures) (c .before .before .before .before .before .if2 .left) (c .before .before .bounds .result) (c .before .before .bounds .ensures) (below (D .within) (c .before .before .before .before .before .before .before .before .before .before .before .if1 .left)) (not-clear (c .enum-told2 .given .1))
+returns-3 c = λ v c₀ C. let D = c .before .before .before .before .before .before .before .before .before .before .before .before .loop .inv .0 v c₀ C in strayed D (c .before .before .before .before .before .before .before .before .before .before .fetch .result) (c .before .before .before .before .before .before .before .before .before .before .fetch .ensures) (c .before .before .before .before .before .before .before .group .result) (c .before .before .before .before .before .before .before .group .ensures) (c .before .before .before .before .before .before .turns .ensures) (c .before .before .before .before .before .if2 .left) (c .before .before .bounds .result) (c .before .before .bounds .ensures) (pos-of-ne-zero (c .before .before .before .before .before .before .before .before .before .before .before .if1 .left)) (not-clear (c .enum-told2 .given .1))
 
 pub go-on-spec : {M : Type 1} → statement M
 go-on-spec =
@@ -153,21 +160,23 @@ go-on-spec =
     turns-requires
     turn-requires
     put-results-requires
-    add-t30
+    sub-t30
+    add-t31
     same-length-3
     same-length-4
     returns-2
-    add-steps
+    sub-left
     loop-less
     loop-again
     bounds-requires
     enum-told
     exec-requires
     add-at
-    add-steps-2
+    sub-left-2
     loop-less-2
     loop-again-2
     enum-told-2
+    sub-t42
     same-length-5
     same-length-6
     returns-3)
