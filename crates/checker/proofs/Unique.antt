@@ -32,5 +32,5 @@ pub one-outset : (κs : _) (a : _) (e e′ : _) (r r′ : State) → outset.Post
 one-outset κs a e e′ r r′ p q = p ∙ sym q
 
 pub one-follow : (κs : _) (a : _) (e e′ : _) (r r′ : State) → follow.Post κs a r e → follow.Post κs a r′ e′
-    → (now (e .1 .1 .0) ≡ now (e′ .1 .1 .0)) × (now (e .1 .1 .1 .0) ≡ now (e′ .1 .1 .1 .0)) × (r ≡ r′)
+    → (now (e .1 .1 .1 .0) ≡ now (e′ .1 .1 .1 .0)) × (now (e .1 .1 .1 .1 .0) ≡ now (e′ .1 .1 .1 .1 .0)) × (r ≡ r′)
 one-follow κs a e e′ r r′ p q = steps-once p q

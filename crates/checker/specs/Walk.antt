@@ -10,6 +10,9 @@ use Rattle.limits.specs.Limits.{stackLimit, nestLimit}
 use Rattle.opcode.specs.Kind.{Kind, kindByte}
 use Rattle.opcode.specs.BlockType.{isBlockType, blockResults}
 use Rattle.instr.specs.declared.Instr.{Instr}
+use Rattle.instr.specs.declared.Scanned.{Scanned}
+use Rattle.instr.specs.Decode.{decodeIn}
+use Rattle.instr.specs.Scan.{scanOf}
 use Rattle.instr.specs.Layout.{Stands}
 use Rattle.rules.specs.Typing.{Frame, allValues}
 use Rattle.rules.specs.Strip.{Within, Reaches, Valid}
@@ -64,6 +67,10 @@ pub record Walks (s : List ℕ) (p : ℕ) (kinds blocks : List ℕ) (state : Sta
   pub kinds-long : length kinds ≡ stackLimit
   pub blocks-long : length blocks ≡ nestLimit
   pub well : state .code ≡ DONE
+
+-- what scanning tells of the instruction at p
+abbrev pub readAt : List ℕ → ℕ → Scanned
+readAt s p = scanOf (decodeIn (getD s 3 0) s p)
 
 -- after the strip's own `end` the walk is over, and all is as it was; after another instruction it goes on, and beyond what is held then the arrays are as they were
 pub data Goes (s : List ℕ) (p : ℕ) (kinds blocks : List ℕ) (state : State) : List ℕ → List ℕ → State → Type 0 where

@@ -7,6 +7,7 @@ use Rattle.opcode.specs.Number.{idOf, rowOf}
 use Rattle.opcode.specs.Entry.{entryOf}
 use Rattle.instr.specs.declared.Instr.{Instr}
 use Rattle.instr.specs.declared.Decoded.{Decoded}
+use Rattle.instr.specs.declared.Fetched.{Fetched}
 use Rattle.instr.specs.declared.Scanned.{Scanned}
 
 -- the index of a local or of a block, or a block type; 0 where there is none of these. No instruction has both, what it lacks is 0, and no
@@ -22,4 +23,15 @@ scanOf d =
       len = d .len;
       entry = entryOf (rowOf (idOf (d .instr .first) (d .instr .number)));
       immediate = immediateOf (d .instr);
+    }
+
+-- the same of an instruction that was fetched
+abbrev pub summaryOf : Fetched → Scanned
+summaryOf f =
+    record {
+      code = f .decoded .code;
+      place = f .decoded .place;
+      len = f .decoded .len;
+      entry = f .entry;
+      immediate = immediateOf (f .decoded .instr);
     }

@@ -10,6 +10,7 @@ pub use decoding::fetch;
 pub use encoding::encode;
 pub use encoding::encoded_len;
 pub use scanning::scan;
+pub use scanning::summary;
 ghost use mathlib.Core.Path.{_≡_};
 ghost use Prim.Native.Nat.{_≤_, _^_};
 ghost use lib.Dec.{leb};

@@ -1,5 +1,6 @@
 // Scanning: as decoding, for those who ask only what the table says of the instruction, the one immediate that the rules read, and where
 // the next one stands.
+use crate::Fetched;
 use crate::Scanned;
 use crate::decoding::opcode_number;
 use crate::immediates::good_lanes;
@@ -9,11 +10,13 @@ use crate::number::s64_at;
 use crate::number::u32_at;
 ghost use mathlib.Core.Path.{_≡_};
 ghost use Prim.Native.Nat.{_≤_};
+ghost use mathlib.Core.Bool.{cond};
+ghost use lib.Dec.{eqb};
 ghost use lib.ListN.{length};
 ghost use Rattle.opcode.specs.Table.{Row};
 ghost use Rattle.opcode.specs.Entry.{entryOf, movedIn};
 ghost use Rattle.instr.specs.Decode.{refusal, laneAt, lanesAt, sixteenAt, blockAt, decodeIn};
-ghost use Rattle.instr.specs.Scan.{scanOf};
+ghost use Rattle.instr.specs.Scan.{scanOf, summaryOf};
 ghost use Rattle.instr.specs.Inner.Steps.{item};
 ghost use Rattle.instr.specs.Inner.Over.{over, overMemory, overRow};
 
@@ -44,6 +47,27 @@ pub fn scan(version: u16, s: &[u8], at: usize) -> Scanned
         }
         Read::No(code, place) => refused(code, place),
     }
+}
+
+// What scanning tells of an instruction that was fetched: it is not read again.
+pub fn summary(f: Fetched) -> Scanned
+    ensures { λ r. ⌜ r ≡ summaryOf f ⌝ }
+{
+    let d = f.decoded;
+    let i = d.instr;
+    Scanned {
+        code: d.code,
+        place: d.place,
+        len: d.len,
+        entry: f.entry,
+        immediate: immediate_of(i.block, i.index),
+    }
+}
+
+fn immediate_of(block: u8, index: u32) -> u32
+    ensures { λ r. ⌜ r ≡ cond (eqb block 0) index block ⌝ }
+{
+    if block == 0 { index } else { block as u32 }
 }
 
 fn refused(code: u8, place: usize) -> Scanned

@@ -107,7 +107,7 @@ pub fn next_line(
     let i = d.instr;
     let len = line::line(at, kinds, state.depth, f.id, f.entry, i, text);
     let next = at + d.len;
-    let state = checker::follow(strip, at, kinds, blocks, state);
+    let state = checker::follow(strip, at, instr::summary(f), kinds, blocks, state);
     Next {
         at: next,
         state,

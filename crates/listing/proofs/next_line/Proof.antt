@@ -1,10 +1,17 @@
 -- The line, and then the step.
-use mathlib.Core.Path.{refl}
+use mathlib.Core.Path.{refl, ap, _∙_}
 use native.Mathlib.Omega.{arith}
+use Rattle.instr.specs.Scan.{summaryOf}
 use Rattle.listing.proofs.Walking.{counts-inside, inside, shows, walked}
 use borrow.Author.Needs.{needs}
 use Rattle.listing.proofs.next_line.Statement.{statement}
 use Rattle.listing.proofs.next_line.Tie as tie
+use Rattle.listing.proofs.next_line.Reads as reads
+use Rattle.listing.proofs.next_line.Lts as lts
+use Rattle.checker.proofs.follow.Reads as follow-reads
+use Rattle.instr.proofs.fetch.Reads as fetch-reads
+use Rattle.instr.proofs.summary.Reads as summary-reads
+use Rattle.listing.proofs.line.line.Reads as line-reads
 
 shared-slice-read-fetch : tie.Need-shared-slice-read-fetch
 shared-slice-read-fetch c = omega (arith, counts-inside (c .before .before .before .before .before .pre .0))
@@ -21,8 +28,11 @@ line-requires c κs = shows (c .before .before .before .before .before .before .
 add-next : tie.Need-add-next
 add-next c = omega (arith, inside (c .before .before .before .before .before .before .before .before .before .before .before .before .before .before .pre .0) (c .before .before .before .before .before .before .before .before .fetch .ensures))
 
+summary-requires : tie.Need-summary-requires
+summary-requires c κs = search needs
+
 follow-requires : tie.Need-follow-requires
-follow-requires c κs = search needs
+follow-requires c κs = (c .before .before .before .before .before .before .before .before .before .before .before .before .before .before .before .before .before .pre .0, c .before .before .summary .ensures ∙ ap summaryOf (c .before .before .before .before .before .before .before .before .before .before .before .fetch .ensures))
 
 same-length : tie.Need-same-length
 same-length c = search needs
@@ -34,7 +44,7 @@ same-length-3 : tie.Need-same-length-3
 same-length-3 c = search needs
 
 returns : tie.Need-returns
-returns c = walked (c .before .before .before .before .follow .ensures) (c .before .before .before .before .before .before .before .before .before .before .before .before .before .before .before .fetch .ensures) (c .before .before .before .before .before .before .before .before .before .before .before .before .before .before .before .before .before .before .before .before .before .pre .1) (c .before .before .before .before .before .before .before .before .before .before .line .ensures) refl
+returns c = walked (c .before .before .before .before .follow .ensures) (c .before .before .before .before .before .before .before .before .before .before .before .before .before .before .before .before .fetch .ensures) (c .before .before .before .before .before .before .before .before .before .before .before .before .before .before .before .before .before .before .before .before .before .before .pre .1) (c .before .before .before .before .before .before .before .before .before .before .before .line .ensures) refl
 
 pub next-line-spec : {M : Type 1} → statement M
 next-line-spec =
@@ -45,6 +55,7 @@ next-line-spec =
     fetch-requires
     line-requires
     add-next
+    summary-requires
     follow-requires
     same-length
     same-length-2
