@@ -22,7 +22,8 @@ use Rattle.machine.specs.Inner.Flat.{slotAt, topOf, low32, reach}
 use Rattle.machine.specs.Inner.Fit.{takenByPlain, takenByOp, takenBy, Slotted, boundsAt, boundsOp, boundsOf}
 use Rattle.machine.specs.declared.access.Bounds.{Bounds}
 use Rattle.machine.specs.declared.access.Bounds.the-variants.{Clear, Past}
-use Rattle.machine.proofs.Laws.Rep.{Rep, low-i32}
+use Rattle.machine.specs.Inner.Rep.{Rep}
+use Rattle.machine.proofs.Laws.Rep.{low-i32}
 use Rattle.machine.proofs.Laws.Pops.{pop-i32, pop-v128, pop-any, pop-scalar, named, same-kind}
 use Rattle.machine.proofs.Laws.Update.{all-held}
 

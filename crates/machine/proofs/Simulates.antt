@@ -24,7 +24,8 @@ use Rattle.machine.specs.Value.{Value, I32, I64, V128, InRange, bytesOf}
 use Rattle.machine.specs.Memory.{part, padded, stored}
 use Rattle.machine.specs.Exec.{State, goes, done, stuck, goOn, access, ofKinds, popI32, popV128, execPlain, execVector, exec}
 use Rattle.machine.specs.Inner.Flat.{slotAt, putSlot, topOf, low32, low64, lowest, reach, Flat, flatPlain, flatVector, flat}
-use Rattle.machine.proofs.Laws.Rep.{Rep, low-i32, low-i64}
+use Rattle.machine.specs.Inner.Rep.{Rep}
+use Rattle.machine.proofs.Laws.Rep.{low-i32, low-i64}
 use Rattle.machine.proofs.Laws.Pops.{scalarOf, pop-i32, pop-v128, pop-any, pop-scalar, named, same-kind, reached}
 use Rattle.machine.proofs.Laws.Ranges.{bytes-part, length-part, sixteen-padded, bytes-stored, range-at}
 use Rattle.machine.proofs.Laws.Update.{all-held, with-memory, with-local, pushed, popped}

@@ -7,7 +7,7 @@ use lib.ListN.{length, replicate, length-replicate}
 use Rattle.lane.proofs.Laws.Number.{Bytes}
 use Rattle.limits.specs.Limits.{localCount, stackBytes, localBytes, nestLimit}
 use Rattle.machine.specs.Memory.{stored}
-use Rattle.machine.proofs.Laws.Rep.{Rep}
+use Rattle.machine.specs.Inner.Rep.{Rep}
 use Rattle.rules.specs.Header.{Header, headerBytes}
 use Rattle.rules.specs.Strip.{Valid}
 use Rattle.rules.proofs.Onward.{declared}

@@ -21,7 +21,8 @@ use Rattle.machine.specs.Value.{Value, I32, I64, V128}
 use Rattle.machine.specs.Memory.{part}
 use Rattle.machine.specs.Exec.{State, done, stuck, ofKinds}
 use Rattle.machine.specs.Inner.Flat.{Holds, slotAt, topOf, low32}
-use Rattle.machine.proofs.Laws.Rep.{Rep, Slots, low-i32}
+use Rattle.machine.specs.Inner.Rep.{Rep, Slots}
+use Rattle.machine.proofs.Laws.Rep.{low-i32}
 use Rattle.rules.specs.Header.{Header}
 use Rattle.rules.specs.Strip.{Reads, Valid}
 use Rattle.rules.proofs.Onward.{declared}

@@ -12,7 +12,8 @@ use Rattle.machine.specs.Value.{Value, kindOf, bytesOf}
 use Rattle.machine.specs.Memory.{part}
 use Rattle.machine.specs.Exec.{State, ofKinds}
 use Rattle.machine.specs.Inner.Flat.{slotAt, putSlot}
-use Rattle.machine.proofs.Laws.Rep.{Rep, Slots, rep-push}
+use Rattle.machine.specs.Inner.Rep.{Rep, Slots}
+use Rattle.machine.proofs.Laws.Rep.{rep-push}
 use Rattle.rules.specs.Header.{Header}
 use Rattle.rules.specs.Typing.{opened}
 use Rattle.rules.specs.Strip.{Valid}

@@ -10,7 +10,8 @@ use Rattle.limits.specs.Limits.{slot, nestLimit}
 use Rattle.machine.specs.Value.{Value, AllInRange, allBytes}
 use Rattle.machine.specs.Memory.{part}
 use Rattle.machine.specs.Exec.{State}
-use Rattle.machine.proofs.Laws.Rep.{Rep, Slots, rep-pop}
+use Rattle.machine.specs.Inner.Rep.{Rep, Slots}
+use Rattle.machine.proofs.Laws.Rep.{rep-pop}
 use Rattle.rules.specs.Header.{Header}
 use Rattle.rules.specs.Typing.{Frame, opened}
 use Rattle.rules.specs.Strip.{Reaches}

@@ -22,7 +22,7 @@ use Rattle.machine.specs.declared.access.Bounds.{Bounds}
 use Rattle.machine.specs.declared.access.Bounds.the-variants.{Clear, Past}
 use Rattle.machine.proofs.Simulates.{simulates}
 use Rattle.machine.proofs.Fits.{slotted, enough, clear, past-end}
-use Rattle.machine.proofs.Laws.Rep.{Rep}
+use Rattle.machine.specs.Inner.Rep.{Rep}
 use Rattle.rules.specs.Strip.{Reads}
 use Rattle.standard.proofs.Steps.{apt}
 

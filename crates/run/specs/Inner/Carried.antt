@@ -12,7 +12,7 @@ use Rattle.instr.specs.declared.Instr.{Instr}
 use Rattle.machine.specs.Value.{Value, allBytes}
 use Rattle.machine.specs.Memory.{part}
 use Rattle.machine.specs.Exec.{State}
-use Rattle.machine.proofs.Laws.Rep.{Rep}
+use Rattle.machine.specs.Inner.Rep.{Rep}
 use Rattle.rules.specs.Header.{Header}
 use Rattle.rules.specs.Strip.{Reads, Valid}
 use Rattle.rules.specs.Typing.{Frame}

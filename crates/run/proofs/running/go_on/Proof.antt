@@ -67,7 +67,7 @@ put-results-requires c κs = let D = c .before .before .before .before .before .
 
 -- src/running.rt:113:28
 sub-t30 : tie.Need-sub-t30 Inv-loop μ-loop
-sub-t30 c = c .before .before .before .before .before .before .before .before .before .before .before .before .before .before .before .before .before .before .before .loop .inv .0 (c .before .before .before .before .before .before .before .before .before .before .before .before .before .before .before .before .before .before .before .before .before .before .before .pre .0 .held .valid) (c .before .before .before .before .before .before .before .before .before .before .before .before .before .before .before .before .before .before .before .before .before .before .before .pre .0 .held .config) (c .before .before .before .before .before .before .before .before .before .before .before .before .before .before .before .before .before .before .before .before .before .before .before .pre .0 .held .carries) .within
+sub-t30 c = omega (arith, c .before .before .before .before .before .before .before .before .before .before .before .before .before .before .before .before .before .before .before .loop .inv .0 (c .before .before .before .before .before .before .before .before .before .before .before .before .before .before .before .before .before .before .before .before .before .before .before .pre .0 .held .valid) (c .before .before .before .before .before .before .before .before .before .before .before .before .before .before .before .before .before .before .before .before .before .before .before .pre .0 .held .config) (c .before .before .before .before .before .before .before .before .before .before .before .before .before .before .before .before .before .before .before .before .before .before .before .pre .0 .held .carries) .within)
 
 -- src/running.rt:113:28
 add-t31 : tie.Need-add-t31 Inv-loop μ-loop
@@ -131,7 +131,7 @@ enum-told-2 c = search needs
 
 -- src/running.rt:129:28
 sub-t42 : tie.Need-sub-t42 Inv-loop μ-loop
-sub-t42 c = c .before .before .before .before .before .before .before .before .before .before .before .before .loop .inv .0 (c .before .before .before .before .before .before .before .before .before .before .before .before .before .before .before .before .pre .0 .held .valid) (c .before .before .before .before .before .before .before .before .before .before .before .before .before .before .before .before .pre .0 .held .config) (c .before .before .before .before .before .before .before .before .before .before .before .before .before .before .before .before .pre .0 .held .carries) .within
+sub-t42 c = omega (arith, c .before .before .before .before .before .before .before .before .before .before .before .before .loop .inv .0 (c .before .before .before .before .before .before .before .before .before .before .before .before .before .before .before .before .pre .0 .held .valid) (c .before .before .before .before .before .before .before .before .before .before .before .before .before .before .before .before .pre .0 .held .config) (c .before .before .before .before .before .before .before .before .before .before .before .before .before .before .before .before .pre .0 .held .carries) .within)
 
 -- src/running.rt:126:36
 same-length-5 : tie.Need-same-length-5 Inv-loop μ-loop
