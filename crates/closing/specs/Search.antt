@@ -57,7 +57,7 @@ pub record Passed : Type 0 where
 abbrev pub passed : Row → ℕ → Passed
 passed r q = record { row = r; next = q }
 
--- the opcode's first byte is b, its number is before q or no number
+-- the opcode's first byte is b, and its number stands from q on, if it has one
 abbrev pub passedBy : ℕ → List ℕ → ℕ → Leb → Passed
 passedBy b s q (Val v n) = passed (rowAt latest b v) (pastRow (rowAt latest b v) s (q + n))
 passedBy b s q Short = passed unassigned (length s)
