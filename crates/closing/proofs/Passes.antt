@@ -1,12 +1,12 @@
 -- What is passed over is the instruction that stands there.
 use Prim.Native.Nat.{ℕ, _+_, _≤_, _<_}
 use mathlib.Core.Path.{_≡_, refl, ap, ap₂, sym, _∙_, subst}
-use mathlib.Core.Bool.{Bool, true, false, cond, _||_}
+use mathlib.Core.Bool.{Bool, true, false, cond}
 use mathlib.Core.List.{List, [], _∷_, _++_}
 use native.Mathlib.Nat.{add-zero}
 use native.Mathlib.Omega.{arith}
 use lib.Dec.{eqb}
-use lib.ListN.{length, getD, drop, length-append, length-drop}
+use lib.ListN.{length, getD, drop, length-append}
 use lib.Seq.{getD-drop}
 use borrow.Author.Tests.{eq-eqb, ne-eqb}
 use Rattle.leb128.specs.Bytes.{bytes}
@@ -22,7 +22,7 @@ use Rattle.opcode.proofs.Rows.{row-beyond}
 use Rattle.opcode.proofs.Classes.{class-carried}
 use Rattle.opcode.proofs.Versions.{row-latest}
 use Rattle.instr.specs.declared.Instr.{Instr}
-use Rattle.instr.specs.Layout.{u32, Writes, InOrder, immediateFields, fieldsOf, rowIn, layout, Stands}
+use Rattle.instr.specs.Layout.{u32, Writes, InOrder, immediateFields, fieldsOf, rowIn, layout}
 use Rattle.instr.specs.Decode.{opcodeNumber}
 use Rattle.instr.proofs.Ranges.{stands-inside}
 use Rattle.instr.proofs.Places.{first-of, others-of, byte-here, number-back}

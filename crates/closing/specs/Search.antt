@@ -3,7 +3,7 @@
 -- bytes, with nesting room that falls"). It has one answer for any bytes; on a strip that passes this is Closing's (proofs/Exact).
 use Prim.Native.Nat.{ℕ, zero, suc, _+_, _≤_, min}
 use mathlib.Core.Path.{_≡_}
-use mathlib.Core.Bool.{Bool, true, false, cond}
+use mathlib.Core.Bool.{cond}
 use mathlib.Core.List.{List, [], _∷_}
 use lib.Dec.{ltb}
 use lib.ListN.{length, getD, drop}
@@ -57,7 +57,7 @@ pub record Passed : Type 0 where
 abbrev pub passed : Row → ℕ → Passed
 passed r q = record { row = r; next = q }
 
--- the opcode's first byte is b, its number is before q or no number
+-- the opcode's first byte is b, and its number stands from q on, if it has one
 abbrev pub passedBy : ℕ → List ℕ → ℕ → Leb → Passed
 passedBy b s q (Val v n) = passed (rowAt latest b v) (pastRow (rowAt latest b v) s (q + n))
 passedBy b s q Short = passed unassigned (length s)

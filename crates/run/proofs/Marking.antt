@@ -20,7 +20,7 @@ use Rattle.standard.specs.Standard.{Label, Stage, halted, withStack, countUnder
 use Rattle.standard.specs.Safety.{Nested, outermost, inside, Safe}
 use Rattle.standard.proofs.Nestings.{nested-many}
 use Rattle.standard.proofs.Never.{safe-unhalted}
-use Rattle.run.specs.Inner.Carried.{underAll, wayOf, Marked, openIn, Carries, Led, leads-on, leads-out}
+use Rattle.run.specs.Inner.Carried.{underAll, wayOf, Marked, openIn, Led, leads-on, leads-out}
 use Rattle.run.proofs.Results.{all-append, all-one}
 
 -- ---- values under others

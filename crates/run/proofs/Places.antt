@@ -1,6 +1,6 @@
 -- Where an instruction may stand: after the header, and before the strip's last byte is passed.
 use Prim.Native.Nat.{ℕ, _≤_, _<_}
-use mathlib.Core.List.{List, [], _∷_}
+use mathlib.Core.List.{List}
 use native.Mathlib.Omega.{arith}
 use lib.ListN.{length}
 use Rattle.limits.specs.Limits.{fileLimit}

@@ -32,7 +32,6 @@ close-Inv-loop s start room at₀ at = endOf s room start ≡ endOf s room at
 abbrev close-μ-loop : close-lts.MeasureT-loop
 close-μ-loop s start room at₀ at = length s - at
 
--- src/lib.rt:14:5
 close-loop-holds : (t : ℕ) → close-lts.Need-loop-holds (
   pass-reads.Asked,
   pass-reads.Learnt,
@@ -43,7 +42,6 @@ close-loop-holds : (t : ℕ) → close-lts.Need-loop-holds (
 ) (close-at t) close′.Post close-Inv-loop close-μ-loop
 close-loop-holds t c = refl
 
--- src/lib.rt:16:13
 close-returns : (t : ℕ) → close-lts.Need-returns (
   pass-reads.Asked,
   pass-reads.Learnt,
@@ -54,7 +52,6 @@ close-returns : (t : ℕ) → close-lts.Need-returns (
 ) (close-at t) close′.Post close-Inv-loop close-μ-loop
 close-returns t c = sym (c .before .loop .inv ∙ past-last (c .before .before .before .args .s .now) (c .before .before .before .args .room) (c .before .loop .at) (c .if1 .taken))
 
--- src/lib.rt:18:13
 close-pass-requires : (t : ℕ) → close-lts.Need-pass-requires (
   pass-reads.Asked,
   pass-reads.Learnt,
@@ -65,7 +62,6 @@ close-pass-requires : (t : ℕ) → close-lts.Need-pass-requires (
 ) (close-at t) close′.Post close-Inv-loop close-μ-loop
 close-pass-requires t c κs = c .if1 .left
 
--- src/lib.rt:20:13
 close-returns-2 : (t : ℕ) → close-lts.Need-returns-2 (
   pass-reads.Asked,
   pass-reads.Learnt,
@@ -76,7 +72,6 @@ close-returns-2 : (t : ℕ) → close-lts.Need-returns-2 (
 ) (close-at t) close′.Post close-Inv-loop close-μ-loop
 close-returns-2 t c = sym (c .before .before .before .before .loop .inv ∙ at-end (c .before .before .before .before .before .before .args .s .now) (λ j. c .before .before .before .before .before .shared-slice-known .given j .fits) (c .before .before .before .before .before .before .args .room) (c .before .before .before .before .loop .at) (c .before .before .before .if1 .left) (c .before .before .pass .ensures .0) (c .before .before .pass .ensures .1) (c .if2 .taken))
 
--- src/lib.rt:22:12
 close-opens-requires : (t : ℕ) → close-lts.Need-opens-requires (
   pass-reads.Asked,
   pass-reads.Learnt,
@@ -87,7 +82,6 @@ close-opens-requires : (t : ℕ) → close-lts.Need-opens-requires (
 ) (close-at t) close′.Post close-Inv-loop close-μ-loop
 close-opens-requires t c κs = search needs
 
--- src/lib.rt:24:17
 close-returns-3 : (t : ℕ) → close-lts.Need-returns-3 (
   pass-reads.Asked,
   pass-reads.Learnt,
@@ -98,7 +92,6 @@ close-returns-3 : (t : ℕ) → close-lts.Need-returns-3 (
 ) (close-at t) close′.Post close-Inv-loop close-μ-loop
 close-returns-3 t c = sym (c .before .before .before .before .before .before .before .loop .inv ∙ no-room (c .before .before .before .before .before .before .before .before .before .args .s .now) (λ j. c .before .before .before .before .before .before .before .before .shared-slice-known .given j .fits) (c .before .before .before .before .before .before .before .before .before .args .room) (c .before .before .before .before .before .before .before .loop .at) (c .before .before .before .before .before .before .if1 .left) (c .before .before .before .before .before .pass .ensures .0) (c .before .before .before .before .before .pass .ensures .1) (c .before .before .before .if2 .left) (sym (c .before .before .opens .ensures) ∙ c .before .if3 .taken) (c .if4 .taken))
 
--- src/lib.rt:26:38
 close-sub-close : (t : ℕ) → close-lts.Need-sub-close (
   pass-reads.Asked,
   pass-reads.Learnt,
@@ -109,7 +102,6 @@ close-sub-close : (t : ℕ) → close-lts.Need-sub-close (
 ) (close-at t) close′.Post close-Inv-loop close-μ-loop
 close-sub-close t c = pos-of-ne-zero (c .if4 .left)
 
--- src/lib.rt:26:17
 close-close-requires : (t : ℕ) → close-lts.Need-close-requires (
   pass-reads.Asked,
   pass-reads.Learnt,
@@ -120,7 +112,6 @@ close-close-requires : (t : ℕ) → close-lts.Need-close-requires (
 ) (close-at t) close′.Post close-Inv-loop close-μ-loop
 close-close-requires t c κs = (omega (arith, pos-of-ne-zero (c .if4 .left), c .before .before .before .before .before .before .before .before .before .pre .0), tt)
 
--- src/lib.rt:28:17
 close-returns-4 : (t : ℕ) → close-lts.Need-returns-4 (
   pass-reads.Asked,
   pass-reads.Learnt,
@@ -131,7 +122,6 @@ close-returns-4 : (t : ℕ) → close-lts.Need-returns-4 (
 ) (close-at t) close′.Post close-Inv-loop close-μ-loop
 close-returns-4 t c = sym (c .before .before .before .before .before .before .before .before .before .before .loop .inv ∙ not-closed (c .before .before .before .before .before .before .before .before .before .before .before .before .args .s .now) (λ j. c .before .before .before .before .before .before .before .before .before .before .before .shared-slice-known .given j .fits) (c .before .before .before .before .before .before .before .before .before .before .before .before .args .room) (c .before .before .before .before .before .before .before .before .before .before .loop .at) (c .before .before .before .before .before .before .before .before .before .if1 .left) (c .before .before .before .before .before .before .before .before .pass .ensures .0) (c .before .before .before .before .before .before .before .before .pass .ensures .1) (c .before .before .before .before .before .before .if2 .left) (sym (c .before .before .before .before .before .opens .ensures) ∙ c .before .before .before .before .if3 .taken) (c .before .before .before .if4 .left) (c .before .before .close .ensures) (c .if5 .taken))
 
--- src/lib.rt:14:5
 close-loop-less : (t : ℕ) → close-lts.Need-loop-less (
   pass-reads.Asked,
   pass-reads.Learnt,
@@ -142,7 +132,6 @@ close-loop-less : (t : ℕ) → close-lts.Need-loop-less (
 ) (close-at t) close′.Post close-Inv-loop close-μ-loop
 close-loop-less t c = omega (arith, c .before .before .before .before .before .before .before .before .before .if1 .left, goes-on (c .before .before .before .before .before .before .before .before .before .before .before .before .args .s .now) (λ j. c .before .before .before .before .before .before .before .before .before .before .before .shared-slice-known .given j .fits) (c .before .before .before .before .before .before .before .before .before .before .before .before .args .room) (c .before .before .before .before .before .before .before .before .before .before .loop .at) (c .before .before .before .before .before .before .before .before .before .if1 .left) (c .before .before .before .before .before .before .before .before .pass .ensures .0) (c .before .before .before .before .before .before .before .before .pass .ensures .1), c .if5 .left)
 
--- src/lib.rt:14:5
 close-loop-again : (t : ℕ) → close-lts.Need-loop-again (
   pass-reads.Asked,
   pass-reads.Learnt,
@@ -153,7 +142,6 @@ close-loop-again : (t : ℕ) → close-lts.Need-loop-again (
 ) (close-at t) close′.Post close-Inv-loop close-μ-loop
 close-loop-again t c = c .before .before .before .before .before .before .before .before .before .before .loop .inv ∙ past-block (c .before .before .before .before .before .before .before .before .before .before .before .before .args .s .now) (λ j. c .before .before .before .before .before .before .before .before .before .before .before .shared-slice-known .given j .fits) (c .before .before .before .before .before .before .before .before .before .before .before .before .args .room) (c .before .before .before .before .before .before .before .before .before .before .loop .at) (c .before .before .before .before .before .before .before .before .before .if1 .left) (c .before .before .before .before .before .before .before .before .pass .ensures .0) (c .before .before .before .before .before .before .before .before .pass .ensures .1) (c .before .before .before .before .before .before .if2 .left) (sym (c .before .before .before .before .before .opens .ensures) ∙ c .before .before .before .before .if3 .taken) (c .before .before .before .if4 .left) (c .before .before .close .ensures) (c .if5 .left)
 
--- src/lib.rt:14:5
 close-loop-less-2 : (t : ℕ) → close-lts.Need-loop-less-2 (
   pass-reads.Asked,
   pass-reads.Learnt,
@@ -164,7 +152,6 @@ close-loop-less-2 : (t : ℕ) → close-lts.Need-loop-less-2 (
 ) (close-at t) close′.Post close-Inv-loop close-μ-loop
 close-loop-less-2 t c = omega (arith, c .before .before .before .before .before .if1 .left, goes-on (c .before .before .before .before .before .before .before .before .args .s .now) (λ j. c .before .before .before .before .before .before .before .shared-slice-known .given j .fits) (c .before .before .before .before .before .before .before .before .args .room) (c .before .before .before .before .before .before .loop .at) (c .before .before .before .before .before .if1 .left) (c .before .before .before .before .pass .ensures .0) (c .before .before .before .before .pass .ensures .1))
 
--- src/lib.rt:14:5
 close-loop-again-2 : (t : ℕ) → close-lts.Need-loop-again-2 (
   pass-reads.Asked,
   pass-reads.Learnt,

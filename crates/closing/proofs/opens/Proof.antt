@@ -1,18 +1,14 @@
+-- The two groups that begin a block.
 use borrow.Author.Tests.{eq-eqb, ne-eqb}
 use Rattle.closing.proofs.opens.Statement.{statement}
 use Rattle.closing.proofs.opens.Tie as tie
-use Rattle.closing.proofs.opens.Reads as reads
-use Rattle.closing.proofs.opens.Lts as lts
 
--- src/lib.rt:43:9
 returns : tie.Need-returns
 returns c = rw (eq-eqb _ 25 (c .if1 .taken))
 
--- src/lib.rt:46:9
 returns-2 : tie.Need-returns-2
 returns-2 c = rw (ne-eqb _ 25 (c .before .if1 .left), eq-eqb _ 26 (c .if2 .taken))
 
--- src/lib.rt:39:1
 returns-3 : tie.Need-returns-3
 returns-3 c = rw (ne-eqb _ 25 (c .before .if1 .left), ne-eqb _ 26 (c .if2 .left))
 

@@ -1,3 +1,4 @@
+-- The first byte alone, or FD and its number.
 use mathlib.Core.Path.{sym, _∙_}
 use native.Mathlib.Omega.{arith}
 use Rattle.leb128.proofs.Bounds.{found-32}
@@ -5,80 +6,58 @@ use Rattle.closing.proofs.Passes.{named-byte, named-number, named-short
 use borrow.Author.Needs.{needs}
 use Rattle.closing.proofs.passing.opcode_at.Statement.{statement}
 use Rattle.closing.proofs.passing.opcode_at.Tie as tie
-use Rattle.closing.proofs.passing.opcode_at.Reads as reads
-use Rattle.closing.proofs.passing.opcode_at.Lts as lts
-use Rattle.leb128.proofs.read_u32.Reads as read-u32-reads
-use Rattle.opcode.proofs.id_of.Reads as id-of-reads
 
--- src/passing.rt:39:17
 shared-slice-read-first : tie.Need-shared-slice-read-first
 shared-slice-read-first c = search needs
 
--- src/passing.rt:42:17
 id-of-requires : tie.Need-id-of-requires
 id-of-requires c κs = search needs
 
--- src/passing.rt:43:19
 add-t10 : tie.Need-add-t10
 add-t10 c = search needs
 
--- src/passing.rt:41:9
 returns : tie.Need-returns
 returns c = named-byte _ (λ j. c .before .before .before .shared-slice-known .given j .fits) _ (c .before .before .before .before .pre) (c .before .if1 .taken) (c .id-of .ensures)
 
--- src/passing.rt:46:31
 add-read-u32 : tie.Need-add-read-u32
 add-read-u32 c = search needs
 
--- src/passing.rt:46:11
 read-u32-requires : tie.Need-read-u32-requires
 read-u32-requires c κs = search needs
 
--- src/passing.rt:47:18
 enum-known-v : tie.Need-enum-known-v
 enum-known-v c = search needs
 
--- src/passing.rt:48:38
 cast-id-of : tie.Need-cast-id-of
 cast-id-of c = omega (arith, found-32 _ _ _ (λ j. c .before .before .before .before .before .before .shared-slice-known .given j .fits) _ _ (sym (c .before .before .before .read-u32 .ensures .answer) ∙ c .before .v .given .1))
 
--- src/passing.rt:48:17
 id-of-requires-2 : tie.Need-id-of-requires-2
 id-of-requires-2 c κs = search needs
 
--- src/passing.rt:49:19
 add-t16 : tie.Need-add-t16
 add-t16 c = search needs
 
--- src/passing.rt:49:19
 add-t17 : tie.Need-add-t17
 add-t17 c = omega (arith, found-32 _ _ _ (λ j. c .before .before .before .before .before .before .before .shared-slice-known .given j .fits) _ _ (sym (c .before .before .before .before .read-u32 .ensures .answer) ∙ c .before .before .v .given .1))
 
--- src/passing.rt:53:19
 enum-told : tie.Need-enum-told
 enum-told c = search needs
 
--- src/passing.rt:53:19
 add-t18 : tie.Need-add-t18
 add-t18 c = search needs
 
--- src/passing.rt:57:19
 enum-told-2 : tie.Need-enum-told-2
 enum-told-2 c = search needs
 
--- src/passing.rt:57:19
 add-t19 : tie.Need-add-t19
 add-t19 c = search needs
 
--- src/passing.rt:35:1
 returns-2 : tie.Need-returns-2
 returns-2 c = named-number _ (λ j. c .before .before .before .before .before .before .before .shared-slice-known .given j .fits) _ (c .before .before .before .before .before .before .before .before .pre) (c .before .before .before .before .before .if1 .left) (sym (c .before .before .before .before .read-u32 .ensures .answer) ∙ c .before .before .v .given .1) (c .id-of2 .ensures)
 
--- src/passing.rt:35:1
 returns-3 : tie.Need-returns-3
 returns-3 c = named-short _ (λ j. c .before .before .before .before .before .shared-slice-known .given j .fits) _ (c .before .before .before .before .before .before .pre) (c .before .before .before .if1 .left) (sym (c .before .before .read-u32 .ensures .answer) ∙ c .enum-told .given .1)
 
--- src/passing.rt:35:1
 returns-4 : tie.Need-returns-4
 returns-4 c = named-wrong _ (λ j. c .before .before .before .before .before .shared-slice-known .given j .fits) _ (c .before .before .before .before .before .before .pre) (c .before .before .before .if1 .left) (sym (c .before .before .read-u32 .ensures .answer) ∙ c .enum-told2 .given .1)
 

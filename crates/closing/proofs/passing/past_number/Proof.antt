@@ -8,8 +8,6 @@ use Rattle.closing.specs.Search.{pastNumber}
 use Rattle.closing.proofs.Fields.{stops, goes, ends}
 use Rattle.closing.proofs.passing.past_number.Statement.{statement}
 use Rattle.closing.proofs.passing.past_number.Tie as tie
-use Rattle.closing.proofs.passing.past_number.Reads as reads
-use Rattle.closing.proofs.passing.past_number.Lts as lts
 
 abbrev Inv-loop : tie.InvT-loop
 Inv-loop s p i₀ i = (i ≤ length s) × (pastNumber s p ≡ pastNumber s i)
@@ -17,35 +15,27 @@ Inv-loop s p i₀ i = (i ≤ length s) × (pastNumber s p ≡ pastNumber s i)
 abbrev μ-loop : tie.MeasureT-loop
 μ-loop s p i₀ i = length s - i
 
--- src/passing.rt:94:5
 loop-holds : tie.Need-loop-holds Inv-loop μ-loop
 loop-holds c = (c .pre, refl)
 
--- src/passing.rt:95:12
 shared-slice-read-if1 : tie.Need-shared-slice-read-if1 Inv-loop μ-loop
 shared-slice-read-if1 c = search needs
 
--- src/passing.rt:96:20
 add-result : tie.Need-add-result Inv-loop μ-loop
 add-result c = search needs
 
--- src/passing.rt:96:13
 returns : tie.Need-returns Inv-loop μ-loop
 returns c = let l = c .before .before .before .loop in (sym (l .inv .1 ∙ stops _ (l .i) (c .before .before .loop-test .taken) (c .if1 .taken)), omega arith)
 
--- src/passing.rt:98:9
 add-i : tie.Need-add-i Inv-loop μ-loop
 add-i c = search needs
 
--- src/passing.rt:94:5
 loop-less : tie.Need-loop-less Inv-loop μ-loop
 loop-less c = search needs
 
--- src/passing.rt:94:5
 loop-again : tie.Need-loop-again Inv-loop μ-loop
 loop-again c = let l = c .before .before .before .loop in (search needs, l .inv .1 ∙ goes _ (l .i) (c .before .before .loop-test .taken) (c .if1 .left))
 
--- src/passing.rt:89:1
 returns-2 : tie.Need-returns-2 Inv-loop μ-loop
 returns-2 c = let l = c .before .loop in (sym (l .inv .1 ∙ ends _ (l .i) (c .loop-test .left)), l .inv .0)
 

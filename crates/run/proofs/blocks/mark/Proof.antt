@@ -4,66 +4,49 @@ use lib.ListN.{length-set}
 use borrow.Author.Needs.{needs}
 use Rattle.run.proofs.blocks.mark.Statement.{statement}
 use Rattle.run.proofs.blocks.mark.Tie as tie
-use Rattle.run.proofs.blocks.mark.Reads as reads
-use Rattle.run.proofs.blocks.mark.Lts as lts
 
--- src/blocks.rt:98:11
 mul-marks : tie.Need-mul-marks
 mul-marks c = search needs
 
--- src/blocks.rt:98:5
 mul-marks-2 : tie.Need-mul-marks-2
 mul-marks-2 c = search needs
 
--- src/blocks.rt:98:5
 slice-write-marks : tie.Need-slice-write-marks
 slice-write-marks c = search needs
 
--- src/blocks.rt:99:11
 mul-marks-3 : tie.Need-mul-marks-3
 mul-marks-3 c = search needs
 
--- src/blocks.rt:99:11
 add-marks : tie.Need-add-marks
 add-marks c = search needs
 
--- src/blocks.rt:99:5
 mul-marks-4 : tie.Need-mul-marks-4
 mul-marks-4 c = search needs
 
--- src/blocks.rt:99:5
 slice-write-marks-2 : tie.Need-slice-write-marks-2
 slice-write-marks-2 c = simp length-set (omega arith)
 
--- src/blocks.rt:100:11
 mul-marks-5 : tie.Need-mul-marks-5
 mul-marks-5 c = search needs
 
--- src/blocks.rt:100:11
 add-marks-2 : tie.Need-add-marks-2
 add-marks-2 c = search needs
 
--- src/blocks.rt:100:5
 mul-marks-6 : tie.Need-mul-marks-6
 mul-marks-6 c = search needs
 
--- src/blocks.rt:100:5
 slice-write-marks-3 : tie.Need-slice-write-marks-3
 slice-write-marks-3 c = simp length-set (omega arith)
 
--- src/blocks.rt:101:26
 add-marks-3 : tie.Need-add-marks-3
 add-marks-3 c = search needs
 
--- src/blocks.rt:101:5
 slice-write-marks-4 : tie.Need-slice-write-marks-4
 slice-write-marks-4 c = search needs
 
--- src/blocks.rt:94:1
 same-length : tie.Need-same-length
 same-length c = search needs
 
--- src/blocks.rt:94:1
 returns : tie.Need-returns
 returns c = search needs
 

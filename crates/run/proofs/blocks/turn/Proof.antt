@@ -1,3 +1,4 @@
+-- Each instruction leads where the machine goes (`Blocking`), and the open blocks are counted anew (`Marking.recounted`).
 use mathlib.Core.Path.{refl}
 use native.Mathlib.Omega.{arith}
 use Rattle.run.proofs.Marking.{recounted}
@@ -5,86 +6,61 @@ use Rattle.run.proofs.Blocking.{next-inside, ends-strip, ends-block, ro
 use borrow.Author.Needs.{needs}
 use Rattle.run.proofs.blocks.turn.Statement.{statement}
 use Rattle.run.proofs.blocks.turn.Tie as tie
-use Rattle.run.proofs.blocks.turn.Reads as reads
-use Rattle.run.proofs.blocks.turn.Lts as lts
-use Rattle.run.proofs.blocks.branch.Reads as branch-reads
-use Rattle.run.proofs.blocks.mark.Reads as mark-reads
-use Rattle.run.proofs.blocks.results_of.Reads as results-of-reads
-use Rattle.run.proofs.blocks.taken.Reads as taken-reads
 
--- src/blocks.rt:61:16
 add-next : tie.Need-add-next
 add-next c = omega (arith, next-inside (c .before .pre .0 .held .valid) (c .before .pre .0 .held .carries) (c .before .pre .1))
 
--- src/blocks.rt:62:16
 element-copy-out-nest : tie.Need-element-copy-out-nest
 element-copy-out-nest c = search needs
 
--- src/blocks.rt:65:13
 returns : tie.Need-returns
 returns c = (λ v c′ locals mem C. ends-strip v C (c .before .before .before .before .pre .1) (c .before .if1 .taken) (c .if2 .taken) _, c .before .before .before .before .pre .2)
 
--- src/blocks.rt:67:30
 sub-marks : tie.Need-sub-marks
 sub-marks c = search needs
 
--- src/blocks.rt:67:9
 element-write-marks : tie.Need-element-write-marks
 element-write-marks c = search needs
 
--- src/blocks.rt:68:9
 returns-2 : tie.Need-returns-2
 returns-2 c = (λ v c′ locals mem C. recounted refl (ends-block v C (c .before .before .before .before .pre .1) (c .before .if1 .taken) (c .if2 .left)), c .before .before .before .before .pre .2)
 
--- src/blocks.rt:71:34
 results-of-requires : tie.Need-results-of-requires
 results-of-requires c κs = search needs
 
--- src/blocks.rt:71:9
 mark-requires : tie.Need-mark-requires
 mark-requires c κs = room-for-block (c .before .before .before .before .before .before .pre .0 .held .valid) (c .before .before .before .before .before .before .pre .0 .held .carries) (c .before .before .before .before .before .before .pre .1) (c .before .before .if3 .taken)
 
--- src/blocks.rt:72:9
 returns-3 : tie.Need-returns-3
 returns-3 c = (λ v c′ locals mem C. recounted (c .mark .ensures) (block-begins v C (c .before .before .before .before .before .before .before .pre .1) (c .before .before .before .if3 .taken) (c .before .results-of .ensures) refl), c .before .before .before .before .before .before .before .pre .2)
 
--- src/blocks.rt:75:9
 mark-requires-2 : tie.Need-mark-requires-2
 mark-requires-2 c κs = room-for-loop (c .before .before .before .before .before .before .pre .0 .held .valid) (c .before .before .before .before .before .before .pre .0 .held .carries) (c .before .before .before .before .before .before .pre .1) (c .before .if4 .taken)
 
--- src/blocks.rt:76:9
 returns-4 : tie.Need-returns-4
 returns-4 c = (λ v c′ locals mem C. recounted (c .mark2 .ensures) (loop-begins v C (c .before .before .before .before .before .before .before .pre .1) (c .before .before .if4 .taken) refl), c .before .before .before .before .before .before .before .pre .2)
 
--- src/blocks.rt:78:24
 sub-top : tie.Need-sub-top
 sub-top c = omega (arith, pops (c .before .before .before .before .before .pre .0 .held .valid) (c .before .before .before .before .before .pre .0 .held .carries) (c .before .before .before .before .before .pre .1) (c .before .before .if1 .left) (c .before .if3 .left) (c .if4 .left))
 
--- src/blocks.rt:78:23
 cast-top : tie.Need-cast-top
 cast-top c = search needs
 
--- src/blocks.rt:78:15
 sub-top-2 : tie.Need-sub-top-2
 sub-top-2 c = omega (arith, pops (c .before .before .before .before .before .pre .0 .held .valid) (c .before .before .before .before .before .pre .0 .held .carries) (c .before .before .before .before .before .pre .1) (c .before .before .if1 .left) (c .before .if3 .left) (c .if4 .left))
 
--- src/blocks.rt:79:8
 taken-requires : tie.Need-taken-requires
 taken-requires c κs = asks-top (c .before .before .before .before .before .before .before .pre .0 .held .valid) (c .before .before .before .before .before .before .before .pre .0 .held .carries) (c .before .before .before .before .before .before .before .pre .1) (c .before .before .before .before .if1 .left) (c .before .before .before .if3 .left) (c .before .before .if4 .left)
 
--- src/blocks.rt:80:13
 branch-requires : tie.Need-branch-requires
 branch-requires c κs = (may-branch (c .before .before .before .before .before .before .before .before .before .before .before .before .before .pre .0 .held .valid) (c .before .before .before .before .before .before .before .before .before .before .before .before .before .pre .0 .held .carries) (c .before .before .before .before .before .before .before .before .before .before .before .before .before .pre .1) (c .before .before .before .before .before .before .before .before .before .before .if1 .left) (c .before .before .before .before .before .before .before .before .before .if3 .left) (c .before .before .before .before .before .before .before .before .if4 .left) (c .before .before .before .before .before .taken .ensures) (c .before .before .before .before .if5 .taken), c .before .before .before .before .before .before .before .before .before .before .before .before .before .pre .2)
 
--- src/blocks.rt:81:9
 element-write-marks-2 : tie.Need-element-write-marks-2
 element-write-marks-2 c = search needs
 
--- src/blocks.rt:82:9
 returns-5 : tie.Need-returns-5
 returns-5 c = (λ v c′ locals mem C. recounted refl (branched v C (c .before .before .before .before .before .before .before .before .before .before .before .before .before .before .pre .1) (c .before .before .before .before .before .before .before .before .before .before .before .if1 .left) (c .before .before .before .before .before .before .before .before .before .before .if3 .left) (c .before .before .before .before .before .before .before .before .before .if4 .left) (c .before .before .before .before .before .before .taken .ensures) (c .before .before .before .before .before .if5 .taken) (c .branch .ensures .0)), c .branch .ensures .1)
 
--- src/blocks.rt:46:1
 returns-6 : tie.Need-returns-6
 returns-6 c = (λ v c′ locals mem C. not-taken v C (c .before .before .before .before .before .before .before .before .before .pre .1) (c .before .before .before .before .before .before .if1 .left) (c .before .before .before .before .before .if3 .left) (c .before .before .before .before .if4 .left) (c .before .taken .ensures) (c .if5 .left), c .before .before .before .before .before .before .before .before .before .pre .2)
 

@@ -6,55 +6,40 @@ use Rattle.run.proofs.Keeping.{kept-true, found-true, fits, kept-more}
 use borrow.Author.Needs.{needs}
 use Rattle.run.proofs.ends.end_of.Statement.{statement}
 use Rattle.run.proofs.ends.end_of.Tie as tie
-use Rattle.run.proofs.ends.end_of.Reads as reads
-use Rattle.run.proofs.ends.end_of.Lts as lts
-use Rattle.closing.proofs.close.Reads as close-reads
 
--- src/ends.rt:15:16
 mul-word : tie.Need-mul-word
 mul-word c = search needs
 
--- src/ends.rt:15:16
 slice-read-word : tie.Need-slice-read-word
 slice-read-word c = search needs
 
--- src/ends.rt:15:16
 cast-word : tie.Need-cast-word
 cast-word c = omega (arith, c .before .slice-known .given (c .before .before .before .args .body % 64) .fits)
 
--- src/ends.rt:17:9
 returns : tie.Need-returns
 returns c = (kept-true (c .before .before .before .before .pre .0) (c .before .before .before .before .pre .1) _ (c .if1 .taken), c .before .before .before .before .pre .1)
 
--- src/ends.rt:19:9
 close-requires : tie.Need-close-requires
 close-requires c κs = search needs
 
--- src/ends.rt:20:16
 mul-ends : tie.Need-mul-ends
 mul-ends c = search needs
 
--- src/ends.rt:20:16
 add-ends : tie.Need-add-ends
 add-ends c = omega (arith, fits (c .before .before .before .before .before .pre .0) (c .before .before .before .before .before .pre .1) (λ j. c .before .before .before .before .shared-slice-known .given j .fits) (c .close .ensures))
 
--- src/ends.rt:20:15
 cast-ends : tie.Need-cast-ends
 cast-ends c = omega (arith, fits (c .before .before .before .before .before .pre .0) (c .before .before .before .before .before .pre .1) (λ j. c .before .before .before .before .shared-slice-known .given j .fits) (c .close .ensures))
 
--- src/ends.rt:20:5
 mul-ends-2 : tie.Need-mul-ends-2
 mul-ends-2 c = search needs
 
--- src/ends.rt:20:5
 slice-write-ends : tie.Need-slice-write-ends
 slice-write-ends c = search needs
 
--- src/ends.rt:10:1
 same-length : tie.Need-same-length
 same-length c = search needs
 
--- src/ends.rt:10:1
 returns-2 : tie.Need-returns-2
 returns-2 c = (found-true (c .before .before .before .before .before .pre .0) (c .before .before .before .before .before .pre .1) (λ j. c .before .before .before .before .shared-slice-known .given j .fits) (c .close .ensures), kept-more (c .before .before .before .before .before .pre .0) (c .before .before .before .before .before .pre .1) (λ j. c .before .before .before .before .shared-slice-known .given j .fits) (c .close .ensures) _ _ (omega arith) refl)
 
