@@ -53,9 +53,9 @@ enum-known-n c = search needs
 
 cast-entry-in : tie.Need-cast-entry-in
 cast-entry-in c = omega (
-    arith,
-    opcode-there _ (λ j. c .before .before .before .before .shared-slice-known2 .given j .fits) _ _ _ _ (omega (arith, c .before .before .before .before .before .if2 .left)) (sym (c .before .before .before .opcode-number .ensures) ∙ ap item (c .before .n .given .1)),
-    )
+  arith,
+  opcode-there _ (λ j. c .before .before .before .before .shared-slice-known2 .given j .fits) _ _ _ _ (omega (arith, c .before .before .before .before .before .if2 .left)) (sym (c .before .before .before .opcode-number .ensures) ∙ ap item (c .before .n .given .1)),
+)
 
 entry-in-requires : tie.Need-entry-in-requires
 entry-in-requires c κs = it-is (c .before .before .before .before .before .before .before .before .before .args .version) (c .before .before .before .before .before .before .before .is-known .ensures) (c .before .before .before .before .before .before .if1 .left)
