@@ -91,8 +91,8 @@ module _ {s : List ℕ} {h : Header} where
     abbrev standing : Config
     standing = record { place = p; state = record { stack = map one (reverse (f .values)); locals = map one (locals h); memory = [] }; labels = labelled (all-opened reached) .0 }
 
-    pub live-inhabited : (c : Config) × (c .place ≡ p) × Sound s h c
-    live-inhabited =
+    standing-sound : Sound s h standing
+    standing-sound =
         let fits : Fits s h f fs standing =
         record {
           stacked = ones-kinds (reverse (f .values));
@@ -102,11 +102,14 @@ module _ {s : List ℕ} {h : Header} where
           local-range = ones-range (locals h);
           memory-range = λ k. omega arith;
         } in
-        (standing, refl, record { frame = f; outer = fs; reached = reached; live = live; fits = fits })
+        record { frame = f; outer = fs; reached = reached; live = live; fits = fits }
+
+    pub live-inhabited : (c : Config) × (c .place ≡ p) × Sound s h c
+    live-inhabited = (standing, refl, standing-sound)
 
     -- so where a rule is broken in live code, some sound state is stuck
     pub stuck-inhabited : {code : ℕ} → Breach s code p → LOCAL ≤ code → (code ≡ TRAILING → ⊥) → (c : Config) × (c .place ≡ p) × Sound s h c × (step s h c ≡ halted)
-    stuck-inhabited b lo hi = (standing, refl, live-inhabited .2, by (stuck-exact b lo hi standing refl (live-inhabited .2)))
+    stuck-inhabited b lo hi = (standing, refl, standing-sound, by (stuck-exact b lo hi standing refl standing-sound))
       where
         by : StuckHere s h standing → step s h standing ≡ halted
         by (stuck-here e) = e
