@@ -11,24 +11,11 @@ use lib.ListN.{length}
 use Rattle.operation.specs.Vector.{number}
 use Rattle.opcode.specs.Kind.{Kind, i32, i64, v128, kindByte}
 use Rattle.opcode.specs.BlockType.{isBlockType, blockResults}
+use Rattle.opcode.proofs.BlockTypes.{BlockType, empty, kind, no-other-type}
 use Rattle.checker.specs.Walk.{bit, word}
 use Rattle.checker.specs.Inner.Blocks.{topFirst}
 
 -- ---- block types
-
-data BlockType : ℕ → Type 0 where
-  empty : BlockType 0x40
-  kind : (k : Kind) → BlockType (kindByte k)
-
-block-type : (b : ℕ) → isBlockType b ≡ true → BlockType b
-block-type b e = by (eqb b 0x40) (eqb b 0x7F) (eqb b 0x7E) (eqb b 0x7B) refl refl refl refl e
-  where
-    by : (p q r t : Bool) → eqb b 0x40 ≡ p → eqb b 0x7F ≡ q → eqb b 0x7E ≡ r → eqb b 0x7B ≡ t → (p || (q || (r || (t || false)))) ≡ true → BlockType b
-    by true q r t ep eq er et z = subst BlockType (sym (eqb-true b 0x40 ep)) empty
-    by false true r t ep eq er et z = subst BlockType (sym (eqb-true b 0x7F eq)) (kind i32)
-    by false false true t ep eq er et z = subst BlockType (sym (eqb-true b 0x7E er)) (kind i64)
-    by false false false true ep eq er et z = subst BlockType (sym (eqb-true b 0x7B et)) (kind v128)
-    by false false false false ep eq er et z = absurd (let no : _≡_ {A = ℕ} 0 1 = cc in omega arith)
 
 -- a byte, 0 not among them, of one result at most
 record Typed-byte (b : ℕ) : Type 0 where
@@ -46,22 +33,22 @@ type-facts (kind i64) = record { small = omega arith; some = λ e. omega arith; 
 type-facts (kind v128) = record { small = omega arith; some = λ e. omega arith; few = omega arith; none = λ e. absurd (omega arith); one = λ f. refl; up = refl }
 
 pub type-small : (b : ℕ) → isBlockType b ≡ true → b < 256
-type-small b e = type-facts (block-type b e) .small
+type-small b e = type-facts (no-other-type b e) .small
 
 pub type-some : (b : ℕ) → isBlockType b ≡ true → b ≡ 0 → ⊥
-type-some b e = type-facts (block-type b e) .some
+type-some b e = type-facts (no-other-type b e) .some
 
 pub type-few : (b : ℕ) → isBlockType b ≡ true → length (blockResults b) ≤ 1
-type-few b e = type-facts (block-type b e) .few
+type-few b e = type-facts (no-other-type b e) .few
 
 pub type-none : (b : ℕ) → isBlockType b ≡ true → b ≡ 0x40 → 0 ≡ topFirst (blockResults b)
-type-none b e = type-facts (block-type b e) .none
+type-none b e = type-facts (no-other-type b e) .none
 
 pub type-one : (b : ℕ) → isBlockType b ≡ true → (b ≡ 0x40 → ⊥) → b ≡ topFirst (blockResults b)
-type-one b e = type-facts (block-type b e) .one
+type-one b e = type-facts (no-other-type b e) .one
 
 pub type-up : (b : ℕ) → isBlockType b ≡ true → number (map kindByte (blockResults b)) ≡ topFirst (blockResults b)
-type-up b e = type-facts (block-type b e) .up
+type-up b e = type-facts (no-other-type b e) .up
 
 -- a type is told by what it leaves
 pub type-once : (a b : ℕ) → isBlockType a ≡ true → isBlockType b ≡ true → blockResults a ≡ blockResults b → a ≡ b

@@ -29,7 +29,7 @@ module _ (ver first n : ℕ) where
 -- ---- whether the version is known was asked, and k was answered
 
 module _ (ver : ℕ) {k : Bool} (is : k ≡ known ver) where
-  it-is : not k ≡ false → known ver ≡ true
+  pub it-is : not k ≡ false → known ver ≡ true
   it-is e = sym is ∙ not-false k e
 
   it-is-not : not k ≡ true → known ver ≡ false

@@ -13,10 +13,12 @@ pub use scanning::scan;
 pub use scanning::summary;
 ghost use mathlib.Core.Path.{_≡_};
 ghost use Prim.Native.Nat.{_≤_, _^_};
+ghost use mathlib.Core.Bool.{true};
 ghost use lib.Dec.{leb};
 ghost use Rattle.opcode.specs.BlockType.{isBlockType};
 ghost use Rattle.opcode.specs.Number.{rowOf};
-ghost use Rattle.opcode.specs.Table.{rowAt};
+ghost use Rattle.opcode.specs.Table.{known, rowAt};
+ghost use Rattle.instr.specs.Inner.Steps.{Tabled};
 
 // The opcode's two numbers and the immediates, those that the instruction lacks zero. `word` and `long` are the bits of a signed number.
 pub struct Instr {
@@ -60,6 +62,18 @@ pub struct Encoded {
     pub code: u8,
     pub place: usize,
     pub len: usize,
+}
+
+// What the table says of an instruction in a strip of this version. Those of version 1 are the most, and are told by their group.
+pub(crate) fn entry_in(version: u16, first: u8, number: u32) -> u64
+    requires { ⌜ known version ≡ true ⌝ }
+    ensures { λ r. ⌜ Tabled version first number r ⌝ }
+{
+    let entry = opcode::entry(opcode::id_of(first, number));
+    if opcode::group(entry) < opcode::GROUP_I32_EQZ {
+        return entry;
+    }
+    opcode::entry(id_in(version, first, number))
 }
 
 // The id by which the table knows an instruction, BEYOND where this version has not its first byte yet.

@@ -32,8 +32,7 @@ pub fn scan(version: u16, s: &[u8], at: usize) -> Scanned
     let first = s[at];
     match opcode_number(s, at + 1, first) {
         Read::Got(n, p) => {
-            let id = crate::id_in(version, first, n as u32);
-            let entry = opcode::entry(id);
+            let entry = crate::entry_in(version, first, n as u32);
             match immediates(s, at, p, entry) {
                 Read::Got(immediate, next) => Scanned {
                     code: card::DONE,

@@ -1,16 +1,17 @@
 -- A version's row of a first byte is the latest's, or not assigned where the version has not the byte yet.
-use Prim.Native.Nat.{ℕ}
+use Prim.Native.Nat.{ℕ, _≤_, _<_}
 use Prim.Native.String.{String}
 use mathlib.Core.Path.{_≡_, refl, sym, ap, subst, _∙_}
-use mathlib.Core.Bool.{Bool, true, false, cond, _&&_}
+use mathlib.Core.Bool.{Bool, true, false, cond, _&&_, _||_}
 use mathlib.Core.List.{List, [], _∷_}
 use mathlib.Core.Logic.{⊎-elim}
 use native.Mathlib.Omega.{arith}
-use lib.Dec.{T, eqb, leb}
+use lib.Dec.{T, eqb, leb, leb→le}
 use lib.ListN.{getD}
-use mir.Facts.{and-yes}
-use Rattle.opcode.specs.Table.{Control, Code, plain, control, vector, Row, carried, float, unassigned, vectors, vectorAt, plainLines, latest, lookUp, plainAt, PREFIX, rowAt}
-use Rattle.opcode.specs.Number.{sinceIn, sinceOf}
+use mir.Facts.{and-yes, or-yes}
+use borrow.Author.Tests.{le-leb}
+use Rattle.opcode.specs.Table.{Control, Code, plain, control, vector, Row, carried, float, unassigned, vectors, vectorAt, plainLines, latest, known, lookUp, plainAt, PREFIX, rowAt}
+use Rattle.opcode.specs.Number.{sinceIn, sinceOf, groupOf}
 use Rattle.opcode.proofs.Every.{below, below-or-past}
 use Rattle.opcode.proofs.Rows.{vector-beyond}
 
@@ -51,6 +52,30 @@ row-latest ver b n {c} e = by (eqb b PREFIX) (leb (sinceOf b) ver) (sym (row-sin
     by true u f = f
     by false true f = f
     by false false f = absurd (let z : _≡_ {A = ℕ} 0 1 = cc in omega arith)
+
+-- ---- what came with version 1 has a group before those of version 2
+
+early : (b : ℕ) → b < 256 → groupOf (plainAt latest b) < 23 → sinceOf b ≤ 1
+unfolding plainAt sinceOf
+early b l g =
+    ⊎-elim
+    (λ t. let no : ⊥ = omega (arith, leb→le 23 (groupOf (plainAt latest b)) t) in absurd no)
+    (leb→le (sinceOf b) 1)
+    (or-yes (leb 23 (groupOf (plainAt latest b))) (leb (sinceOf b) 1) (below (λ (k : ℕ). leb 23 (groupOf (plainAt latest k)) || leb (sinceOf k) 1) 256 tt b l))
+
+pub row-early : (ver b n : ℕ) → b < 256 → 1 ≤ ver → groupOf (rowAt latest b n) < 23 → rowAt latest b n ≡ rowAt ver b n
+row-early ver b n l h g = by (eqb b PREFIX) g ∙ sym (row-since ver b n)
+  where
+    by : (t : Bool) → groupOf (cond t (vectorAt n) (plainAt latest b)) < 23
+        → cond t (vectorAt n) (plainAt latest b) ≡ cond t (vectorAt n) (cond (leb (sinceOf b) ver) (plainAt latest b) unassigned)
+    by true m = refl
+    by false m = rw (le-leb (sinceOf b) ver (omega (arith, early b l m)))
+
+-- a version that is known lies between the first and the latest
+pub known-range : (ver : ℕ) → known ver ≡ true → (1 ≤ ver) × (ver ≤ latest)
+known-range ver e =
+    let both = and-yes (leb 1 ver) (leb ver latest) (subst T (sym e) tt) in
+    (leb→le 1 ver (both .0), leb→le ver latest (both .1))
 
 -- ---- what a computed test says of every row of a version
 

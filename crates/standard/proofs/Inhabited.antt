@@ -1,21 +1,54 @@
--- Every place that a strip reaches in live code has a sound state: what is said of all sound states there is said of some.
+-- Every place that a strip reaches in live code has a sound state, and where a rule is broken there, one that is stuck: what is said of all sound states there is said of some.
 use Prim.Native.Nat.{ℕ, _≤_}
-use mathlib.Core.Path.{_≡_, refl}
+use mathlib.Core.Path.{_≡_, refl, ap}
 use mathlib.Core.Bool.{Bool, false}
 use mathlib.Core.List.{List, [], _∷_, map, reverse}
 use native.Mathlib.Omega.{arith}
+use lib.ListN.{replicate}
 use Rattle.card.specs.Card.{LOCAL, TRAILING}
-use Rattle.opcode.specs.Kind.{Kind}
+use Rattle.limits.specs.Limits.{slot}
+use Rattle.opcode.specs.Kind.{Kind, i32, i64, v128}
 use Rattle.opcode.specs.Table.{Code}
 use Rattle.instr.specs.declared.Instr.{Instr}
+use Rattle.machine.specs.Value.{Value, I32, I64, V128, kindOf, InRange, AllInRange}
+use Rattle.machine.proofs.Laws.Ranges.{zero-bytes}
 use Rattle.rules.specs.Header.{Header, locals}
 use Rattle.rules.specs.Typing.{Frame, opened, Types, ordinary, branches, may-branch, opens-block, opens-loop, closes}
 use Rattle.rules.specs.Strip.{Reaches, front, past}
 use Rattle.rules.specs.Breach.{Breach}
-use Rattle.standard.specs.Standard.{Label, Config, zeroOf}
-use Rattle.standard.specs.Safety.{Live, Nested, outermost, inside, Fits, Sound, StuckHere}
+use Rattle.standard.specs.Standard.{Label, Config, halted, step}
+use Rattle.standard.specs.Safety.{Live, Nested, outermost, inside, Fits, Sound, StuckHere, stuck-here, not-taken}
 use Rattle.standard.proofs.Stuck.{stuck-exact}
-use Rattle.standard.proofs.Begin.{zero-kinds, all-range}
+
+-- ---- values, none of them an i32 of 0: a br_if over them takes its branch
+
+abbrev one : Kind → Value
+one i32 = I32 1
+one i64 = I64 0
+one v128 = V128 (replicate slot 0)
+
+ones-kinds : (ks : List Kind) → map kindOf (map one ks) ≡ ks
+ones-kinds [] = refl
+ones-kinds (i32 ∷ ks) = ap (λ (l : List Kind). i32 ∷ l) (ones-kinds ks)
+ones-kinds (i64 ∷ ks) = ap (λ (l : List Kind). i64 ∷ l) (ones-kinds ks)
+ones-kinds (v128 ∷ ks) = ap (λ (l : List Kind). v128 ∷ l) (ones-kinds ks)
+
+one-range : (k : Kind) → InRange (one k)
+one-range i32 = omega arith
+one-range i64 = omega arith
+one-range v128 = record { long = refl; bytes = zero-bytes slot }
+
+ones-range : (ks : List Kind) → AllInRange (map one ks)
+ones-range [] = tt
+ones-range (k ∷ ks) = (one-range k, ones-range ks)
+
+no-zero : (ks : List Kind) {st : List Value} → map one ks ≡ I32 0 ∷ st → ⊥
+no-zero [] e = let z : _≡_ {A = ℕ} 0 1 = cc (e) in omega arith
+no-zero (i32 ∷ ks) e = let z : _≡_ {A = ℕ} 1 0 = cc (e) in omega arith
+no-zero (i64 ∷ ks) e = let z : _≡_ {A = ℕ} 0 1 = cc (e) in omega arith
+no-zero (v128 ∷ ks) e = let z : _≡_ {A = ℕ} 0 1 = cc (e) in omega arith
+
+-- ---- the blocks
 
 -- every block that is open was begun at some place
 data Opened (s : List ℕ) (h : Header) : List Frame → Type 0 where
@@ -43,34 +76,41 @@ module _ {s : List ℕ} {h : Header} where
   all-opened (front d) = strip refl refl
   all-opened (past reached r t w) = onward t (past reached r t w) (all-opened reached)
 
-  -- labels over zeros
+  -- labels over such values
   labelled : {fs : List Frame} → Opened s h fs → (ls : List Label) × Nested s h fs ls
   labelled (strip a b) = ([], outermost a b)
   labelled (block {f = f} {g = g} body e o) =
       let ks = reverse (g .values) in
       let n = labelled o in
-      let l : Label = record { loop = f .loop; results = f .results; under = map zeroOf ks; body = body } in
-      (l ∷ n .0, inside refl refl (zero-kinds ks) (all-range [] ks tt) e (n .1))
+      let l : Label = record { loop = f .loop; results = f .results; under = map one ks; body = body } in
+      (l ∷ n .0, inside refl refl (ones-kinds ks) (ones-range ks) e (n .1))
 
-  pub live-inhabited : {p : ℕ} {f : Frame} {fs : List Frame} → Reaches s h p (f ∷ fs) → Live (f ∷ fs) → (c : Config) × (c .place ≡ p) × Sound s h c
-  live-inhabited {p = p} {f = f} {fs = fs} reached live =
-      let ks = reverse (f .values) in
-      let n = labelled (all-opened reached) in
-      let c : Config = record { place = p; state = record { stack = map zeroOf ks; locals = map zeroOf (locals h); memory = [] }; labels = n .0 } in
-      let fits : Fits s h f fs c =
-      record {
-        stacked = zero-kinds ks;
-        nested = n .1;
-        held = zero-kinds (locals h);
-        stack-range = all-range [] ks tt;
-        local-range = all-range [] (locals h) tt;
-        memory-range = λ k. omega arith;
-      } in
-      (c, refl, record { frame = f; outer = fs; reached = reached; live = live; fits = fits })
+  -- ---- the state
 
-  -- so where a rule is broken in live code, some sound state is stuck
-  pub stuck-inhabited : {code p : ℕ} {f : Frame} {fs : List Frame} → Breach s code p → LOCAL ≤ code → (code ≡ TRAILING → ⊥) → Reaches s h p (f ∷ fs) → Live (f ∷ fs)
-      → (c : Config) × (c .place ≡ p) × Sound s h c × StuckHere s h c
-  stuck-inhabited b lo hi reached live =
-      let it = live-inhabited reached live in
-      (it .0, it .1, it .2, stuck-exact b lo hi (it .0) (it .1) (it .2))
+  module _ {p : ℕ} {f : Frame} {fs : List Frame} (reached : Reaches s h p (f ∷ fs)) (live : Live (f ∷ fs)) where
+    abbrev standing : Config
+    standing = record { place = p; state = record { stack = map one (reverse (f .values)); locals = map one (locals h); memory = [] }; labels = labelled (all-opened reached) .0 }
+
+    standing-sound : Sound s h standing
+    standing-sound =
+        let fits : Fits s h f fs standing =
+        record {
+          stacked = ones-kinds (reverse (f .values));
+          nested = labelled (all-opened reached) .1;
+          held = ones-kinds (locals h);
+          stack-range = ones-range (reverse (f .values));
+          local-range = ones-range (locals h);
+          memory-range = λ k. omega arith;
+        } in
+        record { frame = f; outer = fs; reached = reached; live = live; fits = fits }
+
+    pub live-inhabited : (c : Config) × (c .place ≡ p) × Sound s h c
+    live-inhabited = (standing, refl, standing-sound)
+
+    -- so where a rule is broken in live code, some sound state is stuck
+    pub stuck-inhabited : {code : ℕ} → Breach s code p → LOCAL ≤ code → (code ≡ TRAILING → ⊥) → (c : Config) × (c .place ≡ p) × Sound s h c × (step s h c ≡ halted)
+    stuck-inhabited b lo hi = (standing, refl, standing-sound, by (stuck-exact b lo hi standing refl standing-sound))
+      where
+        by : StuckHere s h standing → step s h standing ≡ halted
+        by (stuck-here e) = e
+        by (not-taken st r e) = absurd (no-zero (reverse (f .values)) e)

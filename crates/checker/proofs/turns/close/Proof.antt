@@ -35,7 +35,7 @@ returns c = (
   (λ i ls rs fs w.
       let k = closing (w .nested) (c .before .before .before .before .before .before .before .before .before .pre .0) in
       let r = results-number w k (c .before .before .before .before .results-in .result) (c .before .before .before .before .results-in .ensures .1 (k .outer-floor) (k .type) (k .top .loop) (k .outer-dead) (closing-small w k) (k .is-type) (k .word-is)) in
-      as-coded (c .refused .ensures) (closes-not w k (c .before .before .under .ensures _ (k .top .results) (k .top) (closing-top w k) (r .0)) (c .before .if1 .taken))),
+      as-coded (c .refused .ensures) (closes-not w k (c .before .before .under .ensures _ (k .top .results) (k .top) (closing-top w k) (r .0)) (λ e. omega (arith, e, c .before .if1 .taken, c .before .before .before .before .before .before .before .before .before .pre .2, c .before .before .before .before .before .before .before .before .before .pre .3)))),
   λ z. refl,
 )
 
@@ -58,7 +58,7 @@ returns-2 c = (
       let r = results-number w k (c .before .before .before .before .before .before .before .before .before .results-in .result) (c .before .before .before .before .before .before .before .before .before .results-in .ensures .1 (k .outer-floor) (k .type) (k .top .loop) (k .outer-dead) (closing-small w k) (k .is-type) (k .word-is)) in
       let u = c .before .before .before .before .before .before .before .under .ensures _ (k .top .results) (k .top) (closing-top w k) (r .0) in
       let small = type-small (k .type) (k .is-type) in
-      closes-by w k u (ends-here u (c .before .before .before .before .before .before .if1 .left) (omega (arith, c .before .before .before .before .before .before .before .before .before .before .before .before .before .before .pre .2, c .before .before .before .before .before .before .before .before .before .before .before .before .before .before .pre .3)))
+      closes-by w k u (ends-here u (omega (arith, c .before .before .before .before .before .before .if1 .left)) (omega (arith, c .before .before .before .before .before .before .before .before .before .before .before .before .before .before .pre .2, c .before .before .before .before .before .before .before .before .before .before .before .before .before .before .pre .3)))
       (c .before .floor-in .ensures (k .outer-floor) (k .type) (k .top .loop) (k .outer-dead) (closing-small w k) small (k .word-is))
       (c .dead-in .ensures (k .outer-floor) (k .type) (k .top .loop) (k .outer-dead) (closing-small w k) small (k .word-is))
       (c .before .before .before .before .leave .ensures .0 _ (k .top .results) (closing-held w k) (r .1))),

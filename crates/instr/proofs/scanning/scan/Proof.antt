@@ -2,19 +2,25 @@
 use mathlib.Core.Path.{sym, ap, _∙_}
 use native.Mathlib.Omega.{arith}
 use denote.Ref.{now}
-use Rattle.opcode.specs.Number.{rowOf}
 use Rattle.opcode.specs.Entry.{entryOf}
 use Rattle.opcode.proofs.Classes.{row-moved-small}
 use Rattle.opcode.proofs.Entries.{moved-in}
 use Rattle.instr.specs.Scan.{scanOf}
 use Rattle.instr.specs.Inner.Steps.{item}
-use Rattle.instr.proofs.Versions.{decode-known, decode-unknown}
+use Rattle.instr.proofs.Versions.{decode-known, decode-unknown, it-is}
 use Rattle.instr.proofs.Items.{decode-cut, decode-number}
 use Rattle.instr.proofs.Numbers.{opcode-there}
 use Rattle.instr.proofs.Over.{over-there, scanned}
 use borrow.Author.Needs.{needs}
 use Rattle.instr.proofs.scanning.scan.Statement.{statement}
 use Rattle.instr.proofs.scanning.scan.Tie as tie
+use Rattle.instr.proofs.scanning.scan.Reads as reads
+use Rattle.instr.proofs.scanning.scan.Lts as lts
+use Rattle.instr.proofs.decoding.opcode_number.Reads as opcode-number-reads
+use Rattle.instr.proofs.entry_in.Reads as entry-in-reads
+use Rattle.instr.proofs.scanning.immediates.Reads as immediates-reads
+use Rattle.instr.proofs.scanning.refused.Reads as refused-reads
+use Rattle.opcode.proofs.is_known.Reads as is-known-reads
 
 is-known-requires : tie.Need-is-known-requires
 is-known-requires c κs = search needs
@@ -45,38 +51,34 @@ opcode-number-requires c κs = search needs
 enum-known-n : tie.Need-enum-known-n
 enum-known-n c = search needs
 
-cast-id-in : tie.Need-cast-id-in
-cast-id-in c = omega (
+cast-entry-in : tie.Need-cast-entry-in
+cast-entry-in c = omega (
   arith,
   opcode-there _ (λ j. c .before .before .before .before .shared-slice-known2 .given j .fits) _ _ _ _ (omega (arith, c .before .before .before .before .before .if2 .left)) (sym (c .before .before .before .opcode-number .ensures) ∙ ap item (c .before .n .given .1)),
 )
 
-id-in-requires : tie.Need-id-in-requires
-id-in-requires c κs = search needs
-
-entry-requires : tie.Need-entry-requires
-entry-requires c κs = search needs
+entry-in-requires : tie.Need-entry-in-requires
+entry-in-requires c κs = it-is (c .before .before .before .before .before .before .before .before .before .args .version) (c .before .before .before .before .before .before .before .is-known .ensures) (c .before .before .before .before .before .before .if1 .left)
 
 immediates-requires : tie.Need-immediates-requires
-immediates-requires c κs = let t = opcode-there _ (λ j. c .before .before .before .before .before .before .shared-slice-known2 .given j .fits) _ _ _ _ (omega (arith, c .before .before .before .before .before .before .before .if2 .left)) (sym (c .before .before .before .before .before .opcode-number .ensures) ∙ ap item (c .before .before .before .n .given .1)) in
-    let r = rowOf (c .before .id-in .result) in
-    omega (arith, t, moved-in r (c .entry .ensures), row-moved-small r)
+immediates-requires c κs = let t = opcode-there _ (λ j. c .before .before .before .before .before .shared-slice-known2 .given j .fits) _ _ _ _ (omega (arith, c .before .before .before .before .before .before .if2 .left)) (sym (c .before .before .before .before .opcode-number .ensures) ∙ ap item (c .before .before .n .given .1)) in
+    omega (arith, t, moved-in (c .entry-in .ensures .row) (c .entry-in .ensures .entry), row-moved-small (c .entry-in .ensures .row))
 
 enum-known-immediate : tie.Need-enum-known-immediate
 enum-known-immediate c = search needs
 
-sub-t26 : tie.Need-sub-t26
-sub-t26 c = let known = c .before .before .before .before .before .before .before .before .before .before .shared-slice-known2 in
-    let number = sym (c .before .before .before .before .before .before .before .before .before .opcode-number .ensures) ∙ ap item (c .before .before .before .before .before .before .before .n .given .1) in
-    let rest = sym (c .before .before .before .immediates .ensures (rowOf (c .before .before .before .before .before .id-in .result)) (c .before .before .before .before .entry .ensures)) ∙ ap item (c .before .immediate .given .1) in
-    let there = opcode-there _ (λ j. known .given j .fits) _ _ _ _ (omega (arith, c .before .before .before .before .before .before .before .before .before .before .before .if2 .left)) number in
+sub-t25 : tie.Need-sub-t25
+sub-t25 c = let known = c .before .before .before .before .before .before .before .before .before .shared-slice-known2 in
+    let number = sym (c .before .before .before .before .before .before .before .before .opcode-number .ensures) ∙ ap item (c .before .before .before .before .before .before .n .given .1) in
+    let rest = sym (c .before .before .before .immediates .ensures (c .before .before .before .before .entry-in .ensures .row) (c .before .before .before .before .entry-in .ensures .entry)) ∙ ap item (c .before .immediate .given .1) in
+    let there = opcode-there _ (λ j. known .given j .fits) _ _ _ _ (omega (arith, c .before .before .before .before .before .before .before .before .before .before .if2 .left)) number in
     omega (arith, over-there _ _ (λ j. known .given j .fits) _ (omega (arith, there)) _ _ _ rest)
 
-cast-t27 : tie.Need-cast-t27
-cast-t27 c = let known = c .before .before .before .before .before .before .before .before .before .before .shared-slice-known2 in
-    let number = sym (c .before .before .before .before .before .before .before .before .before .opcode-number .ensures) ∙ ap item (c .before .before .before .before .before .before .before .n .given .1) in
-    let rest = sym (c .before .before .before .immediates .ensures (rowOf (c .before .before .before .before .before .id-in .result)) (c .before .before .before .before .entry .ensures)) ∙ ap item (c .before .immediate .given .1) in
-    let there = opcode-there _ (λ j. known .given j .fits) _ _ _ _ (omega (arith, c .before .before .before .before .before .before .before .before .before .before .before .if2 .left)) number in
+cast-t26 : tie.Need-cast-t26
+cast-t26 c = let known = c .before .before .before .before .before .before .before .before .before .shared-slice-known2 in
+    let number = sym (c .before .before .before .before .before .before .before .before .opcode-number .ensures) ∙ ap item (c .before .before .before .before .before .before .n .given .1) in
+    let rest = sym (c .before .before .before .immediates .ensures (c .before .before .before .before .entry-in .ensures .row) (c .before .before .before .before .entry-in .ensures .entry)) ∙ ap item (c .before .immediate .given .1) in
+    let there = opcode-there _ (λ j. known .given j .fits) _ _ _ _ (omega (arith, c .before .before .before .before .before .before .before .before .before .before .if2 .left)) number in
     omega (arith, over-there _ _ (λ j. known .given j .fits) _ (omega (arith, there)) _ _ _ rest)
 
 enum-known-code : tie.Need-enum-known-code
@@ -92,20 +94,20 @@ refused-requires-4 : tie.Need-refused-requires-4
 refused-requires-4 c κs = search needs
 
 returns-3 : tie.Need-returns-3
-returns-3 c = let a = c .before .before .before .before .before .before .before .before .before .before .before .before .before .before .before .args in
-    let number = sym (c .before .before .before .before .before .before .before .before .before .opcode-number .ensures) ∙ ap item (c .before .before .before .before .before .before .before .n .given .1) in
-    let is = c .before .before .before .before .entry .ensures ∙ ap entryOf (c .before .before .before .before .before .id-in .ensures) in
+returns-3 c = let a = c .before .before .before .before .before .before .before .before .before .before .before .before .before .before .args in
+    let number = sym (c .before .before .before .before .before .before .before .before .opcode-number .ensures) ∙ ap item (c .before .before .before .before .before .before .n .given .1) in
+    let is = c .before .before .before .before .entry-in .ensures .entry ∙ ap entryOf (c .before .before .before .before .entry-in .ensures .in-version) in
     let rest = sym (c .before .before .before .immediates .ensures _ is) ∙ ap item (c .before .immediate .given .1) in
-    scanned _ _ _ (c .before .before .before .before .before .before .before .before .before .before .before .if2 .left) (λ j. c .before .before .before .before .before .before .before .before .before .before .shared-slice-known2 .given j .fits) _ _ number _ is _ rest
-    ∙ ap scanOf (sym (decode-known (a .version) (c .before .before .before .before .before .before .before .before .before .before .before .before .before .is-known .ensures) (now (a .s)) (a .at) (c .before .before .before .before .before .before .before .before .before .before .before .before .if1 .left)))
+    scanned _ _ _ (c .before .before .before .before .before .before .before .before .before .before .if2 .left) (λ j. c .before .before .before .before .before .before .before .before .before .shared-slice-known2 .given j .fits) _ _ number _ is _ rest
+    ∙ ap scanOf (sym (decode-known (a .version) (c .before .before .before .before .before .before .before .before .before .before .before .before .is-known .ensures) (now (a .s)) (a .at) (c .before .before .before .before .before .before .before .before .before .before .before .if1 .left)))
 
 returns-4 : tie.Need-returns-4
-returns-4 c = let a = c .before .before .before .before .before .before .before .before .before .before .before .before .before .before .before .before .args in
-    let number = sym (c .before .before .before .before .before .before .before .before .before .before .opcode-number .ensures) ∙ ap item (c .before .before .before .before .before .before .before .before .n .given .1) in
-    let is = c .before .before .before .before .before .entry .ensures ∙ ap entryOf (c .before .before .before .before .before .before .id-in .ensures) in
+returns-4 c = let a = c .before .before .before .before .before .before .before .before .before .before .before .before .before .before .before .args in
+    let number = sym (c .before .before .before .before .before .before .before .before .before .opcode-number .ensures) ∙ ap item (c .before .before .before .before .before .before .before .n .given .1) in
+    let is = c .before .before .before .before .before .entry-in .ensures .entry ∙ ap entryOf (c .before .before .before .before .before .entry-in .ensures .in-version) in
     let rest = sym (c .before .before .before .before .immediates .ensures _ is) ∙ ap item (c .before .before .code .given .1) in
-    c .refused3 .ensures ∙ scanned _ _ _ (c .before .before .before .before .before .before .before .before .before .before .before .before .if2 .left) (λ j. c .before .before .before .before .before .before .before .before .before .before .before .shared-slice-known2 .given j .fits) _ _ number _ is _ rest
-    ∙ ap scanOf (sym (decode-known (a .version) (c .before .before .before .before .before .before .before .before .before .before .before .before .before .before .is-known .ensures) (now (a .s)) (a .at) (c .before .before .before .before .before .before .before .before .before .before .before .before .before .if1 .left)))
+    c .refused3 .ensures ∙ scanned _ _ _ (c .before .before .before .before .before .before .before .before .before .before .before .if2 .left) (λ j. c .before .before .before .before .before .before .before .before .before .before .shared-slice-known2 .given j .fits) _ _ number _ is _ rest
+    ∙ ap scanOf (sym (decode-known (a .version) (c .before .before .before .before .before .before .before .before .before .before .before .before .before .is-known .ensures) (now (a .s)) (a .at) (c .before .before .before .before .before .before .before .before .before .before .before .before .if1 .left)))
 
 returns-5 : tie.Need-returns-5
 returns-5 c = let a = c .before .before .before .before .before .before .before .before .before .before .args in
@@ -125,13 +127,12 @@ scan-spec =
     add-opcode-number
     opcode-number-requires
     enum-known-n
-    cast-id-in
-    id-in-requires
-    entry-requires
+    cast-entry-in
+    entry-in-requires
     immediates-requires
     enum-known-immediate
-    sub-t26
-    cast-t27
+    sub-t25
+    cast-t26
     enum-known-code
     refused-requires-3
     enum-known-code-2
