@@ -1,7 +1,7 @@
 /* Times both interpreters on long strips, side by side, after their answers, memory and results have been compared.
-     bench                    a table of nanoseconds an instruction
-     bench DOOR SIDE NUMBER   one call alone, for a tool that counts instructions: check or run, plain or proved, a strip's number; prints
-                              the strip's name and how many instructions it has */
+     bench                    a table of nanoseconds an instruction, and one for loops
+     bench DOOR SIDE NUMBER   one call alone, for a tool that counts instructions: check, run or loop, plain or proved, a strip's number;
+                              prints the strip's name and how many instructions it has, or a loop how many are completed */
 #include <stdio.h>
 #include <stdlib.h>
 #include <string.h>
@@ -9,15 +9,17 @@
 
 #include "strip.h"
 
-/* Local 0 is an i32, locals 1 and 2 are vectors. A strip pushes local 1, repeats its unit, which leaves one vector where one was, as
+/* Local 0 is an i32, not 0, locals 1 and 2 are vectors. A strip pushes local 1, repeats its unit, which leaves one vector where one was, as
    often as a file has room, and ends with that vector as its result. */
 static const struct {
     const char *name;
     const char *unit;
     size_t bytes;
     unsigned instructions;
+    uint8_t version;
 } units[] = {
-#define UNIT(name, bytes, instructions) { name, bytes, sizeof bytes - 1, instructions }
+#define UNIT(name, bytes, instructions) { name, bytes, sizeof bytes - 1, instructions, 1 }
+#define UNIT_2(name, bytes, instructions) { name, bytes, sizeof bytes - 1, instructions, 2 }
     UNIT("i32.const, drop", "\x41\xE8\x07\x1A", 2),
     UNIT("local.get, local.set", "\x20\x00\x21\x00", 2),
     UNIT("load, add, store", "\x1A\x20\x00\x20\x00\xFD\x00\x04\x00\x20\x02\xFD\xAE\x01\x22\x01\xFD\x0B\x04\x00\x20\x01", 9),
@@ -28,33 +30,80 @@ static const struct {
     UNIT("local.get, i32x4.dot_i16x8_s", "\x20\x02\xFD\xBA\x01", 2),
     UNIT("i8x16.popcnt", "\xFD\x62", 1),
     UNIT("local.get, i8x16.bitmask, drop", "\x20\x02\xFD\x64\x1A", 3),
+    UNIT_2("version 2: load, add, store", "\x1A\x20\x00\x20\x00\xFD\x00\x04\x00\x20\x02\xFD\xAE\x01\x22\x01\xFD\x0B\x04\x00\x20\x01", 9),
+    UNIT_2("block, i32.const 0, br_if, end", "\x02\x40\x41\x00\x0D\x00\x0B", 4),
 };
-enum { UNITS = sizeof units / sizeof *units, MEMORY = 256, BUDGET_MOST = 1000000, ROUNDS = 400 };
+
+/* A loop: further local 3 is an i32 that begins at 0. Its turn is what it repeats; it leaves nothing, and the last of it goes back. */
+static const struct {
+    const char *name;
+    const char *turn;
+    size_t bytes;
+    unsigned turns;
+    unsigned instructions; /* completed in a turn */
+} loops[] = {
+#define LOOP(name, bytes, turns, instructions) { name, bytes, sizeof bytes - 1, turns, instructions }
+#define TEN(s) s s s s s s s s s s
+#define EIGHT(s) s s s s s s s s
+/* local 3 plus 1, kept, and whether it is below 4,000: five instructions, and br_if */
+#define COUNT_ON "\x20\x03\x41\x01\x6A\x22\x03\x41\xA0\x1F\x49\x0D\x00"
+    /* local 3 is the address, up to 65,536 */
+    LOOP("load, i16x8.add, store", "\x20\x03\x20\x03\xFD\x00\x04\x00\x20\x02\xFD\x8E\x01\xFD\x0B\x04\x00"
+         "\x20\x03\x41\x10\x6A\x22\x03\x41\x80\x80\x04\x49\x0D\x00", 4096, 13),
+    LOOP("br over 200 instructions", "\x02\x40\x0C\x00" TEN(TEN("\x41\x01\x1A")) "\x0B" COUNT_ON, 4000, 9),
+    LOOP("8 blocks left by br 7", EIGHT("\x02\x40") "\x0C\x07" EIGHT("\x0B") COUNT_ON, 4000, 16),
+    LOOP("8 blocks left by br_if 7", EIGHT("\x02\x40") "\x20\x00\x0D\x07" EIGHT("\x0B") COUNT_ON, 4000, 17),
+    LOOP("8 blocks left by their ends", EIGHT("\x02\x40") EIGHT("\x0B") COUNT_ON, 4000, 23),
+};
+enum { UNITS = sizeof units / sizeof *units, LOOPS = sizeof loops / sizeof *loops, BUDGET_MOST = 1000000, ROUNDS = 400 };
 
 static uint8_t strip[FILE_MOST];
 static size_t strip_len;
-static unsigned strip_instructions;
-static uint8_t args[3 * SLOT], memory[MEMORY], results[SLOT];
+static unsigned strip_instructions; /* that are completed */
+static uint8_t args[3 * SLOT], memory[MEMORY_MOST], results[SLOT];
+static size_t memory_len;
 
-static void make(int u)
+static void put(const void *bytes, size_t n)
 {
-    static const uint8_t head[] = { 'W', 'G', 'P', 1, 0, 3, 0, 1, I32, V128, V128, V128, 0x20, 1 };
-    memcpy(strip, head, sizeof head);
-    strip_len = sizeof head;
-    strip_instructions = 2;
-    while (strip_len + units[u].bytes < FILE_MOST) {
-        memcpy(strip + strip_len, units[u].unit, units[u].bytes);
-        strip_len += units[u].bytes;
-        strip_instructions += units[u].instructions;
-    }
-    strip[strip_len++] = 0x0B;
+    memcpy(strip + strip_len, bytes, n);
+    strip_len += n;
+}
+
+static void lend(size_t len)
+{
     memset(args, 0, sizeof args);
     args[0] = 64;
     for (int i = 0; i < 2 * SLOT; i++)
         args[SLOT + i] = 37 * i + 11;
-    for (int i = 0; i < MEMORY; i++)
+    memory_len = len;
+    for (size_t i = 0; i < len; i++)
         memory[i] = 91 * i + 5;
     memset(results, 0xEE, sizeof results);
+}
+
+static void make(int u)
+{
+    uint8_t head[] = { 'W', 'G', 'P', units[u].version, 0, 3, 0, 1, I32, V128, V128, V128, 0x20, 1 };
+    strip_len = 0;
+    put(head, sizeof head);
+    strip_instructions = 2;
+    while (strip_len + units[u].bytes < FILE_MOST) {
+        put(units[u].unit, units[u].bytes);
+        strip_instructions += units[u].instructions;
+    }
+    put("\x0B", 1);
+    lend(256);
+}
+
+static void make_loop(int n)
+{
+    static const uint8_t head[] = { 'W', 'G', 'P', 2, 0, 3, 1, 1, I32, V128, V128, I32, V128, 0x03, 0x40 };
+    strip_len = 0;
+    put(head, sizeof head);
+    put(loops[n].turn, loops[n].bytes);
+    put("\x0B\x20\x01\x0B", 4);
+    strip_instructions = 1 + loops[n].turns * loops[n].instructions + 3;
+    lend(MEMORY_MOST);
 }
 
 typedef uint64_t check_door(const uint8_t *, size_t);
@@ -66,23 +115,23 @@ static const char *const sides[] = { "plain", "proved" };
 static uint64_t call(int door, int side)
 {
     return door == 0 ? check_doors[side](strip, strip_len)
-                     : run_doors[side](strip, strip_len, args, sizeof args, memory, sizeof memory, results, sizeof results, BUDGET_MOST);
+                     : run_doors[side](strip, strip_len, args, sizeof args, memory, memory_len, results, sizeof results, BUDGET_MOST);
 }
 
-static void compare(int u)
+static void compare(void (*make_it)(int), int n, const char *name)
 {
+    static uint8_t memories[2][MEMORY_MOST], outs[2][SLOT];
     uint64_t answers[2][2];
-    uint8_t memories[2][MEMORY], outs[2][SLOT];
     for (int side = 0; side < 2; side++) {
-        make(u);
+        make_it(n);
         answers[0][side] = call(0, side);
         answers[1][side] = call(1, side);
-        memcpy(memories[side], memory, MEMORY);
+        memcpy(memories[side], memory, memory_len);
         memcpy(outs[side], results, SLOT);
     }
     if (answers[0][0] != answer(DONE, 0, 0) || answers[1][0] != answer(DONE, 0, strip_instructions) || answers[0][0] != answers[0][1]
-        || answers[1][0] != answers[1][1] || memcmp(memories[0], memories[1], MEMORY) || memcmp(outs[0], outs[1], SLOT)) {
-        printf("%s: the two differ\n", units[u].name);
+        || answers[1][0] != answers[1][1] || memcmp(memories[0], memories[1], memory_len) || memcmp(outs[0], outs[1], SLOT)) {
+        printf("%s: the two differ\n", name);
         exit(1);
     }
 }
@@ -110,12 +159,12 @@ static void measure(int door, double best[2])
 
 static int one(char **words)
 {
-    const int u = atoi(words[3]);
-    if (u < 0 || UNITS <= u)
+    const int n = atoi(words[3]), loop = !strcmp(words[1], "loop");
+    if (n < 0 || (loop ? LOOPS : UNITS) <= n)
         return 1;
-    make(u);
-    call(!strcmp(words[1], "run"), !strcmp(words[2], sides[1]));
-    printf("%s/%u\n", units[u].name, strip_instructions);
+    (loop ? make_loop : make)(n);
+    call(strcmp(words[1], "check") != 0, !strcmp(words[2], sides[1]));
+    printf("%s/%u\n", loop ? loops[n].name : units[n].name, strip_instructions);
     return 0;
 }
 
@@ -123,16 +172,24 @@ int main(int n, char **words)
 {
     if (n == 4)
         return one(words);
+    double check[2], run[2];
     printf("| unit of the strip | check: C ns | proved ns | ratio | run: C ns | proved ns | ratio |\n|---|---|---|---|---|---|---|\n");
     for (int u = 0; u < UNITS; u++) {
-        compare(u);
-        double check[2], run[2];
+        compare(make, u, units[u].name);
         make(u);
         measure(0, check);
         measure(1, run);
         const double k = strip_instructions;
         printf("| %s | %.2f | %.2f | %.2f | %.2f | %.2f | %.2f |\n", units[u].name, check[0] / k, check[1] / k, check[1] / check[0], run[0] / k,
                run[1] / k, run[1] / run[0]);
+    }
+    printf("\n| turn of the loop | run: C ns | proved ns | ratio |\n|---|---|---|---|\n");
+    for (int i = 0; i < LOOPS; i++) {
+        compare(make_loop, i, loops[i].name);
+        make_loop(i);
+        measure(1, run);
+        const double k = strip_instructions;
+        printf("| %s | %.2f | %.2f | %.2f |\n", loops[i].name, run[0] / k, run[1] / k, run[1] / run[0]);
     }
     return 0;
 }

@@ -1,20 +1,15 @@
 /* Holds the proved doors to the plain ones: answers of check and run, memory and results.
-     compare OFFICIAL CASES SEED LISTER
+     compare CASES SEED LISTER OFFICIAL..
    every strip of the official tests with its own arguments; strips as long as a file may be, and a byte longer; then CASES strips made by
-   chance: a third well typed, a third such ones spoilt, a third official ones spoilt. LISTER is the command that starts the proved
-   lister: it lists each official strip, the long ones and one in a hundred of those made by chance. */
+   chance, of both versions by turns: a third well typed, a third such ones spoilt, a third official ones spoilt. LISTER is the command
+   that starts the proved lister: it lists each official strip, the long ones and one in about a hundred of those made by chance. */
 #include <stdio.h>
 #include <stdlib.h>
 #include <string.h>
 
-#include "table.h"
+#include "blocks.h"
 
-enum { STRIPS = 2048, STRIP_MOST = 8192, HEX_MOST = 2048, BODY_MOST = 400 };
-
-struct strip {
-    uint8_t bytes[STRIP_MOST];
-    size_t len;
-};
+enum { STRIPS = 4096, HEX_MOST = 2048, LOOP_BUDGET = 3000 };
 
 /* What a strip is run on. */
 struct lent {
@@ -31,30 +26,6 @@ static struct strip official[STRIPS];
 static size_t officials;
 static unsigned long cases, differing, codes[256], completed[INSTRUCTIONS];
 
-/* --- chance ------------------------------------------------------------------------------------------------------- */
-
-static uint64_t state;
-
-static uint64_t chance(void)
-{
-    state ^= state << 13;
-    state ^= state >> 7;
-    state ^= state << 17;
-    return state * 0x2545F4914F6CDD1D;
-}
-
-static uint32_t below(uint32_t n)
-{
-    return (chance() >> 32) % n;
-}
-
-/* A byte, often one at which lanes change their sign or overflow. */
-static uint8_t some_byte(void)
-{
-    static const uint8_t edges[] = { 0x00, 0x01, 0x7F, 0x80, 0xFF };
-    return below(2) ? edges[below(sizeof edges)] : chance() >> 56;
-}
-
 /* --- both sides, one case ----------------------------------------------------------------------------------------- */
 
 static void hex(const uint8_t *s, size_t len)
@@ -70,8 +41,8 @@ static void show(const char *what, uint64_t a, uint64_t b)
            (unsigned)(b & 0xFF), (unsigned)(b >> 8 & 0xFFFFFF), (unsigned)(b >> 32));
 }
 
-/* Leaves in x what the plain run left there. Answers the run's code. */
-static unsigned compared(const uint8_t *s, size_t len, struct lent *x)
+/* Leaves in x what the plain run left there. Answers what the run answers. */
+static uint64_t compared(const uint8_t *s, size_t len, struct lent *x)
 {
     static struct lent y;
     memcpy(y.memory, x->memory, x->memory_len);
@@ -89,7 +60,7 @@ static unsigned compared(const uint8_t *s, size_t len, struct lent *x)
         show("check", check, proved_check);
         show("run", run, proved_run);
     }
-    return run & 0xFF;
+    return run;
 }
 
 /* --- listings ----------------------------------------------------------------------------------------------------- */
@@ -141,6 +112,7 @@ static void run_official(const char *path)
         exit(1);
     }
     x.budget = UINT32_MAX;
+    struct strip *const strips = official + officials; /* each file numbers its own */
     while (fgets(line, sizeof line, f)) {
         unsigned id = 0;
         const int fields = sscanf(line, "%15s %u %2047s", word, &id, first);
@@ -149,14 +121,14 @@ static void run_official(const char *path)
         else if (!strcmp(word, "data"))
             unhex(first, x.memory + id);
         else if (!strcmp(word, "strip")) {
-            official[id].len = unhex(first, official[id].bytes);
-            officials = id + 1;
-            list(official[id].bytes, official[id].len);
+            strips[id].len = unhex(first, strips[id].bytes);
+            officials = &strips[id + 1] - official;
+            list(strips[id].bytes, strips[id].len);
         } else if (!strcmp(word, "call") || !strcmp(word, "trap") || !strcmp(word, "refuse")) {
             x.args_len = *word == 'r' ? 0 : unhex(first, x.args);
-            x.results_len = SLOT * official[id].bytes[7];
+            x.results_len = SLOT * strips[id].bytes[7];
             memset(x.results, 0xEE, sizeof x.results);
-            compared(official[id].bytes, official[id].len, &x);
+            compared(strips[id].bytes, strips[id].len, &x);
         }
     }
     fclose(f);
@@ -182,177 +154,33 @@ static void run_long(size_t len)
 
 /* --- strips made by chance ---------------------------------------------------------------------------------------- */
 
-static const uint8_t all_kinds[] = { I32, I64, V128 };
-
-static struct {
-    uint8_t bytes[STRIP_MOST];
-    size_t len;
-    uint8_t kinds[2 * STACK_MOST];
-    size_t depth;
-    unsigned used[BODY_MOST];
-    size_t count;
-} body;
-
-static void put(uint8_t b)
+static void put_in(struct strip *s, size_t at, uint8_t b)
 {
-    body.bytes[body.len++] = b;
+    memmove(s->bytes + at + 1, s->bytes + at, s->len++ - at);
+    s->bytes[at] = b;
 }
 
-/* LEB128, at times with padding as far as the width allows. */
-static void put_number(int is_signed, unsigned most, int64_t n)
+/* A place of the header, or more often one after it. */
+static size_t some_place(const struct strip *s)
 {
-    const unsigned at_least = below(8) ? 1 : 1 + below(most);
-    for (unsigned i = 1;; i++) {
-        const uint8_t low = n & 0x7F;
-        n = is_signed ? n >> 7 : (int64_t)((uint64_t)n >> 7);
-        if (at_least <= i && (is_signed ? n == ((low & 0x40) ? -1 : 0) : n == 0)) {
-            put(low);
-            return;
-        }
-        put(low | 0x80);
-    }
+    const size_t head = s->len < 8 ? s->len : 8 + s->bytes[5] + s->bytes[6] + s->bytes[7];
+    return s->len <= head || !below(8) ? below(s->len) : head + below(s->len - head);
 }
 
-static void put_op(unsigned op)
-{
-    body.used[body.count++] = op;
-    if (op < VECTOR)
-        put(op);
-    else {
-        put(PREFIX);
-        put_number(0, 5, op - VECTOR);
-    }
-}
-
-static void push(uint8_t kind)
-{
-    body.kinds[body.depth++] = kind;
-}
-
-static void drop_to(size_t depth)
-{
-    for (; depth < body.depth; body.depth--)
-        put_op(DROP);
-}
-
-static int64_t some_number(void)
-{
-    uint64_t n = 0;
-    for (int i = 0; i < 8; i++)
-        n = n << 8 | some_byte();
-    return (int64_t)n >> below(64);
-}
-
-static void put_const(uint8_t kind)
-{
-    put_op(kind == I32 ? I32_CONST : kind == I64 ? I64_CONST : VECTOR + 0x0C);
-    if (kind == V128)
-        for (int i = 0; i < 16; i++)
-            put(some_byte());
-    else if (kind == I32)
-        put_number(1, 5, (int32_t)some_number());
-    else
-        put_number(1, 10, some_number());
-    push(kind);
-}
-
-/* The kinds that it takes are pushed where they are not there. An access gets an address that is in bounds more often than not. */
-static void put_row(unsigned op, size_t memory_len)
-{
-    const struct row *row = &rows[op];
-    const int access = row->immediates == MEMARG || row->immediates == MEMARG_LANE;
-    const uint32_t offset = below(4) ? below(16) : below(8) ? below(MEMORY_MOST) : (uint32_t)chance();
-    if (access || body.depth < row->taken || memcmp(body.kinds + body.depth - row->taken, row->takes, row->taken)) {
-        for (size_t i = 0; i < row->taken; i++)
-            if (access && i == 0) {
-                put_op(I32_CONST);
-                put_number(1, 5, below(16) && 64 < memory_len ? (int32_t)below(memory_len - 40) : (int32_t)some_number());
-                push(I32);
-            } else
-                put_const(row->takes[i]);
-    }
-    put_op(op);
-    if (access) {
-        unsigned most = 0;
-        while (2 << most <= row->moved)
-            most++;
-        put_number(0, 5, below(most + 1));
-        put_number(0, 5, offset);
-    }
-    if (row->immediates == LANE_INDEX || row->immediates == MEMARG_LANE)
-        put(below(row->lanes));
-    if (row->immediates == SHUFFLE)
-        for (int i = 0; i < 16; i++)
-            put(below(32));
-    body.depth -= row->taken;
-    if (row->leaves[0])
-        push(row->leaves[0]);
-}
-
-static void put_local(unsigned op, const uint8_t *locals, size_t count)
-{
-    const uint32_t i = below(count);
-    if (op != LOCAL_GET && (body.depth == 0 || body.kinds[body.depth - 1] != locals[i]))
-        put_const(locals[i]);
-    put_op(op);
-    put_number(0, 5, i);
-    if (op == LOCAL_GET)
-        push(locals[i]);
-    body.depth -= op == LOCAL_SET;
-}
-
-/* A strip of some instructions, each as likely as any other, that passes the check, but for a few that are too deep. */
-static void make(struct strip *s, size_t memory_len)
-{
-    uint8_t locals[8];
-    const size_t p = below(4), l = below(4);
-    for (size_t i = 0; i < p + l; i++)
-        locals[i] = all_kinds[below(3)];
-    body.len = body.depth = body.count = 0;
-    for (unsigned deep = below(16) ? 0 : STACK_MOST - 6 + below(9); deep; deep--)
-        put_const(all_kinds[below(3)]);
-    for (unsigned n = below(40); n; n--) {
-        unsigned op;
-        do
-            op = below(INSTRUCTIONS);
-        while (op == END || rows[op].immediates < NONE);
-        drop_to(STACK_MOST - 4);
-        if (rows[op].immediates == INDEX) {
-            if (p + l)
-                put_local(op, locals, p + l);
-        } else if (op == DROP)
-            drop_to(body.depth ? body.depth - 1 : 0);
-        else if (rows[op].taken == 0)
-            put_const(rows[op].leaves[0]);
-        else
-            put_row(op, memory_len);
-    }
-    drop_to(RESULTS_MOST);
-    const uint8_t head[] = { 'W', 'G', 'P', 1, 0, p, l, body.depth };
-    memcpy(s->bytes, head, 8);
-    memcpy(s->bytes + 8, locals, p + l);
-    memcpy(s->bytes + 8 + p + l, body.kinds, body.depth);
-    s->len = 8 + p + l + body.depth;
-    memcpy(s->bytes + s->len, body.bytes, body.len);
-    s->len += body.len;
-    s->bytes[s->len++] = END;
-}
-
-/* One to three bytes changed, put in or taken out, or the end cut off. */
+/* One to three changes: bytes changed, put in or taken out, or the end cut off. */
 static void spoil(struct strip *s)
 {
     for (unsigned n = 1 + below(3); n && s->len; n--) {
-        const size_t at = below(4) ? below(s->len) : below(s->len < 12 ? s->len : 12);
-        switch (below(8)) {
+        const size_t at = some_place(s);
+        switch (below(16)) {
         case 0:
-            memmove(s->bytes + at + 1, s->bytes + at, s->len++ - at);
-            s->bytes[at] = chance() >> 56;
+            put_in(s, at, chance() >> 56);
             break;
         case 1:
             memmove(s->bytes + at, s->bytes + at + 1, --s->len - at);
             break;
         case 2:
-            if (!below(4))
+            if (!below(2))
                 s->len = at;
             break;
         case 3:
@@ -361,8 +189,31 @@ static void spoil(struct strip *s)
         case 4:
             s->bytes[at] += 1 - 2 * below(2);
             break;
-        default:
-            s->bytes[at] = below(2) ? below(18) : chance() >> 56;
+        case 5:
+            if (!below(2))
+                put_in(s, s->len, below(2) ? END : chance() >> 56);
+            break;
+        case 6: /* a number with more padding */
+            for (unsigned k = 1 + below(5); k; k--)
+                put_in(s, at, 0x80);
+            break;
+        case 7:
+            put_in(s, at, chance() >> 56);
+            put_in(s, at, PREFIX);
+            break;
+        case 8: /* the other version */
+            if (8 <= s->len && !below(4))
+                s->bytes[3] ^= 3;
+            break;
+        case 9: /* a lane, a kind, another label */
+            s->bytes[at] = below(4) ? below(18) : all_kinds[below(3)];
+            break;
+        default: {
+            static const uint8_t firsts[] = {
+                BLOCK, LOOP, END, BR, BR_IF, DROP, LOCAL_GET, LOCAL_SET, LOCAL_TEE, I32_CONST, I64_CONST, I32_EQZ, I32_LT_U, I32_ADD, PREFIX
+            };
+            s->bytes[at] = below(4) ? firsts[below(sizeof firsts)] : chance() >> 56;
+        }
         }
     }
 }
@@ -380,62 +231,130 @@ static void lend(const struct strip *s, struct lent *x)
     memset(x->results, 0xEE, sizeof x->results);
     for (size_t i = 0; i < x->memory_len; i++)
         x->memory[i] = 151 * i + 7;
-    x->budget = below(4) ? 1000000 : below(80);
+    x->budget = !below(4) ? below(80) : s->len < 8 || s->bytes[3] == 1 ? 1000000 : LOOP_BUDGET;
     switch (below(64)) {
     case 0: x->args_len = SLOT * below(4); break;
     case 1: x->results_len = SLOT * below(4); break;
-    case 2: x->args[below(sizeof x->args)] ^= 1; break;
+    case 2: x->args[below(x->args_len + 1)] ^= 1; break;
     case 3: x->memory_len = MEMORY_MOST + 1; break;
     }
 }
 
+static void copy(struct lent *to, const struct lent *from)
+{
+    memcpy(to->args, from->args, sizeof to->args);
+    memcpy(to->memory, from->memory, from->memory_len);
+    memcpy(to->results, from->results, sizeof to->results);
+    to->args_len = from->args_len;
+    to->memory_len = from->memory_len;
+    to->results_len = from->results_len;
+}
+
+/* Strips with blocks that were not spoilt: what came of them. More steps than instructions means that a loop turned, fewer that a branch
+   passed over some. */
+static struct {
+    unsigned long made, passed, done, trapped, spent, more, fewer;
+} whole;
+
+static void note(const struct strip *s, uint64_t run)
+{
+    const uint64_t steps = run >> 32, instructions = body.count + 1;
+    const unsigned code = run & 0xFF;
+    whole.made++;
+    whole.passed += plain_check(s->bytes, s->len) == answer(DONE, 0, 0);
+    whole.done += code == DONE;
+    whole.trapped += code == TRAP;
+    whole.spent += code == BUDGET;
+    whole.more += code == DONE && instructions < steps;
+    whole.fewer += code == DONE && steps < instructions;
+}
+
+/* Of the version, if there is one. */
+static const struct strip *some_official(uint8_t version)
+{
+    const struct strip *s = &official[below(officials)];
+    for (int tries = 100; tries && s->bytes[3] != version; tries--)
+        s = &official[below(officials)];
+    return s;
+}
+
+static size_t some_length(int calm)
+{
+    static const size_t sizes[] = { 0, 1, 7, 16, 100 };
+    const size_t i = below(calm ? 200 : 8);
+    return !below(200) ? MEMORY_MOST : i < sizeof sizes / sizeof *sizes ? sizes[i] : 1000;
+}
+
+/* Versions by turns: whole strips, strips that slip or are spoilt, official ones spoilt. In version 2 most strips have blocks. */
 static void run_chance(unsigned long n)
 {
-    static struct lent x;
+    static struct lent x, again;
     static struct strip s;
     for (unsigned long i = 0; i < n; i++) {
-        static const size_t sizes[] = { 0, 1, 7, 16, 100, 1000, 1000, 1000 };
-        x.memory_len = below(200) ? sizes[below(8)] : MEMORY_MOST;
-        if (i % 3 < 2)
-            make(&s, x.memory_len);
+        const uint8_t version = 1 + i % 2;
+        const int straight = version == 1 || !below(8), is_whole = i / 2 % 3 == 0, is_official = i / 2 % 3 == 2;
+        const int slips = !is_whole && !straight && below(2);
+        x.memory_len = some_length(!straight);
+        if (is_official)
+            s = *some_official(version);
+        else if (straight)
+            make_straight(&s, version, x.memory_len);
         else
-            s = official[below(officials)];
-        if (i % 3)
+            make_blocks(&s, x.memory_len, slips);
+        if (is_official || (!is_whole && !slips))
             spoil(&s);
-        if (i % 100 == 0)
+        if (i % 101 == 0)
             list(s.bytes, s.len);
         lend(&s, &x);
-        if (compared(s.bytes, s.len, &x) == DONE && i % 3 == 0)
+        copy(&again, &x);
+        const uint64_t run = compared(s.bytes, s.len, &x);
+        const int done = (run & 0xFF) == DONE;
+        if (is_whole && !straight)
+            note(&s, run);
+        if (is_whole && straight && done)
             for (size_t k = 0; k < body.count; k++)
                 completed[body.used[k]]++;
+        if (version == 2 && done) { /* again, with just as many steps as it takes, one less, or any number below */
+            again.budget = below(3) ? (run >> 32) - below(2) : below(run >> 32);
+            compared(s.bytes, s.len, &again);
+        }
     }
 }
 
-int main(int n, char **words)
+static void report(void)
 {
-    if (n != 5) {
-        fprintf(stderr, "usage: compare OFFICIAL CASES SEED LISTER\n");
-        return 2;
-    }
-    lister = words[4];
-    state = strtoull(words[3], NULL, 10) * 2 + 1;
-    run_official(words[1]);
-    printf("official: %lu cases, %lu differ\n", cases, differing);
-    for (size_t len = FILE_MOST - 2; len <= FILE_MOST + 1; len++)
-        run_long(len);
-    run_chance(strtoul(words[2], NULL, 10));
     printf("listings: %lu, %lu differ\n", listings, listed_otherwise);
     printf("all: %lu cases, %lu differ\nby code:", cases, differing);
     for (int c = 0; c < 256; c++)
         if (codes[c])
             printf(" %d:%lu", c, codes[c]);
+    printf("\nwith blocks, not spoilt: %lu, of these %lu pass the check, %lu DONE, %lu TRAP, %lu BUDGET\n", whole.made, whole.passed,
+           whole.done, whole.trapped, whole.spent);
+    printf("of those DONE %lu took more steps than they have instructions, %lu fewer\n", whole.more, whole.fewer);
     unsigned long carried = 0, least = -1;
     for (int op = 0; op < INSTRUCTIONS; op++)
-        if (NONE <= rows[op].immediates && op != END) {
+        if (NONE <= rows[op].immediates && rows[op].immediates < LABEL_INDEX && op != END) {
             carried++;
             if (completed[op] < least)
                 least = completed[op];
         }
-    printf("\neach of the %lu instructions beside `end` completed at least %lu times in runs that ended with DONE\n", carried, least);
+    printf("each of the %lu instructions without blocks completed at least %lu times in straight strips that were DONE\n", carried, least);
+}
+
+int main(int n, char **words)
+{
+    if (n < 5) {
+        fprintf(stderr, "usage: compare CASES SEED LISTER OFFICIAL..\n");
+        return 2;
+    }
+    lister = words[3];
+    state = strtoull(words[2], NULL, 10) * 2 + 1;
+    for (int i = 4; i < n; i++)
+        run_official(words[i]);
+    printf("official: %lu cases, %lu differ\n", cases, differing);
+    for (size_t len = FILE_MOST - 2; len <= FILE_MOST + 1; len++)
+        run_long(len);
+    run_chance(strtoul(words[1], NULL, 10));
+    report();
     return differing != 0 || listed_otherwise != 0;
 }

@@ -7,16 +7,17 @@
 
 struct instruction {
     unsigned op;          /* a row of the table */
-    uint32_t index;       /* of a local, or the offset of an access */
+    uint32_t index;       /* of a local or a label, or the offset of an access */
     uint64_t number;      /* of a constant */
     uint8_t exponent;     /* of an access */
     uint8_t lane;
+    uint8_t type;         /* of a block */
     const uint8_t *bytes; /* the sixteen of v128.const and of a shuffle */
     size_t end;           /* where the next instruction starts */
 };
 
 /* Answers DONE, or another code and its place. */
-static inline enum code decode(const uint8_t *s, size_t len, size_t at, struct instruction *in, size_t *place)
+static inline enum code decode(int version, const uint8_t *s, size_t len, size_t at, struct instruction *in, size_t *place)
 {
     size_t end = at;
     uint64_t n;
@@ -44,8 +45,23 @@ static inline enum code decode(const uint8_t *s, size_t len, size_t at, struct i
         REFUSE(OPCODE, at);
     case FLOATING:
         REFUSE(FLOAT, at);
+    case NONE_2:
+        if (version < 2)
+            REFUSE(OPCODE, at); /* and nothing */
     case NONE:
         break;
+    case BLOCK_TYPE:
+        if (version < 2)
+            REFUSE(OPCODE, at);
+        if (len <= end)
+            REFUSE(SHORT, len);
+        if (s[end] != EMPTY && s[end] != I32 && s[end] != I64 && s[end] != V128)
+            REFUSE(KIND, end);
+        in->type = s[end++];
+        break;
+    case LABEL_INDEX:
+        if (version < 2)
+            REFUSE(OPCODE, at); /* and an index */
     case INDEX:
         READ(U32)
         in->index = n;

@@ -3,8 +3,10 @@
 #ifndef LANES_H
 #define LANES_H
 
-#include <emmintrin.h>
 #include <stdint.h>
+#ifdef __SSE2__
+#include <emmintrin.h>
+#endif
 
 /* A value of sixteen bytes; this host is little-endian, as lanes are. */
 union slot {
@@ -75,13 +77,17 @@ static inline uint64_t byte_counts(uint64_t x)
         sp[-1] = number_slot(r);              \
         break;                                \
     }
-/* The lanes' signs, by the compiler's builtins for the chip's vector unit. */
-#define SIGNS(op, e)                                                \
+/* The lanes' signs: by the compiler's builtins for the chip's vector unit, which is what is timed; on another chip by a loop. */
+#ifdef __SSE2__
+#define SIGNS(op, n, s, e)                                          \
     case VECTOR + (op): {                                           \
         const __m128i a = _mm_loadu_si128((const __m128i *)&sp[-1]); \
         sp[-1] = number_slot(e);                                    \
         break;                                                      \
     }
+#else
+#define SIGNS(op, n, s, e) FOLD_LANES(op, n, 0, r | (uint32_t)(a.s[i] < 0) << i)
+#endif
 
 /* What every shape has beside its signs, at the same distance from its first number. */
 #define SHAPE(base, n, u, s)                                        \

@@ -1,9 +1,10 @@
-/* The listing of a strip that the check passes (request C-11): a line an instruction, with the kinds on the stack before it. */
+/* The listing of a strip that the check passes (requests C-11 and C-13): a line an instruction, with the kinds that are known on the
+   stack before it. */
 #include <stdio.h>
 #include <string.h>
 
-#include "decode.h"
 #include "names.h"
+#include "typing.h"
 
 /* Text that is written, or where `to` is NULL only counted. */
 struct text {
@@ -69,7 +70,11 @@ static void put_immediates(struct text *t, const struct instruction *in)
 {
     switch (rows[in->op].immediates) {
     case INDEX:
+    case LABEL_INDEX:
         put_field(t, in->index);
+        break;
+    case BLOCK_TYPE:
+        put_field(t, in->type);
         break;
     case WORD:
         put_byte(t, ' ');
@@ -98,45 +103,59 @@ static void put_immediates(struct text *t, const struct instruction *in)
     }
 }
 
-/* What an instruction does to the kinds; the check has found the ones that it takes. Answers the depth after it. */
-static size_t moved(const uint8_t *s, const struct instruction *in, uint8_t *kinds, size_t depth)
+/* Values go; in dead code as many of them as are known. */
+static void lower(struct typing *t, size_t count)
+{
+    t->depth = t->depth < t->floor + count ? t->floor : t->depth - count;
+}
+
+/* What an instruction does to the kinds; the check has found the ones that it takes. Answers whether it was the last one. */
+static int moved(struct typing *t, const struct instruction *in)
 {
     const struct row *row = &rows[in->op];
     switch (in->op) {
+    case BLOCK:
+    case LOOP:
+    case END:
+    case BR:
+    case BR_IF:
+    case LOCAL_TEE:
+        return typed(2, t, in) == TRAILING;
     case DROP:
     case LOCAL_SET:
-        return depth - 1;
+        lower(t, 1);
+        return 0;
     case LOCAL_GET:
-        kinds[depth] = s[8 + in->index];
-        return depth + 1;
+        t->kinds[t->depth++] = t->strip[8 + in->index];
+        return 0;
     }
-    depth -= row->taken;
+    lower(t, row->taken);
     if (row->leaves[0])
-        kinds[depth++] = row->leaves[0];
-    return depth;
+        t->kinds[t->depth++] = row->leaves[0];
+    return 0;
 }
 
 /* Answers the length of the listing. */
 static size_t written(const uint8_t *s, size_t len, uint8_t *out)
 {
-    struct text t = { out, 0 };
-    uint8_t kinds[STACK_MOST];
-    size_t depth = 0;
-    for (size_t at = 8 + s[5] + s[6] + s[7]; at < len;) {
+    struct text text = { out, 0 };
+    struct room room;
+    struct typing t = begin(s, &room, NULL);
+    for (size_t at = t.frames[0].body;;) {
         struct instruction in;
         size_t place;
-        decode(s, len, at, &in, &place);
-        put_decimal(&t, at);
-        put_byte(&t, ' ');
-        put_kinds(&t, kinds, depth);
-        put_byte(&t, ' ');
-        put(&t, names[in.op].text, names[in.op].len);
-        put_immediates(&t, &in);
-        put_byte(&t, '\n');
-        depth = moved(s, &in, kinds, depth);
+        decode(2, s, len, at, &in, &place);
+        put_decimal(&text, at);
+        put_byte(&text, ' ');
+        put_kinds(&text, t.kinds, t.depth);
+        put_byte(&text, ' ');
+        put(&text, names[in.op].text, names[in.op].len);
+        put_immediates(&text, &in);
+        put_byte(&text, '\n');
+        if (moved(&t, &in))
+            return text.len;
         at = in.end;
     }
-    return t.len;
 }
 
 /* The room is asked about before the first byte is written. */

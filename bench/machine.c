@@ -80,10 +80,19 @@ static enum code lent(const uint8_t *s, const uint8_t *args, size_t args_len, si
         sp--;                                \
         break;
 
+/* A block that is open: where a branch to it carries on, and how. */
+struct label {
+    union slot *under; /* the values under it end here */
+    uint32_t to;
+    uint8_t carries; /* values that the branch brings along */
+    uint8_t stays;   /* a loop is open after it, a block is not */
+};
+
 uint64_t plain_run(const uint8_t *s, size_t len, const uint8_t *args, size_t args_len, uint8_t *memory, size_t memory_len, uint8_t *results,
                    size_t results_len, uint32_t budget)
 {
-    const uint64_t checked = plain_check(s, len);
+    uint16_t ends[FILE_MOST];
+    const uint64_t checked = plain_matched(s, len, ends);
     if (checked)
         return checked;
     enum code code = lent(s, args, args_len, memory_len, results_len);
@@ -92,6 +101,8 @@ uint64_t plain_run(const uint8_t *s, size_t len, const uint8_t *args, size_t arg
 
     union slot stack[STACK_MOST] = { 0 }, locals[PARAMETERS_MOST + LOCALS_MOST] = { 0 };
     union slot *sp = stack;
+    struct label labels[BLOCKS_MOST];
+    size_t blocks = 0;
     if (args_len)
         memcpy(locals, args, args_len);
     size_t at = 8 + s[5] + s[6] + s[7];
@@ -100,12 +111,36 @@ uint64_t plain_run(const uint8_t *s, size_t len, const uint8_t *args, size_t arg
         size_t place;
         if (steps == budget)
             return answer(BUDGET, at, steps);
-        if ((code = decode(s, len, at, &in, &place)))
+        if ((code = decode(2, s, len, at, &in, &place))) /* the check has seen to it that version 1 has nothing of version 2 */
             return answer(code, place, 0);
         switch (in.op) {
+        case BLOCK:
+            labels[blocks++] = (struct label){ sp, ends[in.end] + 1, in.type != EMPTY, 0 };
+            break;
+        case LOOP:
+            labels[blocks++] = (struct label){ sp, in.end, 0, 1 };
+            break;
+        case BR_IF:
+            if ((--sp)->u32[0] == 0)
+                break; /* else as br */
+        case BR: {
+            if (blocks == in.index)
+                goto done;
+            const struct label *l = &labels[blocks - 1 - in.index];
+            memmove(l->under, sp - l->carries, SLOT * l->carries);
+            sp = l->under + l->carries;
+            blocks = l - labels + l->stays;
+            at = l->to;
+            continue;
+        }
         case END:
+            if (blocks) {
+                blocks--;
+                break;
+            }
+        done:
             if (results_len)
-                memcpy(results, stack, results_len);
+                memcpy(results, (uint8_t *)sp - results_len, results_len);
             return answer(DONE, 0, steps + 1);
         case DROP:
             sp--;
@@ -122,6 +157,13 @@ uint64_t plain_run(const uint8_t *s, size_t len, const uint8_t *args, size_t arg
         case I32_CONST:
         case I64_CONST:
             *sp++ = number_slot(in.number);
+            break;
+        case I32_EQZ:
+            sp[-1] = number_slot(sp[-1].u32[0] == 0);
+            break;
+        case I32_LT_U:
+            sp--;
+            sp[-1] = number_slot(sp[-1].u32[0] < sp[0].u32[0]);
             break;
         case I32_ADD:
             sp--;
@@ -213,10 +255,10 @@ uint64_t plain_run(const uint8_t *s, size_t len, const uint8_t *args, size_t arg
         PAIRWISE(0x7C, 8, u16, u8, s8)
         PAIRWISE(0x7E, 4, u32, u16, s16)
         UNARY_LANES(0x62, 2, u64, byte_counts(a.u64[i]))
-        SIGNS(0x64, _mm_movemask_epi8(a))
-        SIGNS(0x84, _mm_movemask_epi8(_mm_packs_epi16(a, _mm_setzero_si128())))
-        SIGNS(0xA4, _mm_movemask_ps(_mm_castsi128_ps(a)))
-        SIGNS(0xC4, _mm_movemask_pd(_mm_castsi128_pd(a)))
+        SIGNS(0x64, 16, s8, _mm_movemask_epi8(a))
+        SIGNS(0x84, 8, s16, _mm_movemask_epi8(_mm_packs_epi16(a, _mm_setzero_si128())))
+        SIGNS(0xA4, 4, s32, _mm_movemask_ps(_mm_castsi128_ps(a)))
+        SIGNS(0xC4, 2, s64, _mm_movemask_pd(_mm_castsi128_pd(a)))
         BINARY_LANES(0x82, 8, s16, clamp((a.s16[i] * b.s16[i] + 0x4000) >> 15, INT16_MIN, INT16_MAX))
         BINARY_LANES(0x95, 8, u16, (uint32_t)a.u16[i] * b.u16[i])
         BINARY_LANES(0xB5, 4, u32, a.u32[i] * b.u32[i])

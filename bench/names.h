@@ -17,6 +17,7 @@ struct name {
 static const struct name names[INSTRUCTIONS] = {
     P(END, "end") P(DROP, "drop") P(LOCAL_GET, "local.get") P(LOCAL_SET, "local.set") P(LOCAL_TEE, "local.tee")
     P(I32_CONST, "i32.const") P(I64_CONST, "i64.const") P(I32_ADD, "i32.add") P(I32_SUB, "i32.sub")
+    P(BLOCK, "block") P(LOOP, "loop") P(BR, "br") P(BR_IF, "br_if") P(I32_EQZ, "i32.eqz") P(I32_LT_U, "i32.lt_u")
 
     V(0x00, "v128.load") V(0x01, "v128.load8x8_s") V(0x02, "v128.load8x8_u") V(0x03, "v128.load16x4_s") V(0x04, "v128.load16x4_u")
     V(0x05, "v128.load32x2_s") V(0x06, "v128.load32x2_u") V(0x07, "v128.load8_splat") V(0x08, "v128.load16_splat")

@@ -1,4 +1,4 @@
-/* What both interpreters answer (document 01, "Numbers on the inspector's card"), and the doors of the plain one. */
+/* What both interpreters answer (document 01, "Numbers on the inspector's card", and request C-13), and the doors of the plain one. */
 #ifndef STRIP_H
 #define STRIP_H
 
@@ -6,14 +6,17 @@
 #include <stdint.h>
 
 enum code {
-    DONE, LONG, SHORT, MARK, VERSION, COUNT, KIND, OPCODE, FLOAT, NUMBER, LANE, ALIGN, LOCAL, OPERAND, DEEP, RESULT, TRAILING,
+    DONE, LONG, SHORT, MARK, VERSION, COUNT, KIND, OPCODE, FLOAT, NUMBER, LANE, ALIGN, LOCAL, OPERAND, DEEP, RESULT, TRAILING, NEST, LABEL,
     ROOM = 20, ARGS, OUT, FORM, SMALL,
     TRAP = 30, BUDGET
 };
 
-enum { I32 = 0x7F, I64 = 0x7E, V128 = 0x7B };
+enum { I32 = 0x7F, I64 = 0x7E, V128 = 0x7B, EMPTY = 0x40 };
 
 enum { FILE_MOST = 65536, MEMORY_MOST = 65536, STACK_MOST = 64, PARAMETERS_MOST = 16, LOCALS_MOST = 16, RESULTS_MOST = 4, SLOT = 16 };
+
+/* Blocks that may be open at once, the strip itself not counted. */
+enum { BLOCKS_MOST = 32 };
 
 /* An instruction has a byte at least. Its line has less than 512: 64 kinds take 321, a name 29, sixteen bytes 64. */
 enum { LISTING_MOST = 512 * FILE_MOST };
@@ -25,6 +28,11 @@ static inline uint64_t answer(unsigned code, size_t place, uint32_t steps)
 }
 
 uint64_t plain_check(const uint8_t *strip, size_t strip_len);
+
+/* The check before a run: of each block and loop it writes the place of its `end` where the place of its first instruction says, if `ends`
+   is lent: FILE_MOST numbers. */
+uint64_t plain_matched(const uint8_t *strip, size_t strip_len, uint16_t *ends);
+
 uint64_t plain_run(const uint8_t *strip, size_t strip_len, const uint8_t *args, size_t args_len, uint8_t *memory, size_t memory_len,
                    uint8_t *results, size_t results_len, uint32_t budget);
 

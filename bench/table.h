@@ -1,4 +1,4 @@
-/* The instructions (documents 01 and 002): what follows each, and what it takes and leaves. */
+/* The instructions (documents 01 and 002, request C-13): what follows each, and what it takes and leaves. */
 #ifndef TABLE_H
 #define TABLE_H
 
@@ -6,11 +6,15 @@
 
 /* An instruction's number: its first byte, or VECTOR + the number after FD. */
 enum {
-    END = 0x0B, DROP = 0x1A, LOCAL_GET = 0x20, LOCAL_SET = 0x21, LOCAL_TEE = 0x22, I32_CONST = 0x41, I64_CONST = 0x42, I32_ADD = 0x6A,
-    I32_SUB = 0x6B, PREFIX = 0xFD, VECTOR = 0x100, INSTRUCTIONS = 0x200
+    BLOCK = 0x02, LOOP = 0x03, END = 0x0B, BR = 0x0C, BR_IF = 0x0D, DROP = 0x1A, LOCAL_GET = 0x20, LOCAL_SET = 0x21, LOCAL_TEE = 0x22,
+    I32_CONST = 0x41, I64_CONST = 0x42, I32_EQZ = 0x45, I32_LT_U = 0x49, I32_ADD = 0x6A, I32_SUB = 0x6B,
+    PREFIX = 0xFD, VECTOR = 0x100, INSTRUCTIONS = 0x200
 };
 
-enum immediates { NOT_HERE, FLOATING, NONE, INDEX, WORD, QUAD, MEMARG, MEMARG_LANE, LANE_INDEX, SIXTEEN, SHUFFLE };
+/* The last three are of version 2: what version 1 lacks is told by them, so that its other rows are asked nothing more. */
+enum immediates {
+    NOT_HERE, FLOATING, NONE, INDEX, WORD, QUAD, MEMARG, MEMARG_LANE, LANE_INDEX, SIXTEEN, SHUFFLE, NONE_2, LABEL_INDEX, BLOCK_TYPE
+};
 
 /* Kinds bottom first, as bytes of a header. */
 #define I "\x7F"
@@ -39,10 +43,12 @@ struct row {
 #define TEST ROW(NONE, 0, 0, V, I)
 #define FLOATS { FLOATING, 0, 0, 0, "", "" }
 
-/* drop and the three of locals take what is there: the check has rules for them. Rows that are left out are not assigned. */
+/* drop, the three of locals and those of blocks take what is there: the check has rules for them. Rows left out are not assigned. */
 static const struct row rows[INSTRUCTIONS] = {
     [END] = ROW(NONE, 0, 0, "", ""), [DROP] = ROW(NONE, 0, 0, "", ""),
     [LOCAL_GET ... LOCAL_TEE] = ROW(INDEX, 0, 0, "", ""),
+    [BLOCK ... LOOP] = ROW(BLOCK_TYPE, 0, 0, "", ""), [BR ... BR_IF] = ROW(LABEL_INDEX, 0, 0, "", ""),
+    [I32_EQZ] = ROW(NONE_2, 0, 0, I, I), [I32_LT_U] = ROW(NONE_2, 0, 0, I I, I),
     [I32_CONST] = ROW(WORD, 0, 0, "", I), [I64_CONST] = ROW(QUAD, 0, 0, "", L), [I32_ADD ... I32_SUB] = ROW(NONE, 0, 0, I I, I),
 
     [VECTOR + 0x00] = LOAD(16), [VECTOR + 0x01 ... VECTOR + 0x06] = LOAD(8),

@@ -30,6 +30,7 @@ extern "C" {
 #define GEVURLAT_PARAMETERS_MOST 16    /* values that a strip takes */
 #define GEVURLAT_RESULTS_MOST 4        /* values that a strip gives */
 #define GEVURLAT_VALUE_BYTES 16        /* bytes of a value in args and results */
+#define GEVURLAT_NEST_MOST 32          /* blocks inside blocks, the strip not counted */
 
 /* The codes of the inspector's card, and the place that goes with each. */
 enum {
@@ -38,9 +39,9 @@ enum {
     GEVURLAT_LONG = 1,      /* over 65,536 bytes; 0 */
     GEVURLAT_SHORT = 2,     /* stops before the item being read is whole; the strip's length */
     GEVURLAT_MARK = 3,      /* does not begin with "WGP"; 0 */
-    GEVURLAT_VERSION = 4,   /* the version is not 1; 3 */
+    GEVURLAT_VERSION = 4,   /* the version is neither 1 nor 2; 3 */
     GEVURLAT_COUNT = 5,     /* too many parameters, further locals or results; 5, 6 or 7 */
-    GEVURLAT_KIND = 6,      /* a byte that is no kind; that byte */
+    GEVURLAT_KIND = 6,      /* a byte that is no kind, or no block type; that byte */
     GEVURLAT_OPCODE = 7,    /* no such instruction here; the instruction */
     GEVURLAT_FLOAT = 8,     /* a float instruction, which is not carried; the instruction */
     GEVURLAT_NUMBER = 9,    /* a LEB128 number too long or with bad last bits; its first byte */
@@ -48,9 +49,11 @@ enum {
     GEVURLAT_ALIGN = 11,    /* an alignment exponent too large; its first byte */
     GEVURLAT_LOCAL = 12,    /* a local that is not declared; the instruction */
     GEVURLAT_OPERAND = 13,  /* an operand missing or of another kind; the instruction */
-    GEVURLAT_DEEP = 14,     /* more than 64 values on the stack; the instruction */
-    GEVURLAT_RESULT = 15,   /* the stack at `end` is not the results; `end` */
-    GEVURLAT_TRAILING = 16, /* bytes after `end`; the first of them */
+    GEVURLAT_DEEP = 14,     /* more than 64 known values on the stack; the instruction */
+    GEVURLAT_RESULT = 15,   /* the stack at `end` is not its block's, or the strip's, results; `end` */
+    GEVURLAT_TRAILING = 16, /* bytes after the strip's `end`; the first of them */
+    GEVURLAT_NEST = 17,     /* a block inside 32 others; the instruction */
+    GEVURLAT_LABEL = 18,    /* a branch to a block that is not there; the instruction */
     /* The strip is good, what is lent is not: only the run answers these. */
     GEVURLAT_ROOM = 20,     /* the memory is over 65,536 bytes; 0 */
     GEVURLAT_ARGS = 21,     /* args_len is not 16 for each parameter; 0 */
@@ -65,7 +68,7 @@ enum {
 /*
  * The answer of both doors is one number: code in bits 0-7, place in bits 8-31,
  * steps in bits 32-63. A place is a byte offset in the strip; steps are the
- * instructions completed, `end` included.
+ * instructions completed, each as often as it is, `end` included.
  */
 static inline uint8_t gevurlat_code(uint64_t answer)
 {
@@ -84,7 +87,7 @@ static inline uint32_t gevurlat_steps(uint64_t answer)
 
 /*
  * The check: DONE where the strip keeps every rule, else its first breach, 1 to
- * 16, and where it is. Steps are 0. Nothing is written.
+ * 18, and where it is. Steps are 0. Nothing is written.
  */
 uint64_t gevurlat_check(const uint8_t *strip, size_t strip_len);
 

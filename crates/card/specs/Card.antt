@@ -1,7 +1,7 @@
--- The codes of the inspector's card (01, "Numbers on the inspector's card"), each under its name. No other statement writes a code as a numeral.
+-- The codes of the inspector's card (01, "Numbers on the inspector's card"; 02, C-13), each under its name. No other statement writes a code as a numeral.
 use Prim.Native.Nat.{ℕ}
 
--- `end` completed
+-- the strip's `end` completed, or a branch out of the strip
 abbrev pub DONE : ℕ
 DONE = 0
 
@@ -17,7 +17,7 @@ SHORT = 2
 abbrev pub MARK : ℕ
 MARK = 3
 
--- not version 1
+-- no version of the format
 abbrev pub VERSION : ℕ
 VERSION = 4
 
@@ -25,7 +25,7 @@ VERSION = 4
 abbrev pub COUNT : ℕ
 COUNT = 5
 
--- a kind byte that is none
+-- a kind byte or a block type that is none
 abbrev pub KIND : ℕ
 KIND = 6
 
@@ -57,17 +57,25 @@ LOCAL = 12
 abbrev pub OPERAND : ℕ
 OPERAND = 13
 
--- more values on the stack than it holds
+-- more values known on the stack, those of all open blocks counted, than it holds
 abbrev pub DEEP : ℕ
 DEEP = 14
 
--- the stack at `end` is not the results
+-- at an `end`, the values since its block began are not the block's results; at the strip's, not the strip's
 abbrev pub RESULT : ℕ
 RESULT = 15
 
--- bytes after `end`
+-- bytes after the strip's `end`
 abbrev pub TRAILING : ℕ
 TRAILING = 16
+
+-- blocks inside blocks too deep
+abbrev pub NEST : ℕ
+NEST = 17
+
+-- a branch to no block
+abbrev pub LABEL : ℕ
+LABEL = 18
 
 -- the lent memory is too large
 abbrev pub ROOM : ℕ
@@ -93,6 +101,6 @@ SMALL = 24
 abbrev pub TRAP : ℕ
 TRAP = 30
 
--- the steps equal the budget, `end` not completed
+-- the steps equal the budget, and the run has not ended
 abbrev pub BUDGET : ℕ
 BUDGET = 31

@@ -34,6 +34,10 @@ pub const RESULT: u8 = 15;
 
 pub const TRAILING: u8 = 16;
 
+pub const NEST: u8 = 17;
+
+pub const LABEL: u8 = 18;
+
 pub const ROOM: u8 = 20;
 
 pub const ARGS: u8 = 21;

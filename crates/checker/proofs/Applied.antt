@@ -1,10 +1,10 @@
--- Operands taken and a result left, by the number of a signature.
+-- Operands taken and results left, by the number of a signature or by numbers of their own.
 use Prim.Native.Nat.{ℕ, _+_, _/_, _%_, _^_, _≤_, _<_}
 use mathlib.Core.Path.{_≡_, refl, sym, ap, subst, _∙_}
-use mathlib.Core.List.{List, [], _∷_, _++_, map, reverse, append-nil}
+use mathlib.Core.Bool.{Bool}
+use mathlib.Core.List.{List, [], _∷_, _++_, map, reverse, append-nil, append-assoc}
 use mathlib.Core.Option.{some}
 use native.Mathlib.Omega.{arith}
-use lib.Dec.{lit<}
 use lib.ListN.{length, set, length-append, length-reverse}
 use Rattle.card.specs.Card.{DONE, OPERAND, DEEP}
 use Rattle.limits.specs.Limits.{stackLimit}
@@ -13,24 +13,12 @@ use Rattle.opcode.specs.Kind.{Kind, kindByte}
 use Rattle.opcode.specs.Effect.{_⇒_}
 use Rattle.opcode.specs.Number.{packed}
 use Rattle.opcode.proofs.Effects.{kind-range}
-use Rattle.checker.specs.Walk.{Holds, Becomes}
-use Rattle.checker.specs.Inner.Judging.{Under, under, missing, Small, Applies, lacks, over, fits}
-use Rattle.checker.proofs.Held.{held-part, becomes-same, becomes-more}
-
-three : (ks : List Kind) → length ks ≤ 3 → number (map kindByte ks) < 2 ^ 24
-three [] h = lit< tt
-three (a ∷ []) h = omega (arith, kind-range a)
-three (a ∷ b ∷ []) h = omega (arith, kind-range a, kind-range b)
-three (a ∷ b ∷ c ∷ []) h = omega (arith, kind-range a, kind-range b, kind-range c)
-three (a ∷ b ∷ c ∷ d ∷ ks) h = absurd (let z : ⊥ = omega arith in z)
-
-under-below : {κs ins : List Kind} {base : ℕ} → Under κs ins base → base ≤ stackLimit → (below : List Kind) × (κs ≡ below ++ ins) × (length below ≡ base)
-under-below (under below e) l = (below, e, refl)
-under-below (missing big f) l = absurd (let z : ⊥ = omega arith in z)
-
-under-none : {κs ins : List Kind} {base : ℕ} → Under κs ins base → length κs ≤ stackLimit → stackLimit < base → (below : List Kind) → κs ≡ below ++ ins → ⊥
-under-none {ins = ins} (under below e) l b = absurd (let z : ⊥ = omega (arith, ap length e, length-append below ins) in z)
-under-none (missing big f) l b = f
+use Rattle.rules.specs.Typing.{Frame, Has}
+use Rattle.checker.specs.Walk.{Holds}
+use Rattle.checker.specs.Inner.Stack.{Top, Under, Small, Leaves, too-many, left as left-all, Applies, lacks, over, fits}
+use Rattle.checker.proofs.Held.{held-more}
+use Rattle.checker.proofs.Unders.{under-below, part, under-none}
+use Rattle.checker.proofs.Digits.{three}
 
 module _ {ins outs : List Kind} {effect : ℕ} (small : Small ins outs) (is : packed (some (ins ⇒ outs)) ≡ effect) where
   bound : number (map kindByte (reverse ins)) < 2 ^ 24
@@ -52,36 +40,43 @@ module _ {ins outs : List Kind} {effect : ℕ} (small : Small ins outs) (is : pa
   one-left (k ∷ []) e z = (k, e, omega (arith, high-byte, ap (λ (x : List Kind). number (map kindByte x)) e))
   one-left (k ∷ j ∷ os) e z = absurd (let no : ⊥ = omega (arith, small .one, ap length e) in no)
 
-  module _ {κs : List Kind} {kinds : List ℕ} {depth base : ℕ} (h : Holds kinds depth κs) (l : depth ≤ stackLimit) (u : Under κs ins base) where
-    pub applies-lacks : stackLimit < base → Applies κs ins outs kinds OPERAND 0 kinds
-    applies-lacks b = lacks (under-none u (omega (arith, h .many)) b)
+  module _ {outer : List Kind} {f : Frame} {kinds : List ℕ} {depth floor base : ℕ} {dead : Bool} (t : Top kinds depth floor dead outer f) (l : depth ≤ stackLimit) (u : Under f ins floor base) where
+    pub applies-lacks : {after : List ℕ} {d : ℕ} → stackLimit < base → Applies outer f ins outs after OPERAND d
+    applies-lacks b = lacks (under-none t u l b)
 
-    module _ (b : base ≤ stackLimit) where
-      abbrev below : List Kind
-      below = under-below u b .0
+    pub applies-none : base ≤ stackLimit → effect / 2 ^ 24 ≡ 0 → Applies outer f ins outs kinds DONE base
+    applies-none b z =
+        let it = under-below u b in
+        let same : it .0 ++ outs ≡ it .0 = ap (λ (x : List Kind). it .0 ++ x) (none-left outs refl z) ∙ append-nil (it .0) in
+        let whole : outer ++ (it .0 ++ outs) ≡ outer ++ it .0 = ap (λ (x : List Kind). outer ++ x) same in
+        let held = subst (λ (n : ℕ). Holds kinds n (outer ++ it .0)) (it .2) (part t (it .1)) in
+        fits (it .0) (it .1) (omega (arith, ap length whole, held .many)) (subst (Holds kinds base) (sym whole) held)
 
-      held-below : Holds kinds base below
-      held-below =
-          let it = under-below u b in
-          subst (λ (n : ℕ). Holds kinds n (it .0)) (it .2) (held-part h (it .0) ins (it .1))
+    pub applies-over : {after : List ℕ} {d : ℕ} → (effect / 2 ^ 24 ≡ 0 → ⊥) → base ≡ stackLimit → Applies outer f ins outs after DEEP d
+    applies-over z b =
+        let it = under-below u (omega arith) in
+        over (it .0) (it .1) (omega (arith, it .2, t .floor-is, length-append outer (it .0 ++ outs), length-append (it .0) outs, ap length (one-left outs refl z .1)))
 
-      pub applies-none : effect / 2 ^ 24 ≡ 0 → Applies κs ins outs kinds DONE base kinds
-      applies-none z =
-          let it = under-below u b in
-          let same : below ++ outs ≡ below = ap (λ (x : List Kind). below ++ x) (none-left outs refl z) ∙ append-nil below in
-          fits below (it .1) (omega (arith, ap length same, it .2)) (subst (Becomes kinds kinds base) (sym same) (becomes-same held-below))
+    pub applies-one : (effect / 2 ^ 24 ≡ 0 → ⊥) → length kinds ≡ stackLimit → base < stackLimit → Applies outer f ins outs (set kinds base (effect / 2 ^ 24)) DONE (base + 1)
+    applies-one z long b =
+        let it = under-below u (omega arith) in
+        let k = one-left outs refl z in
+        let held = subst (λ (n : ℕ). Holds kinds n (outer ++ it .0)) (it .2) (part t (it .1)) in
+        let more : Holds (set kinds base (effect / 2 ^ 24)) (base + 1) ((outer ++ it .0) ++ outs) = rw (k .1, k .2) (held-more held (omega arith) (k .0)) in
+        let whole = subst (Holds (set kinds base (effect / 2 ^ 24)) (base + 1)) (append-assoc outer (it .0) outs) more in
+        fits (it .0) (it .1) (omega (arith, whole .many)) whole
 
-      module _ (z : effect / 2 ^ 24 ≡ 0 → ⊥) where
-        longer : length (below ++ outs) ≡ base + 1
-        longer =
-            let it = under-below u b in
-            omega (arith, it .2, length-append below outs, ap length (one-left outs refl z .1))
+-- of any kinds
+module _ {ins outs outer : List Kind} {f : Frame} {kinds after : List ℕ} {depth floor base : ℕ} {dead : Bool} (t : Top kinds depth floor dead outer f) (l : depth ≤ stackLimit) (u : Under f ins floor base) where
+  pub exchanges-lacks : {d : ℕ} → stackLimit < base → Applies outer f ins outs after OPERAND d
+  exchanges-lacks b = lacks (under-none t u l b)
 
-        pub applies-over : base ≡ stackLimit → Applies κs ins outs kinds DEEP 0 kinds
-        applies-over e = over below (under-below u b .1) (omega (arith, longer))
+  by-leaving : {code d : ℕ} (below : List Kind) → Has f below ins → Leaves (outer ++ below) outs after code d → Applies outer f ins outs after code d
+  by-leaving below h (too-many big) = over below h (subst (λ (x : List Kind). stackLimit < length x) (append-assoc outer below outs) big)
+  by-leaving {d = d} below h (left-all small g) =
+      fits below h (subst (λ (x : List Kind). length x ≤ stackLimit) (append-assoc outer below outs) small) (subst (Holds after d) (append-assoc outer below outs) g)
 
-        pub applies-one : length kinds ≡ stackLimit → base < stackLimit → Applies κs ins outs kinds DONE (base + 1) (set kinds base (effect / 2 ^ 24))
-        applies-one long l =
-            let k = one-left outs refl z in
-            let more : Becomes kinds (set kinds base (effect / 2 ^ 24)) (base + 1) (below ++ outs) = rw (k .1, k .2) (becomes-more held-below (omega arith) (k .0)) in
-            fits below (under-below u b .1) (omega (arith, longer)) more
+  pub exchanges : {code d : ℕ} → base ≤ stackLimit → ((below : List Kind) → Holds kinds base below → Leaves below outs after code d) → Applies outer f ins outs after code d
+  exchanges b left =
+      let it = under-below u b in
+      by-leaving (it .0) (it .1) (left (outer ++ it .0) (subst (λ (n : ℕ). Holds kinds n (outer ++ it .0)) (it .2) (part t (it .1))))

@@ -9,14 +9,14 @@ use Rattle.card.specs.Card.{DONE}
 use Rattle.card.specs.declared.Answer.{Answer}
 use Rattle.limits.specs.Limits.{fileLimit}
 use Rattle.leb128.specs.Bytes.{bytes}
-use Rattle.opcode.specs.Kind.{Kind}
 use Rattle.opcode.specs.Table.{Code}
 use Rattle.instr.specs.declared.Instr.{Instr}
 use Rattle.instr.proofs.Stands.{decoded-place}
 use Rattle.instr.proofs.Ranges.{stands-some, stands-inside}
 use Rattle.rules.specs.Header.{Header}
+use Rattle.rules.specs.Typing.{Frame}
 use Rattle.rules.specs.Strip.{Valid}
-use Rattle.rules.specs.Breach.{Refused, At, Breach, long, stub, unmarked, other-version, parameters, further, results, kind, kinds-short, short, opcode, float, number, lane, align, local, operand, deep, result, trailing, Says, valid, breach}
+use Rattle.rules.specs.Breach.{Refused, At, Breach, long, stub, unmarked, other-version, parameters, further, results, kind, kinds-short, short, block-type, opcode, float, number, lane, align, local, nest, label, operand, deep, result, trailing, Says, valid, breach}
 use Rattle.rules.proofs.Onward.{declared}
 use Rattle.rules.proofs.Verdicts.{says-once, breach-coded, valid-no-breach}
 use Rattle.checker.specs.Check.{Checked}
@@ -51,9 +51,9 @@ module _ {s : List ℕ} {r : Answer} (w : Checked s r) where
 
 module _ {s : List ℕ} (b : bytes s) where
   refused-place : {c l : ℕ} → Refused s c l → l ≤ fileLimit
-  refused-place f = omega (arith, f .place-is, decoded-place s b (f .at), declared (f .reached) .sized)
+  refused-place f = omega (arith, f .place-is, decoded-place s b (f .header .version) (f .at), declared (f .reached) .sized)
 
-  read-place : {h : Header} {p : ℕ} {κs : List Kind} {i : Instr} {c : Code} → At s h p κs i c → p + 1 ≤ fileLimit
+  read-place : {h : Header} {p : ℕ} {fs : List Frame} {i : Instr} {c : Code} → At s h p fs i c → p + 1 ≤ fileLimit
   read-place a = omega (arith, stands-some (a .reads .stands), stands-inside (a .reads .stands), declared (a .reached) .sized)
 
   breach-place : {c l : ℕ} → Breach s c l → l ≤ fileLimit
@@ -61,22 +61,25 @@ module _ {s : List ℕ} (b : bytes s) where
   breach-place (stub g) = omega arith
   breach-place (unmarked z f) = omega arith
   breach-place (other-version rest z e f) = omega arith
-  breach-place (parameters p rest z e g) = omega arith
-  breach-place (further p l rest z e a g) = omega arith
-  breach-place (results p l r rest z e a b g) = omega arith
-  breach-place (kind p l r b ks rest z e few m f) = omega (arith, few .parameters, few .further, few .results)
-  breach-place (kinds-short p l r ks z e few m) = z .most
+  breach-place (parameters v p rest z w e g) = omega arith
+  breach-place (further v p l rest z w e a g) = omega arith
+  breach-place (results v p l r rest z w e a b g) = omega arith
+  breach-place (kind v p l r b ks rest z w e few m f) = omega (arith, few .parameters, few .further, few .results)
+  breach-place (kinds-short v p l r ks z w e few m) = z .most
   breach-place (short f) = refused-place f
+  breach-place (block-type f) = refused-place f
   breach-place (opcode f) = refused-place f
   breach-place (float f) = refused-place f
   breach-place (number f) = refused-place f
   breach-place (lane f) = refused-place f
   breach-place (align f) = refused-place f
   breach-place (local a names f) = omega (arith, read-place a)
-  breach-place (operand a o d f) = omega (arith, read-place a)
+  breach-place (nest a o g) = omega (arith, read-place a)
+  breach-place (label a b f) = omega (arith, read-place a)
+  breach-place (operand a o d l f) = omega (arith, read-place a)
   breach-place (deep a t g) = omega (arith, read-place a)
   breach-place (result a f) = omega (arith, read-place a)
-  breach-place (trailing a g) = read-place a
+  breach-place (trailing a m g) = read-place a
 
   says-place : {c l : ℕ} → Says s c l → l ≤ fileLimit
   says-place (valid v) = omega arith

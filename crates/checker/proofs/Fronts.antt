@@ -3,6 +3,7 @@ use Prim.Native.Nat.{ℕ, suc, _+_, _≤_, _<_}
 use mathlib.Core.Path.{_≡_, refl, sym, ap, subst, _∙_}
 use mathlib.Core.Bool.{Bool, true, false, _||_}
 use mathlib.Core.List.{List, [], _∷_, _++_, map, map-append, append-nil, append-assoc}
+use mathlib.Core.Logic.{_⊎_, inl, inr}
 use native.Mathlib.Omega.{arith}
 use borrow.Author.Tests.{eqb-true}
 use lib.Dec.{eqb}
@@ -11,11 +12,12 @@ use lib.Seq.{length-take-le, drop-cons}
 use Rattle.card.specs.Card.{DONE, SHORT, KIND}
 use Rattle.card.specs.declared.Answer.{Answer}
 use Rattle.opcode.specs.Kind.{Kind, i32, i64, v128, kindByte}
-use Rattle.rules.specs.Header.{Header, Few, Declares, mark, kinds}
-use Rattle.rules.specs.Breach.{front, Sized, Breach, kind, kinds-short}
+use Rattle.opcode.specs.Table.{known}
+use Rattle.rules.specs.Header.{Version, Header, Few, Declares, mark, kinds}
+use Rattle.rules.specs.Breach.{preamble, Sized, Breach, kind, kinds-short}
 use Rattle.rules.proofs.Verdicts.{breach-coded}
 use Rattle.checker.specs.Inner.Kinds.{isKind}
-use Rattle.checker.specs.Inner.Parts.{KindsSay, cut, other, all, Headed}
+use Rattle.checker.specs.Inner.Parts.{OtherVersion, KindsSay, cut, other, all, Headed}
 
 -- what `answer` ensures
 abbrev pub Says-so : Answer → ℕ → ℕ → Type 0
@@ -45,8 +47,21 @@ module _ (s : List ℕ) (least : 8 ≤ length s) (m0 : getD s 0 0 ≡ 0x57) (m1 
   pub marked : s ≡ mark ++ (getD s 3 0 ∷ getD s 4 0 ∷ getD s 5 0 ∷ getD s 6 0 ∷ getD s 7 0 ∷ drop 8 s)
   marked = cc (eight s least, m0, m1, m2)
 
-  pub fronted : getD s 3 0 ≡ 1 → getD s 4 0 ≡ 0 → s ≡ front ++ getD s 5 0 ∷ getD s 6 0 ∷ getD s 7 0 ∷ drop 8 s
-  fronted v0 v1 = cc (eight s least, m0, m1, m2, v0, v1)
+  pub fronted : getD s 4 0 ≡ 0 → s ≡ preamble (getD s 3 0) ++ getD s 5 0 ∷ getD s 6 0 ∷ getD s 7 0 ∷ drop 8 s
+  fronted v1 = cc (eight s least, m0, m1, m2, v1)
+
+  -- another version in either byte
+  pub version-byte : (Version (getD s 3 0) → ⊥) ⊎ (getD s 4 0 ≡ 0 → ⊥) → (v : ℕ) (more : List ℕ) → Version v → s ≡ preamble v ++ more → ⊥
+  version-byte (inl f) v more is e = f (subst Version (sym (ap (λ (x : List ℕ). getD x 3 0) e)) is)
+  version-byte (inr f) v more is e = f (ap (λ (x : List ℕ). getD x 4 0) e)
+
+-- ---- the version
+
+pub other-none : (b : ℕ) → Version b → OtherVersion b false
+other-none b v = record { other = λ z. absurd (let no : _≡_ {A = ℕ} 0 1 = cc in omega arith); carried = λ _. v }
+
+pub other-one : (b : ℕ) → known b ≡ false → OtherVersion b true
+other-one b e = record { other = λ _ v. let no : _≡_ {A = ℕ} 0 1 = cc in omega arith; carried = λ z. absurd (let no : _≡_ {A = ℕ} 0 1 = cc in omega arith) }
 
 -- ---- the kind bytes
 
@@ -110,12 +125,12 @@ said {s} {n} {c} {l} {r} a k = (subst (λ (x : ℕ). KindsSay s n x (r .place)) 
 
 -- ---- the whole
 
-module _ {s : List ℕ} (sized : Sized s) (p l r : ℕ) (few : Few p l r) (here : s ≡ front ++ p ∷ l ∷ r ∷ drop 8 s) where
+module _ {s : List ℕ} (sized : Sized s) (v p l r : ℕ) (is : Version v) (few : Few p l r) (here : s ≡ preamble v ++ p ∷ l ∷ r ∷ drop 8 s) where
   abbrev headerOf : List Kind → Header
-  headerOf ks = record { parameters = take p ks; further = take l (drop p ks); results = drop l (drop p ks) }
+  headerOf ks = record { version = v; parameters = take p ks; further = take l (drop p ks); results = drop l (drop p ks) }
 
-  with-kinds : (t : List ℕ) → drop 8 s ≡ t → s ≡ front ++ p ∷ l ∷ r ∷ t
-  with-kinds t e = here ∙ ap (λ (x : List ℕ). front ++ p ∷ l ∷ r ∷ x) e
+  with-kinds : (t : List ℕ) → drop 8 s ≡ t → s ≡ preamble v ++ p ∷ l ∷ r ∷ t
+  with-kinds t e = here ∙ ap (λ (x : List ℕ). preamble v ++ p ∷ l ∷ r ∷ x) e
 
   declares-of : (ks : List Kind) (rest : List ℕ) → length ks ≡ p + l + r → drop 8 s ≡ map kindByte ks ++ rest → Declares s (headerOf ks)
   declares-of ks rest n e =
@@ -126,18 +141,19 @@ module _ {s : List ℕ} (sized : Sized s) (p l r : ℕ) (few : Few p l r) (here 
       append-assoc (take p ks) (take l (drop p ks)) (drop l (drop p ks)) ∙ ap (λ (x : List Kind). take p ks ++ x) (take-append-drop l (drop p ks)) ∙ take-append-drop p ks in
       record {
         sized = sized .most;
+        versioned = is;
         few = record { parameters = omega (arith, few .parameters); further = omega (arith, few .further); results = omega (arith, few .results) };
         body = rest;
         bytes = with-kinds (map kindByte (kinds (headerOf ks)) ++ rest) (e ∙ ap (λ (x : List Kind). map kindByte x ++ rest) (sym whole))
             ∙ counted (map kindByte (kinds (headerOf ks)) ++ rest) (sym lp) (sym ll) (sym lr);
       }
     where
-      counted : (t : List ℕ) {a b c : ℕ} → p ≡ a → l ≡ b → r ≡ c → front ++ p ∷ l ∷ r ∷ t ≡ front ++ a ∷ b ∷ c ∷ t
+      counted : (t : List ℕ) {a b c : ℕ} → p ≡ a → l ≡ b → r ≡ c → preamble v ++ p ∷ l ∷ r ∷ t ≡ preamble v ++ a ∷ b ∷ c ∷ t
       counted t ea eb ec = cc
 
   headed-by : {a : Answer} {c q : ℕ} → KindsSay s (p + l + r) c q → a .code ≡ c → a .place ≡ q → a .steps ≡ 0 → Headed s a
-  headed-by (cut ks m e) ec ep z = headed-broken (ec, ep, z) (kinds-short p l r ks sized (with-kinds (map kindByte ks) e) few m)
-  headed-by (other ks b rest m e f) ec ep z = headed-broken (ec, ep, z) (kind p l r b ks rest sized (with-kinds (map kindByte ks ++ b ∷ rest) e) few m f)
+  headed-by (cut ks m e) ec ep z = headed-broken (ec, ep, z) (kinds-short v p l r ks sized is (with-kinds (map kindByte ks) e) few m)
+  headed-by (other ks b rest m e f) ec ep z = headed-broken (ec, ep, z) (kind v p l r b ks rest sized is (with-kinds (map kindByte ks ++ b ∷ rest) e) few m f)
   headed-by (all ks rest m e) ec ep z = record { steps = z; whole = λ _. (headerOf ks, declares-of ks rest m e); broken = λ f. absurd (f ec) }
 
   pub headed-kinds : {a : Answer} → KindsSay s (p + l + r) (a .code) (a .place) → a .steps ≡ 0 → Headed s a

@@ -1,230 +1,267 @@
 -- The instructions, one after the other.
-use Prim.Native.Nat.{ℕ, _+_, _-_, _≤_, _<_}
+use Prim.Native.Nat.{ℕ, _+_, _≤_, _<_, _^_}
 use mathlib.Core.Path.{_≡_, refl, sym, ap, subst, _∙_}
-use mathlib.Core.Bool.{Bool}
-use mathlib.Core.List.{List, [], _++_, map, map-append, append-assoc}
+use mathlib.Core.Bool.{Bool, true, false, _&&_}
+use mathlib.Core.List.{List, [], _∷_}
+use mathlib.Core.Logic.{_⊎_, inl, inr}
+use native.Mathlib.Nat.{pos-of-ne-zero, eq-or-lt-of-le}
 use native.Mathlib.Omega.{arith}
-use lib.ListN.{length, getD, drop, length-append, length-map}
-use lib.Seq.{drop-at, drop-drop}
-use Rattle.card.specs.Card.{DONE, RESULT, TRAILING}
-use Rattle.card.specs.declared.Answer.{Answer}
-use Rattle.limits.specs.Limits.{fileLimit, stackLimit}
+use borrow.Author.Tests.{eqb-true, eqb-false, eq-eqb}
+use lib.Dec.{eqb}
+use lib.ListN.{length, drop, length-append}
+use Rattle.card.specs.Card.{DONE}
+use Rattle.limits.specs.Limits.{fileLimit, stackLimit, nestLimit}
 use Rattle.leb128.specs.Bytes.{bytes}
-use Rattle.opcode.specs.Kind.{Kind, kindByte}
+use Rattle.opcode.specs.Kind.{Kind}
 use Rattle.opcode.specs.Table.{End, Code, plain, carried}
+use Rattle.opcode.specs.Immediate.{long}
+use Rattle.opcode.specs.Number.{groupOfCode}
 use Rattle.opcode.specs.Entry.{entryOf, groupIn}
 use Rattle.opcode.proofs.Id.{row-of-id}
+use Rattle.opcode.proofs.Versions.{row-latest}
 use Rattle.opcode.proofs.Entries.{group-in}
 use Rattle.opcode.proofs.Groups.{by-group}
 use Rattle.instr.specs.declared.Instr.{Instr}
 use Rattle.instr.specs.declared.Scanned.{Scanned}
-use Rattle.instr.specs.Layout.{Stands}
-use Rattle.instr.specs.Decode.{decodeAt}
+use Rattle.instr.specs.Layout.{rowIn, Stands}
+use Rattle.instr.specs.Decode.{decodeAt, decodeIn}
 use Rattle.instr.specs.Scan.{scanOf}
 use Rattle.instr.proofs.Stands.{decoded-stands}
-use Rattle.instr.proofs.Ranges.{stands-some, stands-inside, end-first, end-one}
+use Rattle.instr.proofs.Ranges.{stands-some, stands-inside}
 use Rattle.rules.specs.Header.{Header, Declares, locals, kinds}
-use Rattle.rules.specs.Strip.{Reads, Reaches, front, past, Valid}
-use Rattle.rules.specs.Breach.{At, Breach, local, operand, deep, result, trailing, Says, breach}
-use Rattle.rules.proofs.Onward.{reads-of}
-use Rattle.checker.specs.Check.{Checked}
-use Rattle.checker.specs.Walk.{Holds, Judges, no-local, untyped, too-deep, typed}
-use Rattle.checker.specs.Inner.Kinds.{Compares}
-use Rattle.checker.specs.Inner.Parts.{Headed, Counts, Begins, AtEnd}
-use Rattle.checker.proofs.Held.{becomes-holds}
-use Rattle.checker.proofs.Fronts.{Says-so}
+use Rattle.rules.specs.Typing.{Frame, opened, allValues, Types, Opens, block-opens, loop-opens}
+use Rattle.rules.specs.Strip.{Reads, Reaches, front, past}
+use Rattle.rules.specs.Breach.{At, Breach, local, nest, label, operand, deep, result}
+use Rattle.rules.proofs.Headers.{decodes-known}
+use Rattle.checker.specs.declared.turns.State.{State}
+use Rattle.checker.specs.Walk.{Holds, Nested, strip, block, Framed, outset}
+use Rattle.checker.specs.Inner.Stack.{Top}
+use Rattle.checker.specs.Inner.Blocks.{topFirst}
+use Rattle.checker.specs.Inner.Judging.{Judges, no-local, too-nested, no-label, untyped, no-results, too-deep, typed, Faces, Ready}
+use Rattle.checker.specs.Inner.Parts.{Begins, AtEnd}
+use Rattle.checker.proofs.Held.{held-long}
 use Rattle.checker.proofs.Refusals.{refused-breach}
+use Rattle.checker.proofs.Words.{type-small}
+use Rattle.checker.proofs.Nests.{nested-many, framed-top, frames-case}
+use Rattle.checker.proofs.Counted.{counts-inside, holds-locals, holds-results}
+use Rattle.checker.proofs.Indices.{row-carried, index-named, index-typed}
 
-pub checked : {s : List ℕ} {r : Answer} {c l : ℕ} → Says-so r c l → Says s c l → Checked s r
-checked {s} {r} {c} {l} a b =
-    record { says = subst (λ (x : ℕ). Says s x (r .place)) (sym (a .0)) (subst (Says s c) (sym (a .1)) b); steps = a .2 }
+-- ---- all is well up to this place, and these frames are open
 
--- ---- what the counts say of the bytes
-
-module _ {s : List ℕ} {n r : ℕ} {h : Header} (k : Counts s n r h) where
-  kind-bytes : drop 8 s ≡ map kindByte (locals h) ++ (map kindByte (h .results) ++ k .declares .body)
-  kind-bytes =
-      ap (drop 8) (k .declares .bytes) ∙ ap (λ (x : List ℕ). x ++ k .declares .body) (map-append kindByte (locals h) (h .results))
-      ∙ append-assoc (map kindByte (locals h)) (map kindByte (h .results)) (k .declares .body)
-
-  pub counts-inside : 8 + n + r ≤ length s
-  counts-inside =
-      omega (
-        arith,
-        ap length (k .declares .bytes),
-        length-append (map kindByte (kinds h)) (k .declares .body),
-        length-map (kinds h) kindByte,
-        length-append (locals h) (h .results),
-        k .locals-are,
-        k .results-are,
-      )
-
-  pub holds-locals : Holds (drop 8 s) n (locals h)
-  holds-locals = record { many = k .locals-are; rest = map kindByte (h .results) ++ k .declares .body; here = kind-bytes }
-
-  pub holds-results : Holds (drop (8 + n) s) r (h .results)
-  holds-results =
-      record {
-        many = k .results-are;
-        rest = k .declares .body;
-        here = sym (drop-drop n 8 s) ∙ ap (λ (x : List ℕ). drop n x) kind-bytes ∙ drop-at (map kindByte (locals h)) (map kindByte (h .results) ++ k .declares .body) n (length-map (locals h) kindByte ∙ k .locals-are);
-      }
-
--- the counts stand in the header
-pub counted : {s : List ℕ} {h : Header} → Declares s h → Counts s (getD s 5 0 + getD s 6 0) (getD s 7 0) h
-counted {s} {h} d =
-    let p : getD s 5 0 ≡ length (h .parameters) = ap (λ (x : List ℕ). getD x 5 0) (d .bytes) in
-    let l : getD s 6 0 ≡ length (h .further) = ap (λ (x : List ℕ). getD x 6 0) (d .bytes) in
-    let r : getD s 7 0 ≡ length (h .results) = ap (λ (x : List ℕ). getD x 7 0) (d .bytes) in
-    record { declares = d; locals-are = omega (arith, length-append (h .parameters) (h .further)); results-are = sym r }
-
-opening : {s : List ℕ} {h : Header} → Declares s h → Begins s (8 + (getD s 5 0 + getD s 6 0) + getD s 7 0) (getD s 5 0 + getD s 6 0) (getD s 7 0)
-opening {h = h} d =
-    let k = counted d in
-    record {
-      header = h;
-      counts = k;
-      start-is = omega (arith, length-map (kinds h) kindByte, length-append (locals h) (h .results), k .locals-are, k .results-are);
-    }
-
-pub headed-opens : {s : List ℕ} {r : Answer} → Headed s r → r .code ≡ DONE → Begins s (8 + (getD s 5 0 + getD s 6 0) + getD s 7 0) (getD s 5 0 + getD s 6 0) (getD s 7 0)
-headed-opens w z = opening (w .whole z .1)
-
-pub headed-checked : {s : List ℕ} {r : Answer} → Headed s r → (r .code ≡ DONE → ⊥) → Checked s r
-headed-checked w z = record { says = breach (w .broken z); steps = w .steps }
-
--- ---- all is well up to this place, and these kinds are on the stack
-
-pub record Going (s : List ℕ) (n r : ℕ) (kinds : List ℕ) (depth at : ℕ) : Type 0 where
+pub record Going (s : List ℕ) (v n takes : ℕ) (kinds blocks : List ℕ) (depth nest floor : ℕ) (dead : Bool) (at : ℕ) : Type 0 where
   pub header : Header
-  pub counts : Counts s n r header
-  pub stack : List Kind
-  pub holds : Holds kinds depth stack
-  pub reached : Reaches s header at stack
-  pub most : depth ≤ stackLimit
-  pub long : length kinds ≡ stackLimit
+  pub declares : Declares s header
+  pub version-is : header .version ≡ v
+  pub locals-are : Holds (drop 8 s) n (locals header)
+  pub inside : 8 + n ≤ length s
+  pub takes-is : topFirst (header .results) ≡ takes
+  pub takes-small : takes < 2 ^ 32
+  pub frames : List Frame
+  pub framed : Framed (header .results) kinds blocks depth nest floor dead frames
+  pub reached : Reaches s header at frames
+  pub kinds-long : length kinds ≡ stackLimit
+  pub blocks-long : length blocks ≡ nestLimit
 
-pub starts : {s : List ℕ} {start n r : ℕ} (kinds : List ℕ) → length kinds ≡ stackLimit → Begins s start n r → Going s n r kinds 0 start
-starts {s} kinds l b =
-    record {
+pub starts : {s : List ℕ} {v start n r takes : ℕ} (kinds blocks : List ℕ) → length kinds ≡ stackLimit → length blocks ≡ nestLimit → Begins s v start n r
+    → (takes < 2 ^ 32) × ((ks : List Kind) → Holds (drop (8 + n) s) r ks → topFirst ks ≡ takes) → {o : State} → o ≡ outset
+    → Going s v n takes kinds blocks (o .depth) (o .nest) (o .floor) (o .dead) start
+starts {s} {v} {start} {n} {takes = takes} kinds blocks lk lb b t e =
+    subst (λ (x : State). Going s v n takes kinds blocks (x .depth) (x .nest) (x .floor) (x .dead) start) (sym e)
+    (record {
       header = b .header;
-      counts = b .counts;
-      stack = [];
-      holds = record { many = refl; rest = kinds; here = refl };
-      reached = subst (λ (x : ℕ). Reaches s (b .header) x []) (b .start-is) (front (b .counts .declares));
-      most = omega arith;
-      long = l;
-    }
+      declares = b .counts .declares;
+      version-is = b .counts .version-is;
+      locals-are = holds-locals (b .counts);
+      inside = omega (arith, counts-inside (b .counts));
+      takes-is = t .1 (b .header .results) (holds-results (b .counts));
+      takes-small = t .0;
+      frames = opened false (b .header .results) ∷ [];
+      framed = record {
+        holds = record { many = refl; rest = kinds; here = refl };
+        nested = strip refl refl;
+        within = record { blocks = omega arith; values = omega arith };
+      };
+      reached = subst (λ (x : ℕ). Reaches s (b .header) x (opened false (b .header .results) ∷ [])) (b .start-is) (front (b .counts .declares));
+      kinds-long = lk;
+      blocks-long = lb;
+    })
 
--- the instruction at a place
-abbrev read : List ℕ → ℕ → Instr
-read s at = decodeAt s at .instr
+-- ---- the strip itself
 
-module _ {s : List ℕ} {n r : ℕ} {kinds : List ℕ} {depth at : ℕ} (w : Going s n r kinds depth at) (d : Scanned) (is : d ≡ scanOf (decodeAt s at)) where
+record Alone (rs : List Kind) (floor : ℕ) (dead : Bool) (fs : List Frame) : Type 0 where
+  strip-frame : Frame
+  frames : fs ≡ strip-frame ∷ []
+  results-are : strip-frame .results ≡ rs
+  floor-is : floor ≡ 0
+  dead-is : strip-frame .dead ≡ dead
+
+alone : {rs : List Kind} {blocks : List ℕ} {nest floor : ℕ} {dead : Bool} {fs : List Frame} → Nested rs blocks nest floor dead fs → nest ≡ 0 → Alone rs floor dead fs
+alone (strip {f} l r) z = record { strip-frame = f; frames = refl; results-are = r; floor-is = refl; dead-is = refl }
+alone (block y n e t r) z = absurd (let no-more : ⊥ = omega arith in no-more)
+
+both-true : (a b : Bool) → (a && b) ≡ true → (a ≡ true) × (b ≡ true)
+both-true true true e = (refl, refl)
+both-true true false e = absurd (let z : _≡_ {A = ℕ} 0 1 = cc in omega arith)
+both-true false b e = absurd (let z : _≡_ {A = ℕ} 0 1 = cc in omega arith)
+
+not-both : (a b : Bool) → (a && b) ≡ false → b ≡ true → a ≡ false
+not-both true true e t = absurd (let z : _≡_ {A = ℕ} 0 1 = cc in omega arith)
+not-both true false e t = absurd (let z : _≡_ {A = ℕ} 0 1 = cc in omega arith)
+not-both false b e t = refl
+
+-- ---- one instruction
+
+breaks-of : {s : List ℕ} {h : Header} {at : ℕ} {fs : List Frame} {i : Instr} {c : Code} {kinds blocks : List ℕ} {depth nest′ floor code : ℕ} {dead : Bool} → At s h at fs i c
+    → Judges (locals h) (h .results) i c fs kinds blocks depth nest′ floor dead code → (code ≡ DONE → ⊥) → Breach s code at
+breaks-of a (no-local names f) z = local a names f
+breaks-of a (too-nested o g) z = nest a o g
+breaks-of a (no-label b f) z = label a b f
+breaks-of a (untyped e names labels f) z = operand a e names labels f
+breaks-of {s} {h} {at} {fs} {i} a (no-results e f) z = result (subst (λ (c : Code). At s h at fs i c) e a) f
+breaks-of a (too-deep t big) z = deep a t big
+breaks-of a (typed t g) z = absurd (z refl)
+
+goes-of : {ls rs : List Kind} {i : Instr} {c : Code} {fs : List Frame} {kinds blocks : List ℕ} {depth nest′ floor code : ℕ} {dead : Bool}
+    → Judges ls rs i c fs kinds blocks depth nest′ floor dead code → code ≡ DONE → (fs′ : List Frame) × Types ls i c fs fs′ × Framed rs kinds blocks depth nest′ floor dead fs′
+goes-of (no-local names f) z = absurd (let never : ⊥ = omega arith in never)
+goes-of (too-nested o g) z = absurd (let never : ⊥ = omega arith in never)
+goes-of (no-label b f) z = absurd (let never : ⊥ = omega arith in never)
+goes-of (untyped e names labels f) z = absurd (let never : ⊥ = omega arith in never)
+goes-of (no-results e f) z = absurd (let never : ⊥ = omega arith in never)
+goes-of (too-deep t big) z = absurd (let never : ⊥ = omega arith in never)
+goes-of (typed {fs′} t g) z = (fs′, t, g)
+
+module _ {s : List ℕ} {v n takes : ℕ} {kinds blocks : List ℕ} {depth nest floor : ℕ} {dead : Bool} {at : ℕ} (w : Going s v n takes kinds blocks depth nest floor dead at) (d : Scanned) (is : d ≡ scanOf (decodeIn v s at)) where
+  told : d ≡ scanOf (decodeAt (w .header .version) s at)
+  told = is ∙ ap (λ (x : ℕ). scanOf (decodeIn x s at)) (sym (w .version-is)) ∙ ap scanOf (decodes-known (w .header .version) (w .declares .versioned) s at)
+
   pub refuses : (d .code ≡ DONE → ⊥) → Breach s (d .code) (d .place)
   refuses z =
-      subst (λ (x : Scanned). Breach s (x .code) (x .place)) (sym is) (refused-breach s (w .reached) (λ e. z (ap (λ (x : Scanned). x .code) is ∙ e)))
+      subst (λ (x : Scanned). Breach s (x .code) (x .place)) (sym told) (refused-breach s (w .reached) (λ e. z (ap (λ (x : Scanned). x .code) told ∙ e)))
 
   module _ (b : bytes s) (z : d .code ≡ DONE) where
-    stands : Stands s at (read s at) (d .len)
+    stands : Stands (w .header .version) s at (decodeAt (w .header .version) s at .instr) (d .len)
     stands =
-        subst (Stands s at (read s at)) (sym (ap (λ (x : Scanned). x .len) is)) (decoded-stands s b at (sym (ap (λ (x : Scanned). x .code) is) ∙ z))
+        subst (Stands (w .header .version) s at (decodeAt (w .header .version) s at .instr)) (sym (ap (λ (x : Scanned). x .len) told))
+        (decoded-stands s b (w .header .version) at (sym (ap (λ (x : Scanned). x .code) told) ∙ z))
 
     -- the code that was read
-    pub coded : (c : Code) × Reads s at (read s at) c (d .len)
-    coded = reads-of stands
+    pub coded : (c : Code) × Reads (w .header .version) s at (decodeAt (w .header .version) s at .instr) c (d .len)
+    coded =
+        let i = decodeAt (w .header .version) s at .instr in
+        let c = row-carried (rowIn (w .header .version) i) i (stands .allowed) in (c .0, record { stands = stands; does = c .1 })
 
     pub moves : (0 < d .len) × (at + d .len ≤ length s) × (length s ≤ fileLimit)
-    moves = (stands-some stands, stands-inside stands, w .counts .declares .sized)
+    moves = (stands-some stands, stands-inside stands, w .declares .sized)
 
     its-entry : d .entry ≡ entryOf (carried (coded .0))
     its-entry =
-        ap (λ (x : Scanned). x .entry) is ∙ ap entryOf (row-of-id (read s at .first) (read s at .number) (stands .typed .first) ∙ coded .1 .does)
+        let i = decodeAt (w .header .version) s at .instr in
+        ap (λ (x : Scanned). x .entry) told
+        ∙ ap entryOf (row-of-id (i .first) (i .number) (stands .typed .first) ∙ row-latest (w .header .version) (i .first) (i .number) (coded .1 .does))
 
-    -- the group of `end` has it alone
-    pub at-end : groupIn (d .entry) ≡ 0 → AtEnd s n r at kinds depth
+    its-group : groupIn (d .entry) ≡ groupOfCode (coded .0)
+    its-group = group-in (carried (coded .0)) its-entry
+
+    pub here : At s (w .header) at (w .frames) (decodeAt (w .header .version) s at .instr) (coded .0)
+    here = record { reached = w .reached; size = d .len; reads = coded .1 }
+
+    -- ---- the strip's own `end`
+
+    pub is-end : (eqb nest 0 && eqb (groupIn (d .entry)) 0) ≡ true → (nest ≡ 0) × (coded .0 ≡ plain End)
+    is-end e =
+        let two = both-true (eqb nest 0) (eqb (groupIn (d .entry)) 0) e in
+        (eqb-true nest 0 (two .0), by-group (λ c. c ≡ plain End) 0 refl (coded .0) (sym its-group ∙ eqb-true (groupIn (d .entry)) 0 (two .1)))
+
+    pub no-end : (eqb nest 0 && eqb (groupIn (d .entry)) 0) ≡ false → coded .0 ≡ plain End → nest ≡ 0 → ⊥
+    no-end e it = eqb-false nest 0 (not-both (eqb nest 0) (eqb (groupIn (d .entry)) 0) e (eq-eqb (groupIn (d .entry)) 0 (its-group ∙ ap groupOfCode it)))
+
+    pub at-end : (eqb nest 0 && eqb (groupIn (d .entry)) 0) ≡ true → AtEnd s v takes at kinds depth dead
     at-end e =
-        let it = by-group (λ c. c ≡ plain End) 0 refl (coded .0) (sym (group-in (carried (coded .0)) its-entry) ∙ e) in
+        let it = is-end e .1 in
+        let k = alone (w .framed .nested) (is-end e .0) in
+        let framed : Framed (w .header .results) kinds blocks depth nest floor dead (k .strip-frame ∷ []) = subst (Framed (w .header .results) kinds blocks depth nest floor dead) (k .frames) (w .framed) in
+        let at-strip : At s (w .header) at (k .strip-frame ∷ []) (decodeAt (w .header .version) s at .instr) (coded .0) =
+        subst (λ (x : List Frame). At s (w .header) at x (decodeAt (w .header .version) s at .instr) (coded .0)) (k .frames) here in
         record {
           header = w .header;
-          counts = w .counts;
-          stack = w .stack;
-          holds = w .holds;
-          final = read s at;
-          here = record { reached = w .reached; size = d .len; reads = record { stands = stands; does = coded .1 .does ∙ ap carried it } };
+          declares = w .declares;
+          takes-is = w .takes-is;
+          strip = k .strip-frame;
+          results-are = k .results-are;
+          top = subst (λ (x : ℕ). Top kinds depth x dead [] (k .strip-frame)) (k .floor-is) (framed-top framed);
+          long = held-long (w .framed .holds);
+          final = decodeAt (w .header .version) s at .instr;
+          here = subst (λ (c : Code). At s (w .header) at (k .strip-frame ∷ []) (decodeAt (w .header .version) s at .instr) c) it at-strip;
         }
 
-    module _ (e : groupIn (d .entry) ≡ 0 → ⊥) where
-      not-end : coded .0 ≡ plain End → ⊥
-      not-end q = e (group-in (carried (plain End)) (its-entry ∙ ap (λ (c : Code). entryOf (carried c)) q))
+    -- ---- every other
 
-      here : At s (w .header) at (w .stack) (read s at) (coded .0)
-      here = record { reached = w .reached; size = d .len; reads = coded .1 }
-
-      breaks-of : {code depth′ : ℕ} {after : List ℕ} → Judges (locals (w .header)) (read s at .index) (coded .0) (w .stack) kinds code depth′ after → (code ≡ DONE → ⊥)
-          → Breach s code at
-      breaks-of (no-local names f) z = local here names f
-      breaks-of (untyped declared f) z = operand here not-end declared f
-      breaks-of (too-deep t big) z = deep here t big
-      breaks-of (typed t small g) z = absurd (z refl)
-
-      goes-of : {code depth′ : ℕ} {after : List ℕ} → Judges (locals (w .header)) (read s at .index) (coded .0) (w .stack) kinds code depth′ after → code ≡ DONE
-          → length after ≡ stackLimit → Going s n r after depth′ (at + d .len)
-      goes-of (no-local names f) z l = absurd (let no : ⊥ = omega arith in no)
-      goes-of (untyped declared f) z l = absurd (let no : ⊥ = omega arith in no)
-      goes-of (too-deep t big) z l = absurd (let no : ⊥ = omega arith in no)
-      goes-of (typed t small g) z l =
+    module _ (other : (eqb nest 0 && eqb (groupIn (d .entry)) 0) ≡ false) where
+      faces : Faces s n takes (d .entry) (d .immediate) kinds blocks depth nest floor dead (coded .0) (decodeAt (w .header .version) s at .instr) (locals (w .header)) (w .header .results) (w .frames)
+      faces =
           record {
-            header = w .header;
-            counts = w .counts;
-            stack = _;
-            holds = becomes-holds g;
-            reached = past (w .reached) (coded .1) t small;
-            most = omega (arith, g .many);
-            long = l;
+            row = its-entry;
+            names = λ f. ap (λ (x : Scanned). x .immediate) told ∙ index-named (coded .1) f;
+            types = λ o. let t = index-typed (coded .1) o in (ap (λ (x : Scanned). x .immediate) told ∙ t .0, t .1);
+            locals-are = w .locals-are;
+            results-are = w .takes-is;
+            few = w .declares .few .results;
+            framed = w .framed;
           }
 
-      module _ {after : List ℕ} {code depth′ : ℕ}
-          (j : (c : Code) (ls κs : List Kind) → d .entry ≡ entryOf (carried c) → (c ≡ plain End → ⊥) → Holds (drop 8 s) n ls → Holds kinds depth κs → Judges ls (d .index) c κs kinds code depth′ after) where
-        judgement : Judges (locals (w .header)) (read s at .index) (coded .0) (w .stack) kinds code depth′ after
-        judgement =
-            subst (λ (x : ℕ). Judges (locals (w .header)) x (coded .0) (w .stack) kinds code depth′ after) (ap (λ (x : Scanned). x .index) is)
-            (j (coded .0) (locals (w .header)) (w .stack) its-entry not-end (holds-locals (w .counts)) (w .holds))
+      type-small-of : Opens (coded .0) → d .immediate < 256
+      type-small-of o = let t = faces .types o in omega (arith, t .0, type-small (decodeAt (w .header .version) s at .instr .block) (t .1))
+
+      opened-by : 25 ≤ groupIn (d .entry) → groupIn (d .entry) < 27 → Opens (coded .0)
+      opened-by l h = by (eq-or-lt-of-le l)
+        where
+          by : (25 ≡ groupIn (d .entry)) ⊎ (25 < groupIn (d .entry)) → Opens (coded .0)
+          by (inl e) = by-group Opens 25 block-opens (coded .0) (sym its-group ∙ sym e)
+          by (inr m) = by-group Opens 26 loop-opens (coded .0) (sym its-group ∙ (let e : groupIn (d .entry) ≡ 26 = omega (arith, m, h) in e))
+
+      pub ready : Ready s n takes (d .entry) (d .immediate) kinds blocks depth nest floor
+      ready =
+          let x = tops in
+          record {
+            inside = w .inside;
+            small = w .takes-small;
+            type-in = λ l h. type-small-of (opened-by l h);
+            end-inner = λ e. let f = eqb-false nest 0 (not-both (eqb nest 0) (eqb (groupIn (d .entry)) 0) other (eq-eqb (groupIn (d .entry)) 0 e)) in pos-of-ne-zero f;
+            floor-in = x;
+            depth-in = omega (arith, w .framed .holds .many, w .framed .within .values);
+            nest-in = omega (arith, nested-many (w .framed .nested), w .framed .within .blocks);
+            kinds-long = w .kinds-long;
+            blocks-long = w .blocks-long;
+          }
+        where
+          tops : floor ≤ depth
+          tops = frames-case (λ x. Framed (w .header .results) kinds blocks depth nest floor dead x → floor ≤ depth) (w .framed .nested)
+              (λ f rest u. let t = framed-top u in omega (arith, t .floor-is, t .holds .many, length-append (allValues rest) (f .values))) (w .framed)
+
+      module _ {kinds′ blocks′ : List ℕ} {depth′ nest′ floor′ code : ℕ} {dead′ : Bool}
+          (j : (c : Code) (i : Instr) (ls rs : List Kind) (fs : List Frame) → Faces s n takes (d .entry) (d .immediate) kinds blocks depth nest floor dead c i ls rs fs
+          → Judges ls rs i c fs kinds′ blocks′ depth′ nest′ floor′ dead′ code) where
+        pub judgement : Judges (locals (w .header)) (w .header .results) (decodeAt (w .header .version) s at .instr) (coded .0) (w .frames) kinds′ blocks′ depth′ nest′ floor′ dead′ code
+        judgement = j (coded .0) (decodeAt (w .header .version) s at .instr) (locals (w .header)) (w .header .results) (w .frames) faces
 
         pub breaks : (code ≡ DONE → ⊥) → Breach s code at
-        breaks = breaks-of judgement
+        breaks f = breaks-of here judgement f
 
-        pub goes : code ≡ DONE → length after ≡ stackLimit → Going s n r after depth′ (at + d .len)
-        goes = goes-of judgement
-
--- ---- after `end`
-
-module _ {s : List ℕ} {n r at : ℕ} {kinds : List ℕ} {depth : ℕ} (w : AtEnd s n r at kinds depth) where
-  pub end-inside : (at + 1 ≤ length s) × (length s ≤ fileLimit)
-  end-inside = let t = w .here .reads .stands in (omega (arith, stands-some t, stands-inside t), w .counts .declares .sized)
-
-  pub compared : {b : Bool} → ((κs λs : List Kind) → Holds kinds depth κs → Holds (drop (8 + n) s) r λs → Compares κs λs b) → Compares (w .stack) (w .header .results) b
-  compared f = f (w .stack) (w .header .results) (w .holds) (holds-results (w .counts))
-
-  pub other-results : (w .stack ≡ w .header .results → ⊥) → Breach s RESULT at
-  other-results f = result (w .here) f
-
-  module _ (same : w .stack ≡ w .header .results) where
-    here-results : At s (w .header) at (w .header .results) (w .final) (plain End)
-    here-results = subst (λ (x : List Kind). At s (w .header) at x (w .final) (plain End)) same (w .here)
-
-    pub trails : at + 1 < length s → Breach s TRAILING (at + 1)
-    trails l = trailing here-results l
-
-    pub passes : length s ≤ at + 1 → Valid s
-    passes l =
-        let t = here-results .reads in
-        let one : here-results .size ≡ 1 = end-one (t .stands) (end-first (w .final) (t .stands .typed .first) (t .does)) in
-        record {
-          header = w .header;
-          place = at;
-          final = w .final;
-          reached = here-results .reached;
-          ends = subst (Reads s at (w .final) (plain End)) one t;
-          last = omega (arith, end-inside);
-        }
+        pub goes : code ≡ DONE → length kinds′ ≡ stackLimit → length blocks′ ≡ nestLimit → Going s v n takes kinds′ blocks′ depth′ nest′ floor′ dead′ (at + d .len)
+        goes e lk lb =
+            let g = goes-of judgement e in
+            record {
+              header = w .header;
+              declares = w .declares;
+              version-is = w .version-is;
+              locals-are = w .locals-are;
+              inside = w .inside;
+              takes-is = w .takes-is;
+              takes-small = w .takes-small;
+              frames = g .0;
+              framed = g .2;
+              reached = past (w .reached) (coded .1) (g .1) (g .2 .within);
+              kinds-long = lk;
+              blocks-long = lb;
+            }

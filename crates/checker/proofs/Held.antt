@@ -1,17 +1,22 @@
--- Kinds that are held as bytes.
-use Prim.Native.Nat.{ℕ, suc, _+_, _-_, _≤_, _<_}
-use mathlib.Core.Path.{_≡_, refl, sym, ap, ap₂, subst, _∙_}
-use mathlib.Core.Bool.{true, false}
-use mathlib.Core.Logic.{⊎-elim}
-use native.Mathlib.Nat.{eq-or-lt-of-le}
+-- Arrays: what is as it was, and kinds that are held as bytes.
+use Prim.Native.Nat.{ℕ, _+_, _≤_, _<_}
+use mathlib.Core.Path.{_≡_, refl, sym, ap, _∙_}
 use mathlib.Core.List.{List, [], _∷_, _++_, map, map-append, append-assoc}
 use native.Mathlib.Omega.{arith}
-use lib.ListN.{length, getD, set, drop, length-append, length-map, List·getD-append}
-use lib.Seq.{getD-at, set-at, drop-at, getD-drop, drop-set-lt}
+use lib.ListN.{length, getD, set, take, drop, length-append, length-map, List·getD-append}
+use lib.Seq.{take-at, getD-at, set-at, getD-drop, drop-set-lt, drop-drop}
 use Rattle.opcode.specs.Kind.{Kind, kindByte}
-use Rattle.opcode.proofs.Effects.{kind-once}
-use Rattle.checker.specs.Walk.{Holds, Becomes}
-use Rattle.checker.specs.Inner.Kinds.{Compares}
+use Rattle.checker.specs.Walk.{Holds}
+
+-- ---- what is as it was, from a place on
+
+pub one-set : (l : List ℕ) (n v : ℕ) → drop (n + 1) (set l n v) ≡ drop (n + 1) l
+one-set l n v = drop-set-lt (n + 1) l n v (omega arith)
+
+pub kept-more : (before after : List ℕ) (n : ℕ) → drop n after ≡ drop n before → drop (n + 1) after ≡ drop (n + 1) before
+kept-more before after n e = sym (drop-drop 1 n after) ∙ ap (drop 1) e ∙ drop-drop 1 n before
+
+-- ---- kinds
 
 -- the last of some
 pub split-last : (l : List Kind) → 0 < length l → (front : List Kind) × (k : Kind) × (l ≡ front ++ (k ∷ []))
@@ -25,6 +30,9 @@ module _ {bytes : List ℕ} {n : ℕ} {κs : List Kind} (h : Holds bytes n κs) 
 
   pub held : (j : ℕ) → j < n → getD bytes j 0 ≡ getD (map kindByte κs) j 0
   held j l = ap (λ (x : List ℕ). getD x j 0) (h .here) ∙ List·getD-append (map kindByte κs) (h .rest) 0 j (omega (arith, length-map κs kindByte, h .many))
+
+  pub held-front : take n bytes ≡ map kindByte κs
+  held-front = ap (take n) (h .here) ∙ take-at (map kindByte κs) (h .rest) n (length-map κs kindByte ∙ h .many)
 
   -- a part of them, and what follows it
   parted : (below above : List Kind) → κs ≡ below ++ above → bytes ≡ map kindByte below ++ (map kindByte above ++ h .rest)
@@ -55,65 +63,6 @@ module _ {bytes : List ℕ} {n : ℕ} {κs : List Kind} (h : Holds bytes n κs) 
   pub held-more : n < length bytes → (k : Kind) → Holds (set bytes n (kindByte k)) (n + 1) (κs ++ (k ∷ []))
   held-more = pushed (h .rest) refl
 
--- ---- what the bytes become
-
-pub becomes-holds : {bytes bytes′ : List ℕ} {n : ℕ} {κs : List Kind} → Becomes bytes bytes′ n κs → Holds bytes′ n κs
-becomes-holds {bytes} {n = n} b = record { many = b .many; rest = drop n bytes; here = b .here }
-
-pub becomes-same : {bytes : List ℕ} {n : ℕ} {κs : List Kind} → Holds bytes n κs → Becomes bytes bytes n κs
-becomes-same {bytes} {n} {κs} h =
-    let rest : drop n bytes ≡ h .rest = ap (drop n) (h .here) ∙ drop-at (map kindByte κs) (h .rest) n (length-map κs kindByte ∙ h .many) in
-    record { many = h .many; here = h .here ∙ ap (λ (x : List ℕ). map kindByte κs ++ x) (sym rest) }
-
-pub becomes-more : {bytes : List ℕ} {n : ℕ} {κs : List Kind} → Holds bytes n κs → n < length bytes → (k : Kind)
-    → Becomes bytes (set bytes n (kindByte k)) (n + 1) (κs ++ (k ∷ []))
-becomes-more {bytes} {n} {κs} h l k =
-    let more = becomes-same (held-more h l k) in
-    record {
-      many = more .many;
-      here = more .here ∙ ap (λ (x : List ℕ). map kindByte (κs ++ (k ∷ [])) ++ x) (drop-set-lt (n + 1) bytes n (kindByte k) (omega arith));
-    }
-
--- as many kinds with the same bytes are the same
-pub alike : (κs λs : List Kind) → length κs ≡ length λs → ((j : ℕ) → j < length κs → getD (map kindByte κs) j 0 ≡ getD (map kindByte λs) j 0) → κs ≡ λs
-alike [] [] l e = refl
-alike [] (k ∷ λs) l e = absurd (let z : ⊥ = omega arith in z)
-alike (k ∷ κs) [] l e = absurd (let z : ⊥ = omega arith in z)
-alike (k ∷ κs) (k′ ∷ λs) l e = ap₂ _∷_ (kind-once (e 0 (omega arith))) (alike κs λs (omega arith) (λ j h. e (suc j) (omega arith)))
-
 -- n kinds from a place of the strip on
 pub held-from : (s : List ℕ) (from : ℕ) {n : ℕ} {κs : List Kind} → Holds (drop from s) n κs → (j : ℕ) → j < n → getD s (from + j) 0 ≡ getD (map kindByte κs) j 0
 held-from s from h j l = sym (getD-drop from s j 0) ∙ held h j l
-
--- ---- two that are compared
-
--- the first k bytes are the same
-abbrev pub Agree : List ℕ → List ℕ → ℕ → ℕ → Type 0
-Agree kinds s from k = (j : ℕ) → j < k → getD kinds j 0 ≡ getD s (from + j) 0
-
-module _ (kinds s : List ℕ) (from : ℕ) where
-  pub agree-none : Agree kinds s from 0
-  agree-none j l = absurd (let z : ⊥ = omega arith in z)
-
-  pub agree-more : (k : ℕ) → Agree kinds s from k → getD kinds k 0 ≡ getD s (from + k) 0 → Agree kinds s from (k + 1)
-  agree-more k a e j l = ⊎-elim (λ same. subst (λ (x : ℕ). getD kinds x 0 ≡ getD s (from + x) 0) (sym same) e) (a j) (eq-or-lt-of-le (omega arith))
-
-  module _ {depth n : ℕ} {κs λs : List Kind} (h : Holds kinds depth κs) (g : Holds (drop from s) n λs) where
-    pub compares-long : (depth ≡ n → ⊥) → Compares κs λs false
-    compares-long f = record { same = λ e. absurd (let z : _≡_ {A = ℕ} 0 1 = cc in omega arith); other = λ e q. f (sym (h .many) ∙ ap length q ∙ g .many) }
-
-    pub compares-other : (k : ℕ) → depth ≡ n → k < n → (getD kinds k 0 ≡ getD s (from + k) 0 → ⊥) → Compares κs λs false
-    compares-other k e l f =
-        record {
-          same = λ e. absurd (let z : _≡_ {A = ℕ} 0 1 = cc in omega arith);
-          other = λ _ q. f (held h k (omega arith) ∙ ap (λ (x : List Kind). getD (map kindByte x) k 0) q ∙ sym (held-from s from g k l));
-        }
-
-    pub compares-same : (k : ℕ) → depth ≡ n → n ≤ k → Agree kinds s from k → Compares κs λs true
-    compares-same k e l a =
-        record {
-          same = λ _. alike κs λs (h .many ∙ e ∙ sym (g .many)) (λ j m.
-              let small : j < n = omega (arith, h .many) in
-              sym (held h j (omega arith)) ∙ a j (omega arith) ∙ held-from s from g j small);
-          other = λ e q. absurd (let z : _≡_ {A = ℕ} 0 1 = cc in omega arith);
-        }

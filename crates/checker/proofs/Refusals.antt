@@ -1,26 +1,28 @@
--- The codes that decoding answers: 0, or one of the card's 2 and 7 to 11.
+-- The codes that decoding answers: 0, or one of the card's 2 and 6 to 11.
 use Prim.Native.Nat.{ℕ, zero, suc, _+_, _^_}
 use mathlib.Core.Path.{_≡_, refl, sym, subst}
 use mathlib.Core.Bool.{Bool, true, false, cond}
 use mathlib.Core.List.{List}
 use lib.Dec.{ltb, leb}
 use lib.ListN.{length, getD}
-use Rattle.card.specs.Card.{DONE, SHORT, OPCODE, FLOAT, NUMBER, LANE, ALIGN}
+use Rattle.card.specs.Card.{DONE, SHORT, KIND, OPCODE, FLOAT, NUMBER, LANE, ALIGN}
 use Rattle.leb128.specs.Number.{numberAt}
 use Rattle.leb128.specs.declared.read.Leb.{Leb}
 use Rattle.leb128.specs.declared.read.Leb.the-variants.{Val, Short, Number}
-use Rattle.opcode.specs.Kind.{Kind}
+use Rattle.opcode.specs.BlockType.{isBlockType}
 use Rattle.opcode.specs.Table.{Row, carried, float as float-row, unassigned, rowAt}
-use Rattle.opcode.specs.Immediate.{Immediates, nothing, index, word, long, memory, memoryLane, laneIndex, sixteenBytes, sixteenLanes, immediates, movedBy, lanesOf}
+use Rattle.opcode.specs.Immediate.{Immediates, nothing, index, blockType, word, long, memory, memoryLane, laneIndex, sixteenBytes, sixteenLanes, immediates, movedBy, lanesOf}
 use Rattle.instr.specs.Layout.{Head, head}
-use Rattle.instr.specs.Decode.{Item, got, no, andThen, andRead, itemOf, numberItem, byteAt, laneAt, exponentAt, lanesAt, sixteenAt, immediatesAt, bodyOf, opcodeNumber, decodeAt}
+use Rattle.instr.specs.Decode.{Item, got, no, andThen, andRead, itemOf, numberItem, byteAt, laneAt, blockAt, exponentAt, lanesAt, sixteenAt, immediatesAt, bodyOf, opcodeNumber, decodeAt}
 use Rattle.instr.specs.declared.Decoded.{Decoded}
 use Rattle.rules.specs.Header.{Header}
+use Rattle.rules.specs.Typing.{Frame}
 use Rattle.rules.specs.Strip.{Reaches}
-use Rattle.rules.specs.Breach.{Refused, Breach, short, opcode, float, number, lane, align}
+use Rattle.rules.specs.Breach.{Refused, Breach, short, block-type, opcode, float, number, lane, align}
 
 data Refusal : ℕ → Type 0 where
   is-short : Refusal SHORT
+  is-kind : Refusal KIND
   is-opcode : Refusal OPCODE
   is-float : Refusal FLOAT
   is-number : Refusal NUMBER
@@ -70,6 +72,10 @@ module _ (s : List ℕ) where
   unfolding laneAt
   lane-coded n at = read-coded (byteAt s at) _ (byte-coded at) (λ b q. test-coded (ltb b n) b q LANE at is-lane)
 
+  block-coded : (at : ℕ) → Item-coded (blockAt s at)
+  unfolding blockAt
+  block-coded at = read-coded (byteAt s at) _ (byte-coded at) (λ b q. test-coded (isBlockType b) b q KIND at is-kind)
+
   exponent-coded : (m at : ℕ) → Item-coded (exponentAt m s at)
   unfolding exponentAt
   exponent-coded m at = read-coded (numberItem false 32 s at) _ (number-coded false 32 at) (λ a q. test-coded (leb (2 ^ a) m) a q ALIGN at is-align)
@@ -87,6 +93,7 @@ module _ (s : List ℕ) where
   unfolding immediatesAt
   immediates-coded nothing m n at p h = whole
   immediates-coded index m n at p h = then-coded (numberItem false 32 s p) _ (number-coded false 32 p) (λ v q. whole)
+  immediates-coded blockType m n at p h = then-coded (blockAt s p) _ (block-coded p) (λ b q. whole)
   immediates-coded word m n at p h = then-coded (numberItem true 32 s p) _ (number-coded true 32 p) (λ v q. whole)
   immediates-coded long m n at p h = then-coded (numberItem true 64 s p) _ (number-coded true 64 p) (λ v q. whole)
   immediates-coded memory m n at p h =
@@ -105,27 +112,29 @@ module _ (s : List ℕ) where
   body-coded float-row at p h = refused is-float
   body-coded unassigned at p h = refused is-opcode
 
-  decode-coded : (at : ℕ) → Answered (decodeAt s at)
+  decode-coded : (v at : ℕ) → Answered (decodeAt v s at)
   unfolding decodeAt
-  decode-coded at =
+  decode-coded v at =
       then-coded (byteAt s at) _ (byte-coded at) (λ b p.
       then-coded (itemOf (length s) p (opcodeNumber b s p)) _ (leb-coded (length s) p (opcodeNumber b s p)) (λ n q.
-      body-coded (rowAt b n) at q (head b n)))
+      body-coded (rowAt v b n) at q (head b n)))
 
   -- each is a breach where all before it is well
   breach-of : {c place : ℕ} → Refusal c → Refused s c place → Breach s c place
   breach-of is-short f = short f
+  breach-of is-kind f = block-type f
   breach-of is-opcode f = opcode f
   breach-of is-float f = float f
   breach-of is-number f = number f
   breach-of is-lane f = lane f
   breach-of is-align f = align f
 
-  pub refused-breach : {h : Header} {at : ℕ} {κs : List Kind} → Reaches s h at κs → (decodeAt s at .code ≡ DONE → ⊥) → Breach s (decodeAt s at .code) (decodeAt s at .place)
-  refused-breach {h} {at} {κs} reached z = by (decode-coded at) refl
+  pub refused-breach : {h : Header} {at : ℕ} {fs : List Frame} → Reaches s h at fs → (decodeAt (h .version) s at .code ≡ DONE → ⊥)
+      → Breach s (decodeAt (h .version) s at .code) (decodeAt (h .version) s at .place)
+  refused-breach {h} {at} {fs} reached z = by (decode-coded (h .version) at) refl
     where
-      by : {c : ℕ} → Coded c → decodeAt s at .code ≡ c → Breach s (decodeAt s at .code) (decodeAt s at .place)
+      by : {c : ℕ} → Coded c → decodeAt (h .version) s at .code ≡ c → Breach s (decodeAt (h .version) s at .code) (decodeAt (h .version) s at .place)
       by whole e = absurd (z e)
       by (refused r) e =
-          subst (λ (c : ℕ). Breach s c (decodeAt s at .place)) (sym e)
-          (breach-of r (record { header = h; at = at; stack = κs; reached = reached; code-is = e; place-is = refl }))
+          subst (λ (c : ℕ). Breach s c (decodeAt (h .version) s at .place)) (sym e)
+          (breach-of r (record { header = h; at = at; frames = fs; reached = reached; code-is = e; place-is = refl }))

@@ -4,7 +4,7 @@ ghost use mathlib.Core.Path.{_≡_};
 ghost use lib.ListN.{length};
 ghost use Rattle.limits.specs.Limits.{localCount, resultLimit};
 ghost use Rattle.checker.specs.Inner.Kinds.{isKind};
-ghost use Rattle.checker.specs.Inner.Parts.{Headed, KindsSay};
+ghost use Rattle.checker.specs.Inner.Parts.{OtherVersion, Headed, KindsSay};
 use crate::answer;
 use card::Answer;
 use opcode::kind;
@@ -27,7 +27,7 @@ pub(crate) fn header(strip: &[u8]) -> Answer
     if strip[2] != b'P' {
         return answer(card::MARK, 0);
     }
-    if strip[3] != 1 {
+    if is_other_version(strip[3]) {
         return answer(card::VERSION, 3);
     }
     if strip[4] != 0 {
@@ -46,6 +46,16 @@ pub(crate) fn header(strip: &[u8]) -> Answer
         return answer(card::COUNT, 7);
     }
     kinds(strip, p + l + r)
+}
+
+// A version's second byte is 0.
+fn is_other_version(b: u8) -> bool
+    ensures { λ r. ⌜ OtherVersion b r ⌝ }
+{
+    if opcode::is_known(b as u16) {
+        return false;
+    }
+    true
 }
 
 // The n kind bytes.

@@ -1,11 +1,16 @@
 // The check of a whole strip: its header, then its instructions one after the other.
+mod blocks;
 mod body;
 mod header;
+mod numbers;
 mod stack;
+mod turns;
 mod typing;
+mod walk;
 
-pub use stack::Judged;
-pub use typing::judge;
+pub use turns::State;
+pub use walk::follow;
+pub use walk::outset;
 ghost use mathlib.Core.Path.{_≡_};
 ghost use Rattle.checker.specs.Check.{Checked};
 ghost use Rattle.checker.specs.Walk.{startOf};
@@ -20,7 +25,8 @@ pub fn check(strip: &[u8]) -> Answer
     }
     let locals = strip[5] as usize + strip[6] as usize;
     let results = strip[7] as usize;
-    body::body(strip, 8 + locals + results, locals, results)
+    let version = strip[3] as u16;
+    body::body(strip, version, 8 + locals + results, locals, results)
 }
 
 // Where a strip's instructions begin: after the counts and the kind bytes that they declare.

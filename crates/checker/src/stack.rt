@@ -1,4 +1,4 @@
-// The kinds on the stack, lent as bytes beside a depth.
+// The kinds on the stack, lent as bytes beside a depth; from a floor on they are those of the innermost block.
 ghost use Prim.Native.Nat.{_≤_};
 ghost use mathlib.Core.Path.{_≡_};
 ghost use mathlib.Core.List.{List, map, reverse};
@@ -9,25 +9,29 @@ ghost use Rattle.operation.specs.Vector.{number};
 ghost use Rattle.opcode.specs.Kind.{Kind, kindByte};
 ghost use Rattle.opcode.specs.Effect.{_⇒_};
 ghost use Rattle.opcode.specs.Number.{packed};
+ghost use Rattle.rules.specs.Typing.{Frame};
 ghost use Rattle.checker.specs.Walk.{Holds};
-ghost use Rattle.checker.specs.Inner.Judging.{Under, Small, Applies};
+ghost use Rattle.checker.specs.Inner.Stack.{Keeps, Top, Under, Small, Leaves, Applies};
 
 // A code, and how many values the stack holds then.
-pub struct Judged {
+pub(crate) struct Judged {
     pub code: u8,
     pub depth: usize,
 }
 
 // How many values lie under the operands, whose kinds are the bytes of a number, the top one first; more than the stack holds where they
-// are not there.
-fn under(operands: u32, kinds: &[u8], depth: usize) -> usize
-    requires { ⌜ depth ≤ length (now kinds) ⌝ }
-    ensures { λ r. ⌜ ((κs ins : List Kind) → Holds (now (kinds .entry)) depth κs → number (map kindByte (reverse ins)) ≡ operands → Under κs ins r) ⌝ }
+// are not there. In dead code any are there under the floor.
+pub(crate) fn under(operands: u64, kinds: &[u8], depth: usize, floor: usize, dead: bool) -> usize
+    requires { ⌜ (floor ≤ depth) × (depth ≤ length (now kinds)) ⌝ }
+    ensures { λ r. ⌜ ((outer ins : List Kind) (f : Frame) → Top (now (kinds .entry)) depth floor dead outer f → number (map kindByte (reverse ins)) ≡ operands → Under f ins floor r) ⌝ }
 {
     let mut left = operands;
     let mut base = depth;
     while left != 0 {
-        if base == 0 {
+        if base == floor {
+            if dead {
+                return floor;
+            }
             return limits::STACK + 1;
         }
         if kinds[base - 1] != (left % 256) as u8 {
@@ -39,12 +43,38 @@ fn under(operands: u32, kinds: &[u8], depth: usize) -> usize
     base
 }
 
-// The operands are taken and the result is left, as an entry of the table has them in a number.
-pub(crate) fn apply(effect: u32, kinds: &mut [u8], depth: usize) -> Judged
-    requires { ⌜ (depth ≤ stackLimit) × (length (now kinds) ≡ stackLimit) ⌝ }
-    ensures { λ r. ⌜ ((κs ins outs : List Kind) → Holds (now (kinds .entry)) depth κs → Small ins outs → packed (some (ins ⇒ outs)) ≡ effect → Applies κs ins outs (now (kinds .entry)) (r .code) (r .depth) (now (kinds .exit))) ⌝ }
+// Kinds whose bytes are a number, the lowest first, are left from a base on.
+pub(crate) fn leave(results: u64, kinds: &mut [u8], base: usize) -> Judged
+    requires { ⌜ (base ≤ stackLimit) × (length (now kinds) ≡ stackLimit) ⌝ }
+    ensures { λ r. ⌜ ((below outs : List Kind) → Holds (now (kinds .entry)) base below → number (map kindByte outs) ≡ results → Leaves below outs (now (kinds .exit)) (r .code) (r .depth)) ⌝ }
+    ensures { λ r. ⌜ Keeps (r .code) (r .depth) (now (kinds .entry)) (now (kinds .exit)) ⌝ }
 {
-    let base = under(effect % 0x100_0000, kinds, depth);
+    let mut left = results;
+    let mut depth = base;
+    while left != 0 {
+        if depth == limits::STACK {
+            return Judged {
+                code: card::DEEP,
+                depth: 0,
+            };
+        }
+        kinds[depth] = (left % 256) as u8;
+        left = left / 256;
+        depth += 1;
+    }
+    Judged {
+        code: card::DONE,
+        depth,
+    }
+}
+
+// The operands are taken and the result is left, as an entry of the table has them in a number.
+pub(crate) fn apply(effect: u32, kinds: &mut [u8], depth: usize, floor: usize, dead: bool) -> Judged
+    requires { ⌜ (floor ≤ depth) × (depth ≤ stackLimit) × (length (now kinds) ≡ stackLimit) ⌝ }
+    ensures { λ r. ⌜ ((outer ins outs : List Kind) (f : Frame) → Top (now (kinds .entry)) depth floor dead outer f → Small ins outs → packed (some (ins ⇒ outs)) ≡ effect → Applies outer f ins outs (now (kinds .exit)) (r .code) (r .depth)) ⌝ }
+    ensures { λ r. ⌜ Keeps (r .code) (r .depth) (now (kinds .entry)) (now (kinds .exit)) ⌝ }
+{
+    let base = under((effect % 0x100_0000) as u64, kinds, depth, floor, dead);
     if limits::STACK < base {
         return Judged {
             code: card::OPERAND,
@@ -69,4 +99,27 @@ pub(crate) fn apply(effect: u32, kinds: &mut [u8], depth: usize) -> Judged
         code: card::DONE,
         depth: base + 1,
     }
+}
+
+// The same of any kinds, those taken the top one first in a number and those left the lowest first.
+pub(crate) fn exchange(
+    operands: u64,
+    results: u64,
+    kinds: &mut [u8],
+    depth: usize,
+    floor: usize,
+    dead: bool,
+) -> Judged
+    requires { ⌜ (floor ≤ depth) × (depth ≤ stackLimit) × (length (now kinds) ≡ stackLimit) ⌝ }
+    ensures { λ r. ⌜ ((outer ins outs : List Kind) (f : Frame) → Top (now (kinds .entry)) depth floor dead outer f → number (map kindByte (reverse ins)) ≡ operands → number (map kindByte outs) ≡ results → Applies outer f ins outs (now (kinds .exit)) (r .code) (r .depth)) ⌝ }
+    ensures { λ r. ⌜ Keeps (r .code) (r .depth) (now (kinds .entry)) (now (kinds .exit)) ⌝ }
+{
+    let base = under(operands, kinds, depth, floor, dead);
+    if limits::STACK < base {
+        return Judged {
+            code: card::OPERAND,
+            depth: 0,
+        };
+    }
+    leave(results, kinds, base)
 }

@@ -5,19 +5,29 @@ ghost use mathlib.Core.List.{List};
 ghost use lib.ListN.{length, drop};
 ghost use Rattle.limits.specs.Limits.{stackLimit};
 ghost use Rattle.opcode.specs.Kind.{Kind};
-ghost use Rattle.opcode.specs.Table.{End, Code, plain, carried};
+ghost use Rattle.opcode.specs.Table.{Code, carried};
 ghost use Rattle.opcode.specs.Entry.{entryOf};
-ghost use Rattle.checker.specs.Walk.{Holds, Judges};
-ghost use Rattle.checker.specs.Inner.Judging.{Effected};
+ghost use Rattle.rules.specs.Typing.{Frame};
+ghost use Rattle.checker.specs.Walk.{Holds};
+ghost use Rattle.checker.specs.Inner.Stack.{Keeps, Top};
+ghost use Rattle.checker.specs.Inner.Judging.{Effected, Ordinary, Gives};
 use crate::stack;
 use crate::stack::Judged;
 use opcode::kind;
 
 // What the instruction takes and leaves, in a number as an entry of the table has it: by its signature, or by the kind of the value or of the
 // local. 0 where the local is not declared.
-fn effect_of(strip: &[u8], locals: usize, entry: u64, index: u32, kinds: &[u8], depth: usize) -> u32
-    requires { ⌜ (8 + locals ≤ length (now strip)) × (depth ≤ length (now kinds)) ⌝ }
-    ensures { λ r. ⌜ ((c : Code) (ls κs : List Kind) → entry ≡ entryOf (carried c) → (c ≡ plain End → ⊥) → Holds (drop 8 (now (strip .entry))) locals ls → Holds (now (kinds .entry)) depth κs → Effected ls index c κs r) ⌝ }
+fn effect_of(
+    strip: &[u8],
+    locals: usize,
+    entry: u64,
+    index: u32,
+    kinds: &[u8],
+    depth: usize,
+    floor: usize,
+) -> u32
+    requires { ⌜ (8 + locals ≤ length (now strip)) × (floor ≤ depth) × (depth ≤ length (now kinds)) ⌝ }
+    ensures { λ r. ⌜ ((c : Code) (ls outer : List Kind) (f : Frame) → entry ≡ entryOf (carried c) → Ordinary c → Holds (drop 8 (now (strip .entry))) locals ls → Top (now (kinds .entry)) depth floor (f .dead) outer f → Effected ls index c f r) ⌝ }
 {
     let effect = opcode::effect(entry);
     if effect != 0 {
@@ -25,8 +35,8 @@ fn effect_of(strip: &[u8], locals: usize, entry: u64, index: u32, kinds: &[u8], 
     }
     let group = opcode::group(entry);
     if group == opcode::GROUP_DROP {
-        // of an empty stack any kind: it is not there
-        if depth == 0 {
+        // of no value any kind: it is not there, or it is any
+        if depth == floor {
             return kind::I32 as u32;
         }
         return kinds[depth - 1] as u32;
@@ -43,24 +53,26 @@ fn effect_of(strip: &[u8], locals: usize, entry: u64, index: u32, kinds: &[u8], 
     }
 }
 
-// What the walk keeps is asked of who calls: the strip has its kind bytes, and the stack is held in an array of its own size.
-pub fn judge(
+pub(crate) fn judge(
     strip: &[u8],
     locals: usize,
     entry: u64,
     index: u32,
     kinds: &mut [u8],
     depth: usize,
+    floor: usize,
+    dead: bool,
 ) -> Judged
-    requires { ⌜ (8 + locals ≤ length (now strip)) × (depth ≤ stackLimit) × (length (now kinds) ≡ stackLimit) ⌝ }
-    ensures { λ r. ⌜ ((c : Code) (ls κs : List Kind) → entry ≡ entryOf (carried c) → (c ≡ plain End → ⊥) → Holds (drop 8 (now (strip .entry))) locals ls → Holds (now (kinds .entry)) depth κs → Judges ls index c κs (now (kinds .entry)) (r .code) (r .depth) (now (kinds .exit))) ⌝ }
+    requires { ⌜ (8 + locals ≤ length (now strip)) × (floor ≤ depth) × (depth ≤ stackLimit) × (length (now kinds) ≡ stackLimit) ⌝ }
+    ensures { λ r. ⌜ ((c : Code) (ls outer : List Kind) (f : Frame) → entry ≡ entryOf (carried c) → Ordinary c → Holds (drop 8 (now (strip .entry))) locals ls → Top (now (kinds .entry)) depth floor dead outer f → Gives ls index c outer f (now (kinds .exit)) (r .code) (r .depth)) ⌝ }
+    ensures { λ r. ⌜ Keeps (r .code) (r .depth) (now (kinds .entry)) (now (kinds .exit)) ⌝ }
 {
-    let effect = effect_of(strip, locals, entry, index, kinds, depth);
+    let effect = effect_of(strip, locals, entry, index, kinds, depth, floor);
     if effect == 0 {
         return Judged {
             code: card::LOCAL,
             depth: 0,
         };
     }
-    stack::apply(effect, kinds, depth)
+    stack::apply(effect, kinds, depth, floor, dead)
 }

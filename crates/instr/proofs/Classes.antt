@@ -8,27 +8,26 @@ use native.Mathlib.Omega.{arith}
 use lib.Dec.{eqb}
 use borrow.Author.Tests.{eq-eqb, ne-eqb, lt-ltb, le-ltb}
 use Rattle.card.specs.Card.{DONE, OPCODE}
-use Rattle.opcode.specs.Table.{Row, carried, float, unassigned, rowAt}
-use Rattle.opcode.specs.Immediate.{Immediates, nothing, index, word, long, memory, memoryLane, laneIndex, sixteenBytes, sixteenLanes, immediates, movedBy, lanesOf}
+use Rattle.opcode.specs.BlockType.{isBlockType}
+use Rattle.opcode.specs.Table.{Row, carried, float, unassigned, latest, rowAt}
+use Rattle.opcode.specs.Immediate.{Immediates, nothing, index, blockType, word, long, memory, memoryLane, laneIndex, sixteenBytes, sixteenLanes, immediates, movedBy, lanesOf}
 use Rattle.opcode.specs.Number.{classNumber, FLOAT, UNASSIGNED, classOf, idOf, rowOf}
 use Rattle.opcode.proofs.Id.{row-of-id}
 use Rattle.opcode.proofs.Classes.{class-carried, class-float, class-unassigned}
 use Rattle.opcode.proofs.Arms.{Missed}
 use Rattle.instr.specs.Layout.{Head, immediateFields, fieldsOf}
-use Rattle.instr.specs.Decode.{refusal, immediatesAt}
+use Rattle.instr.specs.Decode.{refusal, immediatesAt, bodyOf}
 use Rattle.instr.specs.Encode.{exponentFault, allBelow, faultIn, faultOf}
 use Rattle.instr.specs.Inner.Steps.{memoryClass, laneEnds}
-use Rattle.instr.specs.Inner.Version.{immediatesBy, bodyBy}
 use Rattle.instr.specs.declared.Instr.{Instr}
-use Rattle.instr.specs.declared.version.Version.{Version}
 use Rattle.card.specs.Card as card
 
 module _ (r : Row) (k : Immediates) (e : classOf r ≡ classNumber k) where
-  pub body-class : (ver : Version) (s : List ℕ) (at p : ℕ) (h : Head) → bodyBy ver r s at p h ≡ immediatesBy ver k (movedBy r) (lanesOf r) s at p h
-  unfolding bodyBy
-  body-class ver s at p h =
+  pub body-class : (s : List ℕ) (at p : ℕ) (h : Head) → bodyOf r s at p h ≡ immediatesAt k (movedBy r) (lanesOf r) s at p h
+  unfolding bodyOf
+  body-class s at p h =
       let t = class-carried r k e in
-      rw (t .1) (ap (λ (j : Immediates). immediatesBy ver j (movedBy (carried (t .0))) (lanesOf (carried (t .0))) s at p h) (t .2))
+      rw (t .1) (ap (λ (j : Immediates). immediatesAt j (movedBy (carried (t .0))) (lanesOf (carried (t .0))) s at p h) (t .2))
 
   pub fields-class : (i : Instr) → fieldsOf r i ≡ immediateFields k i
   unfolding fieldsOf
@@ -40,9 +39,9 @@ module _ (r : Row) (k : Immediates) (e : classOf r ≡ classNumber k) where
       let t = class-carried r k e in
       rw (t .1) (ap (λ (j : Immediates). faultIn j (movedBy (carried (t .0))) (lanesOf (carried (t .0))) i) (t .2))
 
-pub body-float : (r : Row) → classOf r ≡ FLOAT → (ver : Version) (s : List ℕ) (at p : ℕ) (h : Head) → bodyBy ver r s at p h ≡ refusal card.FLOAT at
-unfolding bodyBy
-body-float r e ver s at p h = rw (class-float r e)
+pub body-float : (r : Row) → classOf r ≡ FLOAT → (s : List ℕ) (at p : ℕ) (h : Head) → bodyOf r s at p h ≡ refusal card.FLOAT at
+unfolding bodyOf
+body-float r e s at p h = rw (class-float r e)
 
 pub fault-float : (r : Row) → classOf r ≡ FLOAT → (i : Instr) → faultOf r i ≡ card.FLOAT
 unfolding faultOf
@@ -58,18 +57,19 @@ AllBut kss x = Missed (Unit {0}) kss x
 
 -- decoding has an arm for every class but that of the unassigned; memory's two share one, which the code tells by `class < 6`
 abbrev pub decoded : List (List ℕ)
-decoded = (0 ∷ []) ∷ (1 ∷ []) ∷ (2 ∷ []) ∷ (3 ∷ []) ∷ (6 ∷ []) ∷ (7 ∷ []) ∷ (8 ∷ []) ∷ (9 ∷ []) ∷ []
+decoded = (0 ∷ []) ∷ (1 ∷ []) ∷ (2 ∷ []) ∷ (3 ∷ []) ∷ (6 ∷ []) ∷ (7 ∷ []) ∷ (8 ∷ []) ∷ (9 ∷ []) ∷ (10 ∷ []) ∷ []
 
 memory-or-none : (k : Immediates) → AllBut decoded (classNumber k) → (k ≡ memory) ⊎ (k ≡ memoryLane)
-memory-or-none nothing m = absurd (m .0 .0 .0 .0 .0 .0 .0 .1 refl)
-memory-or-none index m = absurd (m .0 .0 .0 .0 .0 .0 .1 refl)
-memory-or-none word m = absurd (m .0 .0 .0 .0 .0 .1 refl)
-memory-or-none long m = absurd (m .0 .0 .0 .0 .1 refl)
+memory-or-none nothing m = absurd (m .0 .0 .0 .0 .0 .0 .0 .0 .1 refl)
+memory-or-none index m = absurd (m .0 .0 .0 .0 .0 .0 .0 .1 refl)
+memory-or-none word m = absurd (m .0 .0 .0 .0 .0 .0 .1 refl)
+memory-or-none long m = absurd (m .0 .0 .0 .0 .0 .1 refl)
 memory-or-none memory m = inl refl
 memory-or-none memoryLane m = inr refl
-memory-or-none laneIndex m = absurd (m .0 .0 .0 .1 refl)
-memory-or-none sixteenBytes m = absurd (m .0 .0 .1 refl)
-memory-or-none sixteenLanes m = absurd (m .0 .1 refl)
+memory-or-none laneIndex m = absurd (m .0 .0 .0 .0 .1 refl)
+memory-or-none sixteenBytes m = absurd (m .0 .0 .0 .1 refl)
+memory-or-none sixteenLanes m = absurd (m .0 .0 .1 refl)
+memory-or-none blockType m = absurd (m .0 .1 refl)
 
 pub other-class : (r : Row) → AllBut decoded (classOf r) → 6 ≤ classOf r → r ≡ unassigned
 other-class (carried c) m l =
@@ -77,10 +77,10 @@ other-class (carried c) m l =
 other-class float m l = absurd (m .1 refl)
 other-class unassigned m l = refl
 
-body-other : (r : Row) → AllBut decoded (classOf r) → 6 ≤ classOf r → (ver : Version) (s : List ℕ) (at p : ℕ) (h : Head)
-    → bodyBy ver r s at p h ≡ refusal OPCODE at
-unfolding bodyBy
-body-other r m l ver s at p h = rw (other-class r m l)
+body-other : (r : Row) → AllBut decoded (classOf r) → 6 ≤ classOf r → (s : List ℕ) (at p : ℕ) (h : Head)
+    → bodyOf r s at p h ≡ refusal OPCODE at
+unfolding bodyOf
+body-other r m l s at p h = rw (other-class r m l)
 
 pub memory-class : (r : Row) → AllBut decoded (classOf r) → classOf r < 6 → (classOf r ≡ classNumber memory) ⊎ (classOf r ≡ classNumber memoryLane)
 memory-class (carried c) m l = ⊎-elim (λ e. inl (ap classNumber e)) (λ e. inr (ap classNumber e)) (memory-or-none (immediates c) m)
@@ -88,7 +88,7 @@ memory-class float m l = absurd (m .1 refl)
 memory-class unassigned m l = absurd (omega arith)
 
 -- an id stands for the row
-pub row-in : (first n id : ℕ) → first < 256 → id ≡ idOf first n → rowOf id ≡ rowAt first n
+pub row-in : (first n id : ℕ) → first < 256 → id ≡ idOf first n → rowOf id ≡ rowAt latest first n
 row-in first n id l e = ap rowOf e ∙ row-of-id first n l
 
 -- class is that of the row
@@ -96,24 +96,24 @@ module _ (r : Row) (class : ℕ) (f : class ≡ classOf r) where
   pub class-at : {k : ℕ} → class ≡ k → classOf r ≡ k
   class-at g = sym f ∙ g
 
-  module _ (ver : Version) (s : List ℕ) (at p : ℕ) (h : Head) where
-    pub body-lane : (k : ℕ) → k ≡ lanesOf r → class ≡ classNumber laneIndex → laneEnds k s at p h 0 0 ≡ bodyBy ver r s at p h
-    unfolding laneEnds immediatesBy immediatesAt
-    body-lane k g c = rw g (sym (body-class r laneIndex (class-at c) ver s at p h))
+  module _ (s : List ℕ) (at p : ℕ) (h : Head) where
+    pub body-lane : (k : ℕ) → k ≡ lanesOf r → class ≡ classNumber laneIndex → laneEnds k s at p h 0 0 ≡ bodyOf r s at p h
+    unfolding laneEnds immediatesAt
+    body-lane k g c = rw g (sym (body-class r laneIndex (class-at c) s at p h))
 
     pub body-memory : (m k : ℕ) (laned : Bool) → m ≡ movedBy r → k ≡ lanesOf r → laned ≡ eqb class 5 → AllBut decoded class → class < 6
-        → immediatesBy ver (memoryClass laned) m k s at p h ≡ bodyBy ver r s at p h
+        → immediatesAt (memoryClass laned) m k s at p h ≡ bodyOf r s at p h
     body-memory m k laned g i j o t =
         rw (g, i, j)
         (⊎-elim
-        (λ c. rw (ne-eqb class 5 (λ z. omega (arith, f, c))) (sym (body-class r memory (class-at (f ∙ c)) ver s at p h)))
-        (λ c. rw (eq-eqb class 5 (f ∙ c)) (sym (body-class r memoryLane (class-at (f ∙ c)) ver s at p h)))
+        (λ c. rw (ne-eqb class 5 (λ z. omega (arith, f, c))) (sym (body-class r memory (class-at (f ∙ c)) s at p h)))
+        (λ c. rw (eq-eqb class 5 (f ∙ c)) (sym (body-class r memoryLane (class-at (f ∙ c)) s at p h)))
         (memory-class r (subst (AllBut decoded) f o) (omega (arith, f))))
 
-    pub body-none : AllBut decoded class → 6 ≤ class → bodyBy ver r s at p h ≡ refusal OPCODE at
+    pub body-none : AllBut decoded class → 6 ≤ class → bodyOf r s at p h ≡ refusal OPCODE at
     body-none o t =
         let g = class-at {k = class} refl in
-        body-other r (subst (AllBut decoded) (sym g) o) (omega (arith, g)) ver s at p h
+        body-other r (subst (AllBut decoded) (sym g) o) (omega (arith, g)) s at p h
 
 -- what is wrong with an instruction, by its class
 module _ (r : Row) (i : Instr) where
@@ -138,13 +138,17 @@ module _ (r : Row) (i : Instr) where
     unfolding faultIn
     fault-lane c h = sym (fault-class r laneIndex c i ∙ rw (le-ltb (i .lane) (lanesOf r) (omega (arith, e))))
 
+  pub fault-block : (t : Bool) → t ≡ isBlockType (i .block) → classOf r ≡ classNumber blockType → cond t DONE card.KIND ≡ faultOf r i
+  unfolding faultIn
+  fault-block t e c = rw e (sym (fault-class r blockType c i))
+
   pub fault-lanes : (t : Bool) → t ≡ allBelow 32 (i .bytes) → classOf r ≡ classNumber sixteenLanes → cond t DONE card.LANE ≡ faultOf r i
   unfolding faultIn
   fault-lanes t e c = rw e (sym (fault-class r sixteenLanes c i))
 
 -- those without a lane index, an exponent or indices have nothing wrong
 abbrev pub judged : List (List ℕ)
-judged = (4 ∷ []) ∷ (5 ∷ []) ∷ (6 ∷ []) ∷ (8 ∷ []) ∷ (9 ∷ []) ∷ (10 ∷ []) ∷ []
+judged = (4 ∷ []) ∷ (5 ∷ []) ∷ (6 ∷ []) ∷ (8 ∷ []) ∷ (9 ∷ []) ∷ (10 ∷ []) ∷ (11 ∷ []) ∷ []
 
 pub fault-other : (r : Row) → AllBut judged (classOf r) → (i : Instr) → faultOf r i ≡ DONE
 unfolding faultOf faultIn
@@ -156,17 +160,18 @@ fault-other (carried c) m i = by (immediates c) m
     by index m = refl
     by word m = refl
     by long m = refl
-    by memory m = absurd (m .0 .0 .0 .0 .0 .1 refl)
-    by memoryLane m = absurd (m .0 .0 .0 .0 .1 refl)
-    by laneIndex m = absurd (m .0 .0 .0 .1 refl)
+    by memory m = absurd (m .0 .0 .0 .0 .0 .0 .1 refl)
+    by memoryLane m = absurd (m .0 .0 .0 .0 .0 .1 refl)
+    by laneIndex m = absurd (m .0 .0 .0 .0 .1 refl)
     by sixteenBytes m = refl
-    by sixteenLanes m = absurd (m .0 .0 .1 refl)
+    by sixteenLanes m = absurd (m .0 .0 .0 .1 refl)
+    by blockType m = absurd (m .0 .0 .1 refl)
 fault-other float m i = absurd (m .0 .1 refl)
 fault-other unassigned m i = absurd (m .1 refl)
 
 -- the others have no immediates
 abbrev pub carrying : List (List ℕ)
-carrying = (1 ∷ []) ∷ (2 ∷ []) ∷ (3 ∷ []) ∷ (4 ∷ []) ∷ (5 ∷ []) ∷ (6 ∷ []) ∷ (7 ∷ []) ∷ (8 ∷ []) ∷ []
+carrying = (1 ∷ []) ∷ (2 ∷ []) ∷ (3 ∷ []) ∷ (4 ∷ []) ∷ (5 ∷ []) ∷ (6 ∷ []) ∷ (7 ∷ []) ∷ (8 ∷ []) ∷ (9 ∷ []) ∷ []
 
 pub fields-other : (r : Row) → AllBut carrying (classOf r) → (i : Instr) → fieldsOf r i ≡ []
 unfolding fieldsOf immediateFields
@@ -174,13 +179,14 @@ fields-other (carried c) m i = by (immediates c) m
   where
     by : (k : Immediates) → AllBut carrying (classNumber k) → immediateFields k i ≡ []
     by nothing m = refl
-    by index m = absurd (m .0 .0 .0 .0 .0 .0 .0 .1 refl)
-    by word m = absurd (m .0 .0 .0 .0 .0 .0 .1 refl)
-    by long m = absurd (m .0 .0 .0 .0 .0 .1 refl)
-    by memory m = absurd (m .0 .0 .0 .0 .1 refl)
-    by memoryLane m = absurd (m .0 .0 .0 .1 refl)
-    by laneIndex m = absurd (m .0 .0 .1 refl)
-    by sixteenBytes m = absurd (m .0 .1 refl)
-    by sixteenLanes m = absurd (m .1 refl)
+    by index m = absurd (m .0 .0 .0 .0 .0 .0 .0 .0 .1 refl)
+    by word m = absurd (m .0 .0 .0 .0 .0 .0 .0 .1 refl)
+    by long m = absurd (m .0 .0 .0 .0 .0 .0 .1 refl)
+    by memory m = absurd (m .0 .0 .0 .0 .0 .1 refl)
+    by memoryLane m = absurd (m .0 .0 .0 .0 .1 refl)
+    by laneIndex m = absurd (m .0 .0 .0 .1 refl)
+    by sixteenBytes m = absurd (m .0 .0 .1 refl)
+    by sixteenLanes m = absurd (m .0 .1 refl)
+    by blockType m = absurd (m .1 refl)
 fields-other float m i = refl
 fields-other unassigned m i = refl

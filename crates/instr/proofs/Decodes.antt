@@ -10,11 +10,11 @@ use lib.ListN.{length, drop, length-append, length-drop}
 use lib.Seq.{take-at}
 use borrow.Author.Tests.{le-leb}
 use Rattle.opcode.specs.Table.{Row, carried, float, unassigned, PREFIX}
-use Rattle.opcode.specs.Immediate.{Immediates, nothing, index, word, long, memory, memoryLane, laneIndex, sixteenBytes, sixteenLanes, immediates, movedBy, lanesOf}
+use Rattle.opcode.specs.Immediate.{Immediates, nothing, index, blockType, word, long, memory, memoryLane, laneIndex, sixteenBytes, sixteenLanes, immediates, movedBy, lanesOf}
 use Rattle.instr.specs.Layout.{u32, Writes, InOrder, immediateFields, fieldsOf, rowIn, layout, AllowedIn, Allowed, Head, head, kept, keptOf, headOf, bare, Typed, Stands, found}
 use Rattle.instr.specs.Decode.{done, got, exponentAt, lanesAt, sixteenAt, immediatesAt, bodyOf, opcodeNumber, decodeAt}
 use Rattle.instr.specs.declared.Instr.{Instr}
-use Rattle.instr.proofs.Places.{first-of, others-of, byte-here, byte-back, lane-back, lanes-back, number-back, item-back}
+use Rattle.instr.proofs.Places.{first-of, others-of, byte-here, byte-back, block-back, lane-back, lanes-back, number-back, item-back}
 
 module _ (s : List ℕ) where
   module _ (i : Instr) (t : Typed i) (at p : ℕ) (h : Head) (bs rest : List ℕ) (e : drop p s ≡ bs ++ rest) where
@@ -39,6 +39,9 @@ module _ (s : List ℕ) where
       immediates-read index o a =
           rw (item-back s false 32 (i .index) p (o .0) (o .1 ++ rest) (omega arith) (t .index) (first-of s p bs (o .0) (o .1) rest e (o .2)) (o .3))
           (ends index (p + length (o .0)) (alone (o .0) (o .1) (o .2) (o .4)))
+      immediates-read blockType o a =
+          rw (block-back s p (i .block) (o .1 ++ rest) (byte-here s p (i .block) bs (o .0) (o .1) rest e (o .2) (o .3)) a)
+          (ends blockType (p + 1) (omega (arith, ap length (o .2), length-append (o .0) (o .1), ap length (o .3), ap length (o .4))))
       immediates-read word o a =
           rw (item-back s true 32 (i .word) p (o .0) (o .1 ++ rest) (omega arith) (t .word) (first-of s p bs (o .0) (o .1) rest e (o .2)) (o .3))
           (ends word (p + length (o .0)) (alone (o .0) (o .1) (o .2) (o .4)))
@@ -101,18 +104,18 @@ module _ (s : List ℕ) where
     body-reads float o a = absurd a
     body-reads unassigned o a = absurd a
 
-  module _ (i : Instr) (t : Typed i) (at : ℕ) (bs rest : List ℕ) (e : drop at s ≡ bs ++ rest) (a : Allowed (rowIn i) i) (o : InOrder Writes (layout i) bs) where
+  module _ (ver : ℕ) (i : Instr) (t : Typed i) (at : ℕ) (bs rest : List ℕ) (e : drop at s ≡ bs ++ rest) (a : Allowed (rowIn ver i) i) (o : InOrder Writes (layout ver i) bs) where
     abbrev Answers : Type 0
-    Answers = decodeAt s at ≡ found (length bs) (bare i)
+    Answers = decodeAt ver s at ≡ found (length bs) (bare ver i)
 
-    close : (q : ℕ) (h : Head) → q ≡ at + length bs → headOf i ≡ h → decodeAt s at ≡ done at q (keptOf (rowIn i) h i) → Answers
+    close : (q : ℕ) (h : Head) → q ≡ at + length bs → headOf i ≡ h → decodeAt ver s at ≡ done at q (keptOf (rowIn ver i) h i) → Answers
     close q h f g d =
         let l : q - at ≡ length bs = omega arith in
-        d ∙ ap₂ (λ (n : ℕ) (x : Head). found n (keptOf (rowIn i) x i)) l (sym g)
+        d ∙ ap₂ (λ (n : ℕ) (x : Head). found n (keptOf (rowIn ver i) x i)) l (sym g)
 
     -- after the first byte
     opens : (xs ys : List ℕ) → bs ≡ xs ++ ys → xs ≡ i .first ∷ [] → (b : Bool) → eqb (i .first) PREFIX ≡ b
-        → InOrder Writes (cond b (u32 (i .number) ∷ []) [] ++ fieldsOf (rowIn i) i) ys → Answers
+        → InOrder Writes (cond b (u32 (i .number) ∷ []) [] ++ fieldsOf (rowIn ver i) i) ys → Answers
     unfolding decodeAt opcodeNumber
     opens xs ys f g true q o′ =
         let d : drop (at + 1) s ≡ ys ++ rest = rw (ap length g) at (others-of s at bs xs ys rest e f) in
@@ -124,19 +127,19 @@ module _ (s : List ℕ) where
           q,
           number-back s false 32 (i .number) (at + 1) (o′ .0) (o′ .1 ++ rest) (omega arith) (t .number) (first-of s (at + 1) ys (o′ .0) (o′ .1) rest d (o′ .2)) (o′ .3),
         )
-        (rw q at (body-reads i t at (at + 1 + length (o′ .0)) (head (i .first) (i .number)) (o′ .1) rest d′ (rowIn i) (o′ .4) a)))
+        (rw q at (body-reads i t at (at + 1 + length (o′ .0)) (head (i .first) (i .number)) (o′ .1) rest d′ (rowIn ver i) (o′ .4) a)))
     opens xs ys f g false q o′ =
         let d : drop (at + 1) s ≡ ys ++ rest = rw (ap length g) at (others-of s at bs xs ys rest e f) in
         close (at + 1 + length ys) (head (i .first) 0)
         (omega (arith, ap length f, length-append xs ys, ap length g)) (rw q)
         (rw (byte-back s at (i .first) (ys ++ rest) (byte-here s at (i .first) bs xs ys rest e f g), q, add-zero (at + 1))
-        (rw q at (body-reads i t at (at + 1) (head (i .first) 0) ys rest d (rowIn i) o′ a)))
+        (rw q at (body-reads i t at (at + 1) (head (i .first) 0) ys rest d (rowIn ver i) o′ a)))
 
     -- an instruction's fields are decoded, with the immediates that it lacks as zero
     pub fields-decode : Answers
     unfolding layout
     fields-decode = opens (o .0) (o .1) (o .2) (o .3) (eqb (i .first) PREFIX) refl (o .4)
 
-pub stands-decodes : (s : List ℕ) (at : ℕ) (i : Instr) (n : ℕ) → Stands s at i n → decodeAt s at ≡ found n i
-stands-decodes s at i n t =
-    fields-decode s i (t .typed) at (t .bytes) (t .rest) (t .here) (t .allowed) (t .fields) ∙ ap₂ found (t .long) (t .lacking)
+pub stands-decodes : (ver : ℕ) (s : List ℕ) (at : ℕ) (i : Instr) (n : ℕ) → Stands ver s at i n → decodeAt ver s at ≡ found n i
+stands-decodes ver s at i n t =
+    fields-decode s ver i (t .typed) at (t .bytes) (t .rest) (t .here) (t .allowed) (t .fields) ∙ ap₂ found (t .long) (t .lacking)

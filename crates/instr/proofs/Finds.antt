@@ -1,6 +1,6 @@
 -- What decoding finds stands there, item by item; and a refusal's place lies in the file.
 use Prim.Native.Nat.{ℕ, zero, suc, _+_, _<_, _≤_, _^_}
-use mathlib.Core.Bool.{Bool, false}
+use mathlib.Core.Bool.{Bool, true, false}
 use mathlib.Core.List.{List, [], _∷_, _++_, append-assoc}
 use mathlib.Core.Path.{_≡_, refl, sym, ap, _∙_}
 use native.Mathlib.Nat.{add-zero}
@@ -19,8 +19,9 @@ use Rattle.leb128.specs.declared.read.Leb.{Leb}
 use Rattle.leb128.specs.declared.read.Leb.the-variants.{Val, Short, Number}
 use Rattle.leb128.proofs.Arith.{split, either}
 use Rattle.leb128.proofs.Exact.{says}
+use Rattle.opcode.specs.BlockType.{isBlockType}
 use Rattle.instr.specs.Layout.{Field, Writes, InOrder, Below}
-use Rattle.instr.specs.Decode.{Item, got, no, andThen, andRead, itemOf, numberItem, byteAt, laneAt, exponentAt, lanesAt, sixteenAt}
+use Rattle.instr.specs.Decode.{Item, got, no, andThen, andRead, itemOf, numberItem, byteAt, laneAt, blockAt, exponentAt, lanesAt, sixteenAt}
 use Rattle.instr.specs.declared.Decoded.{Decoded}
 use Rattle.instr.proofs.Places.{past}
 
@@ -107,6 +108,15 @@ module _ (s : List ℕ) where
     lane-got n p =
         read-got (ByteIs p) (LaneIs n p) (byteAt s p) _ (byte-got p)
         (λ v q a. split (GotP (LaneIs n p)) (ltb v n) (λ e. (ltb-true v n e, a)) (λ e. (omega arith, omega (arith, a .0))))
+
+    unfoldable pub BlockIs : ℕ → ℕ → ℕ → Type 0
+    BlockIs p v q = (isBlockType v ≡ true) × ByteIs p v q
+
+    pub block-got : (p : ℕ) → GotP (BlockIs p) (blockAt s p)
+    unfolding blockAt BlockIs ByteIs
+    block-got p =
+        read-got (ByteIs p) (BlockIs p) (byteAt s p) _ (byte-got p)
+        (λ v q a. split (GotP (BlockIs p)) (isBlockType v) (λ e. (e, a)) (λ e. (omega arith, omega (arith, a .0))))
 
     unfoldable pub ExponentIs : ℕ → ℕ → ℕ → ℕ → Type 0
     ExponentIs m p v q = (2 ^ v ≤ m) × NumIs false 32 p v q

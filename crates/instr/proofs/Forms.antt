@@ -10,15 +10,13 @@ use lib.Seq.{sets-eq}
 use borrow.Author.Tests.{le-leb, lt-leb, eq-eqb, ne-eqb}
 use Rattle.card.specs.Card.{DONE, SMALL}
 use Rattle.leb128.specs.Shortest.{bytesOf}
-use Rattle.opcode.specs.Table.{Row}
-use Rattle.opcode.specs.Immediate.{index, word, long, memory, memoryLane, laneIndex, sixteenBytes, sixteenLanes}
+use Rattle.opcode.specs.Table.{Row, latest}
+use Rattle.opcode.specs.Immediate.{index, blockType, word, long, memory, memoryLane, laneIndex, sixteenBytes, sixteenLanes}
 use Rattle.opcode.specs.Number.{classNumber, classOf}
 use Rattle.instr.specs.Layout.{opcodeFields, immediateFields, fieldsOf, rowIn, layout}
-use Rattle.instr.specs.Encode.{written, encoding, answer}
+use Rattle.instr.specs.Encode.{written, encoding, fault, answer, encoded, encodedIn}
 use Rattle.instr.specs.Inner.Steps.{Put}
-use Rattle.instr.specs.Inner.Version.{faultBy, encodedBy, encodedInBy}
 use Rattle.instr.specs.declared.Instr.{Instr}
-use Rattle.instr.specs.declared.version.Version.{Version}
 use Rattle.instr.proofs.Classes.{fields-class}
 use Rattle.instr.proofs.Sets.{written-append, put-then}
 
@@ -49,6 +47,10 @@ module _ (r : Row) (i : Instr) where
   unfolding immediateFields
   bytes-lane e = ap written (fields-class r laneIndex e i)
 
+  pub bytes-block : classOf r ≡ classNumber blockType → written (fieldsOf r i) ≡ i .block ∷ []
+  unfolding immediateFields
+  bytes-block e = ap written (fields-class r blockType e i)
+
   pub bytes-sixteen : (classOf r ≡ classNumber sixteenBytes) ⊎ (classOf r ≡ classNumber sixteenLanes) → written (fieldsOf r i) ≡ i .bytes
   unfolding immediateFields
   bytes-sixteen (inl e) = ap written (fields-class r sixteenBytes e i) ∙ append-nil (i .bytes)
@@ -59,30 +61,30 @@ module _ (i : Instr) where
   head-bytes = written (opcodeFields (i .first) (i .number))
 
   abbrev tail-bytes : List ℕ
-  tail-bytes = written (fieldsOf (rowIn i) i)
+  tail-bytes = written (fieldsOf (rowIn latest i) i)
 
   pub encoding-is : encoding i ≡ head-bytes ++ tail-bytes
   unfolding encoding layout
-  encoding-is = written-append (opcodeFields (i .first) (i .number)) (fieldsOf (rowIn i) i)
+  encoding-is = written-append (opcodeFields (i .first) (i .number)) (fieldsOf (rowIn latest i) i)
 
   pub encoding-length : length (encoding i) ≡ length head-bytes + length tail-bytes
   encoding-length = ap length encoding-is ∙ length-append head-bytes tail-bytes
 
-  module _ (ver : Version) (out : List ℕ) where
-    pub is-fault : (c : ℕ) → c ≡ faultBy ver i → (c ≡ DONE → ⊥) → (answer c 0 ≡ encodedBy ver i out) × (out ≡ encodedInBy ver i out)
-    unfolding encodedBy encodedInBy
+  module _ (ver : ℕ) (out : List ℕ) where
+    pub is-fault : (c : ℕ) → c ≡ fault ver i → (c ≡ DONE → ⊥) → (answer c 0 ≡ encoded ver i out) × (out ≡ encodedIn ver i out)
+    unfolding encoded encodedIn
     is-fault c f h = rw (← f, ne-eqb c DONE h) ((refl, refl))
 
-    module _ (f : faultBy ver i ≡ DONE) where
-      pub is-small : length out < length (encoding i) → (answer SMALL 0 ≡ encodedBy ver i out) × (out ≡ encodedInBy ver i out)
-      unfolding encodedBy encodedInBy
-      is-small h = rw (eq-eqb (faultBy ver i) DONE f, lt-leb (length (encoding i)) (length out) h) ((refl, refl))
+    module _ (f : fault ver i ≡ DONE) where
+      pub is-small : length out < length (encoding i) → (answer SMALL 0 ≡ encoded ver i out) × (out ≡ encodedIn ver i out)
+      unfolding encoded encodedIn
+      is-small h = rw (eq-eqb (fault ver i) DONE f, lt-leb (length (encoding i)) (length out) h) ((refl, refl))
 
       pub is-done : {out₁ out₂ : List ℕ} {p r : ℕ} → length (encoding i) ≤ length out → Put out 0 head-bytes p out₁ → Put out₁ p tail-bytes r out₂
-          → (answer DONE r ≡ encodedBy ver i out) × (out₂ ≡ encodedInBy ver i out)
-      unfolding encodedBy encodedInBy
+          → (answer DONE r ≡ encoded ver i out) × (out₂ ≡ encodedIn ver i out)
+      unfolding encoded encodedIn
       is-done {out₁} {out₂} {p} {r} h a b =
           let w = subst (λ (l : List ℕ). Put out 0 l r out₂) (sym encoding-is) (put-then a b) in
           let z = zero-add (length (encoding i)) in
-          rw (eq-eqb (faultBy ver i) DONE f, le-leb (length (encoding i)) (length out) h)
+          rw (eq-eqb (fault ver i) DONE f, le-leb (length (encoding i)) (length out) h)
           ((ap (answer DONE) (w .to ∙ z), w .bytes ∙ sets-eq (encoding i) out 0 (rw z h) ∙ ap (λ (n : ℕ). encoding i ++ drop n out) z))

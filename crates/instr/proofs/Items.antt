@@ -1,17 +1,17 @@
 -- Each item of a file, by what stands at its place.
 use Prim.Native.Nat.{ℕ, _+_, _<_, _≤_}
-use mathlib.Core.Bool.{Bool}
+use mathlib.Core.Bool.{Bool, true, false}
 use mathlib.Core.List.{List}
 use mathlib.Core.Path.{_≡_, ap}
 use lib.ListN.{length, getD}
 use borrow.Author.Tests.{lt-ltb, le-ltb}
-use Rattle.card.specs.Card.{SHORT, LANE}
+use Rattle.card.specs.Card.{SHORT, KIND, LANE}
 use Rattle.leb128.specs.Number.{numberAt}
 use Rattle.leb128.specs.declared.read.Leb.{Leb}
+use Rattle.opcode.specs.BlockType.{isBlockType}
+use Rattle.opcode.specs.Table.{rowAt}
 use Rattle.instr.specs.Layout.{head}
-use Rattle.instr.specs.Decode.{got, no, itemOf, numberItem, byteAt, laneAt}
-use Rattle.instr.specs.Inner.Version.{rowBy, bodyBy, opcodeBy, decodeBy}
-use Rattle.instr.specs.declared.version.Version.{Version}
+use Rattle.instr.specs.Decode.{refusal, got, no, itemOf, numberItem, byteAt, laneAt, blockAt, bodyOf, opcodeNumber, decodeAt}
 
 module _ (s : List ℕ) where
   pub number-item : (sign : Bool) (N p : ℕ) (r : Leb) → numberAt sign N s p ≡ r → numberItem sign N s p ≡ itemOf (length s) p r
@@ -27,6 +27,18 @@ module _ (s : List ℕ) where
     unfolding byteAt
     byte-cut h = rw (le-ltb p (length s) h)
 
+    pub block-good : p < length s → isBlockType (getD s p 0) ≡ true → blockAt s p ≡ got (getD s p 0) (p + 1)
+    unfolding blockAt
+    block-good h l = rw (byte-there h, l)
+
+    pub block-bad : p < length s → isBlockType (getD s p 0) ≡ false → blockAt s p ≡ no KIND p
+    unfolding blockAt
+    block-bad h l = rw (byte-there h, l)
+
+    pub block-cut : length s ≤ p → blockAt s p ≡ no SHORT (length s)
+    unfolding blockAt
+    block-cut h = rw (byte-cut h)
+
     module _ (n : ℕ) where
       pub lane-good : p < length s → getD s p 0 < n → laneAt n s p ≡ got (getD s p 0) (p + 1)
       unfolding laneAt
@@ -40,8 +52,18 @@ module _ (s : List ℕ) where
       unfolding laneAt
       lane-cut h = rw (byte-cut h)
 
--- a byte and a number were read
-pub decode-body : (ver : Version) (s : List ℕ) (at : ℕ) → at < length s → (n p : ℕ) → opcodeBy ver (getD s at 0) s (at + 1) ≡ got n p
-    → decodeBy ver s at ≡ bodyBy ver (rowBy ver (getD s at 0) n) s at p (head (getD s at 0) n)
-unfolding decodeBy
-decode-body ver s at l n p o = rw (byte-there s at l, o)
+-- no byte; a byte and no number; both
+module _ (ver : ℕ) (s : List ℕ) (at : ℕ) where
+  pub decode-cut : length s ≤ at → decodeAt ver s at ≡ refusal SHORT (length s)
+  unfolding decodeAt
+  decode-cut l = rw (byte-cut s at l)
+
+  module _ (l : at < length s) where
+    pub decode-number : (c p : ℕ) → itemOf (length s) (at + 1) (opcodeNumber (getD s at 0) s (at + 1)) ≡ no c p → decodeAt ver s at ≡ refusal c p
+    unfolding decodeAt
+    decode-number c p o = rw (byte-there s at l, o)
+
+    pub decode-body : (n p : ℕ) → itemOf (length s) (at + 1) (opcodeNumber (getD s at 0) s (at + 1)) ≡ got n p
+        → decodeAt ver s at ≡ bodyOf (rowAt ver (getD s at 0) n) s at p (head (getD s at 0) n)
+    unfolding decodeAt
+    decode-body n p o = rw (byte-there s at l, o)

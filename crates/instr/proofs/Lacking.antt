@@ -4,9 +4,11 @@ use mathlib.Core.Bool.{Bool, true, false, cond}
 use mathlib.Core.List.{List, _++_}
 use mathlib.Core.Path.{_≡_, refl, sym, ap, ap₂, _∙_}
 use lib.Dec.{eqb}
-use Rattle.opcode.specs.Table.{Row, carried, float, unassigned, PREFIX, rowAt}
-use Rattle.opcode.specs.Immediate.{Immediates, nothing, index, word, long, memory, memoryLane, laneIndex, sixteenBytes, sixteenLanes, immediates, movedBy, lanesOf}
+use Rattle.opcode.specs.Table.{Row, carried, float, unassigned, latest, PREFIX, rowAt}
+use Rattle.opcode.specs.Immediate.{Immediates, nothing, index, blockType, word, long, memory, memoryLane, laneIndex, sixteenBytes, sixteenLanes, immediates, movedBy, lanesOf}
 use Rattle.instr.specs.Layout.{Field, opcodeFields, immediateFields, fieldsOf, rowIn, layout, Head, headOf, kept, keptOf, bare}
+use Rattle.card.specs.Card.{VERSION}
+use Rattle.opcode.specs.Table.{known}
 use Rattle.instr.specs.Encode.{written, encoding, faultIn, faultOf, fault, encoded, encodedIn}
 use Rattle.instr.specs.declared.Instr.{Instr}
 
@@ -21,6 +23,7 @@ kept-same : (h : Head) (m n : ℕ) (i : Instr) (k : Immediates) → Same h k m n
 unfolding immediateFields faultIn
 kept-same h m n i nothing = record { first = refl; number = refl; fields = refl; fault = refl }
 kept-same h m n i index = record { first = refl; number = refl; fields = refl; fault = refl }
+kept-same h m n i blockType = record { first = refl; number = refl; fields = refl; fault = refl }
 kept-same h m n i word = record { first = refl; number = refl; fields = refl; fault = refl }
 kept-same h m n i long = record { first = refl; number = refl; fields = refl; fault = refl }
 kept-same h m n i memory = record { first = refl; number = refl; fields = refl; fault = refl }
@@ -44,39 +47,41 @@ same-of h i float = record { first = refl; number = refl; fields = refl; fault =
 same-of h i unassigned = record { first = refl; number = refl; fields = refl; fault = refl }
 
 -- a number that is not after FD is not part of the opcode
-same-head : (first n : ℕ) → (rowAt first (cond (eqb first PREFIX) n 0) ≡ rowAt first n) × (opcodeFields first (cond (eqb first PREFIX) n 0) ≡ opcodeFields first n)
-same-head first n = by (eqb first PREFIX) refl
+same-head : (ver first n : ℕ) → (rowAt ver first (cond (eqb first PREFIX) n 0) ≡ rowAt ver first n) × (opcodeFields first (cond (eqb first PREFIX) n 0) ≡ opcodeFields first n)
+same-head ver first n = by (eqb first PREFIX) refl
   where
-    by : (t : Bool) → eqb first PREFIX ≡ t → (rowAt first (cond t n 0) ≡ rowAt first n) × (opcodeFields first (cond t n 0) ≡ opcodeFields first n)
+    by : (t : Bool) → eqb first PREFIX ≡ t → (rowAt ver first (cond t n 0) ≡ rowAt ver first n) × (opcodeFields first (cond t n 0) ≡ opcodeFields first n)
     by true e = (refl, refl)
     by false e = rw e ((refl, refl))
 
+module _ (ver : ℕ) (i : Instr) where
+  same : SameOf (headOf i) (rowIn ver i) i
+  same = same-of (headOf i) i (rowIn ver i)
+
+  same-row : (w : ℕ) → rowIn w (bare ver i) ≡ rowIn w i
+  same-row w = ap₂ (rowAt w) (same .first) (same .number) ∙ same-head w (i .first) (i .number) .0
+
+  pub fault-bare : fault ver (bare ver i) ≡ fault ver i
+  fault-bare = ap (λ (x : ℕ). cond (known ver) x VERSION) (ap (λ (r : Row). faultOf r (bare ver i)) (same-row ver) ∙ same .fault)
+
 module _ (i : Instr) where
-  same : SameOf (headOf i) (rowIn i) i
-  same = same-of (headOf i) i (rowIn i)
-
-  same-row : rowIn (bare i) ≡ rowIn i
-  same-row = ap₂ rowAt (same .first) (same .number) ∙ same-head (i .first) (i .number) .0
-
-  layout-bare : layout (bare i) ≡ layout i
+  layout-bare : layout latest (bare latest i) ≡ layout latest i
   unfolding layout
   layout-bare =
-      ap₂ (λ (x y : List Field). x ++ y) (ap₂ opcodeFields (same .first) (same .number) ∙ same-head (i .first) (i .number) .1)
-      (ap (λ (r : Row). fieldsOf r (bare i)) same-row ∙ same .fields)
+      ap₂ (λ (x y : List Field). x ++ y) (ap₂ opcodeFields (same latest i .first) (same latest i .number) ∙ same-head latest (i .first) (i .number) .1)
+      (ap (λ (r : Row). fieldsOf r (bare latest i)) (same-row latest i latest) ∙ same latest i .fields)
 
-  pub encoding-bare : encoding (bare i) ≡ encoding i
+  pub encoding-bare : encoding (bare latest i) ≡ encoding i
   unfolding encoding
   encoding-bare = ap written layout-bare
 
-  pub fault-bare : fault (bare i) ≡ fault i
-  fault-bare = ap (λ (r : Row). faultOf r (bare i)) same-row ∙ same .fault
-
 -- two instructions that agree on what they have are encoded alike: the same bytes, the same answer, the same buffer
-pub encoding-alike : (i j : Instr) → bare i ≡ bare j → (encoding i ≡ encoding j) × (fault i ≡ fault j)
-encoding-alike i j e = (sym (encoding-bare i) ∙ ap encoding e ∙ encoding-bare j, sym (fault-bare i) ∙ ap fault e ∙ fault-bare j)
+pub encoding-alike : (ver : ℕ) (i j : Instr) → bare latest i ≡ bare latest j → bare ver i ≡ bare ver j → (encoding i ≡ encoding j) × (fault ver i ≡ fault ver j)
+encoding-alike ver i j e f = (sym (encoding-bare i) ∙ ap encoding e ∙ encoding-bare j, sym (fault-bare ver i) ∙ ap (fault ver) f ∙ fault-bare ver j)
 
-pub encoded-alike : (i j : Instr) → bare i ≡ bare j → (out : List ℕ) → (encoded i out ≡ encoded j out) × (encodedIn i out ≡ encodedIn j out)
+pub encoded-alike : (ver : ℕ) (i j : Instr) → bare latest i ≡ bare latest j → bare ver i ≡ bare ver j → (out : List ℕ)
+    → (encoded ver i out ≡ encoded ver j out) × (encodedIn ver i out ≡ encodedIn ver j out)
 unfolding encoded encodedIn
-encoded-alike i j e out =
-    let a = encoding-alike i j e in
+encoded-alike ver i j e f out =
+    let a = encoding-alike ver i j e f in
     rw (a .0, a .1) ((refl, refl))

@@ -6,7 +6,6 @@ pub mod Ranges
 pub mod Unique
 -- What these and the functions' proofs lean on.
 pub mod Versions
-pub mod Stricter
 pub mod Classes
 pub mod Items
 pub mod Numbers

@@ -1,20 +1,17 @@
 -- What is read leads onward, to a place that is not before this one; what is refused has a code.
 use Prim.Native.Nat.{ℕ, zero, suc, _+_, _≤_, _^_}
-use mathlib.Core.Bool.{Bool, true, false, cond, _||_}
+use mathlib.Core.Bool.{Bool, true, false, cond}
 use mathlib.Core.List.{List}
-use mathlib.Core.Path.{_≡_, refl}
+use mathlib.Core.Path.{_≡_}
 use native.Mathlib.Omega.{arith}
-use lib.Dec.{ltb, leb, eqb}
+use lib.Dec.{ltb, leb}
 use lib.ListN.{length, getD}
-use borrow.Author.Tests.{eqb-false}
-use Rattle.card.specs.Card.{DONE, SHORT, LANE, ALIGN}
+use Rattle.card.specs.Card.{DONE, SHORT, KIND, LANE, ALIGN}
 use Rattle.leb128.specs.Number.{numberAt}
-use Rattle.leb128.specs.Shortest.{bytesOf}
 use Rattle.leb128.specs.declared.read.Leb.{Leb}
 use Rattle.leb128.specs.declared.read.Leb.the-variants.{Val, Short, Number}
-use Rattle.instr.specs.Decode.{Item, got, no, andRead, itemOf, numberItem, byteAt, laneAt, lanesAt, sixteenAt}
-use Rattle.instr.specs.Inner.Version.{judged, numberBy, exponentBy}
-use Rattle.instr.specs.declared.version.Version.{Version}
+use Rattle.opcode.specs.BlockType.{isBlockType}
+use Rattle.instr.specs.Decode.{Item, got, no, andRead, itemOf, numberItem, byteAt, laneAt, blockAt, exponentAt, lanesAt, sixteenAt}
 
 abbrev pub Onward : ℕ → Item → Type 0
 Onward at (got v q) = at ≤ q
@@ -29,33 +26,34 @@ module _ (at : ℕ) where
   read-onward (got v q) f h g = g v q h
   read-onward (no c l) f h g = h
 
-  module _ (ver : Version) (s : List ℕ) where
-    pub number-onward : (sign : Bool) (N p : ℕ) → at ≤ p → Onward at (numberBy ver sign N s p)
-    unfolding numberBy numberItem
+  module _ (s : List ℕ) where
+    pub number-onward : (sign : Bool) (N p : ℕ) → at ≤ p → Onward at (numberItem sign N s p)
+    unfolding numberItem
     number-onward sign N p h = by (numberAt sign N s p)
       where
-        test : (v n : ℕ) (t u : Bool) → eqb (ver .padded) DONE ≡ t → Onward at (cond (t || u) (got v (p + n)) (no (ver .padded) p))
-        test v n true u e = omega arith
-        test v n false true e = omega arith
-        test v n false false e = eqb-false (ver .padded) DONE e
-
-        by : (r : Leb) → Onward at (judged ver sign N p (itemOf (length s) p r))
-        by (Val v n) = test v n (eqb (ver .padded) DONE) (leb (p + n) (p + length (bytesOf sign N v))) refl
+        by : (r : Leb) → Onward at (itemOf (length s) p r)
+        by (Val v n) = omega arith
         by Short = λ z. omega (arith, z)
         by Number = λ z. omega (arith, z)
 
-    pub exponent-onward : (m p : ℕ) → at ≤ p → Onward at (exponentBy ver m s p)
-    unfolding exponentBy
+    pub exponent-onward : (m p : ℕ) → at ≤ p → Onward at (exponentAt m s p)
+    unfolding exponentAt
     exponent-onward m p h =
-        read-onward (numberBy ver false 32 s p) _ (number-onward false 32 p h) (λ a q l. cond-onward (leb (2 ^ a) m) a q ALIGN p l (λ z. omega (arith, z)))
+        read-onward (numberItem false 32 s p) _ (number-onward false 32 p h) (λ a q l. cond-onward (leb (2 ^ a) m) a q ALIGN p l (λ z. omega (arith, z)))
 
-  module _ (s : List ℕ) where
     pub lane-onward : (n p : ℕ) → at ≤ p → Onward at (laneAt n s p)
     unfolding laneAt byteAt
     lane-onward n p h =
         read-onward (cond (ltb p (length s)) (got (getD s p 0) (p + 1)) (no SHORT (length s))) _
         (cond-onward (ltb p (length s)) (getD s p 0) (p + 1) SHORT (length s) (omega arith) (λ z. omega (arith, z)))
         (λ b q l. cond-onward (ltb b n) b q LANE p l (λ z. omega (arith, z)))
+
+    pub block-onward : (p : ℕ) → at ≤ p → Onward at (blockAt s p)
+    unfolding blockAt byteAt
+    block-onward p h =
+        read-onward (cond (ltb p (length s)) (got (getD s p 0) (p + 1)) (no SHORT (length s))) _
+        (cond-onward (ltb p (length s)) (getD s p 0) (p + 1) SHORT (length s) (omega arith) (λ z. omega (arith, z)))
+        (λ b q l. cond-onward (isBlockType b) b q KIND p l (λ z. omega (arith, z)))
 
     pub lanes-onward : (k p : ℕ) → at ≤ p → Onward at (lanesAt k s p)
     unfolding lanesAt

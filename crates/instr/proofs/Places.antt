@@ -1,6 +1,6 @@
 -- What stands at a place of a file, and what stands behind it.
 use Prim.Native.Nat.{ℕ, _+_, _<_, _^_}
-use mathlib.Core.Bool.{Bool}
+use mathlib.Core.Bool.{Bool, true}
 use mathlib.Core.List.{List, [], _∷_, _++_, append-assoc}
 use mathlib.Core.Path.{_≡_, refl, sym, ap, _∙_}
 use native.Mathlib.Nat.{add-zero}
@@ -12,9 +12,10 @@ use Rattle.leb128.specs.Grammar.{Written}
 use Rattle.leb128.specs.Number.{numberAt}
 use Rattle.leb128.specs.declared.read.Leb.the-variants.{Val}
 use Rattle.leb128.proofs.Exact.{stands-reads}
+use Rattle.opcode.specs.BlockType.{isBlockType}
 use Rattle.instr.specs.Layout.{Below}
-use Rattle.instr.specs.Decode.{got, numberItem, byteAt, laneAt, lanesAt}
-use Rattle.instr.proofs.Items.{number-item, byte-there, lane-good}
+use Rattle.instr.specs.Decode.{got, numberItem, byteAt, laneAt, blockAt, lanesAt}
+use Rattle.instr.proofs.Items.{number-item, byte-there, lane-good, block-good}
 
 module _ (s : List ℕ) where
   pub past : (p : ℕ) (xs rest : List ℕ) → drop p s ≡ xs ++ rest → drop (p + length xs) s ≡ rest
@@ -43,6 +44,9 @@ module _ (s : List ℕ) where
 
     pub lane-back : (n : ℕ) → b < n → laneAt n s p ≡ got b (p + 1)
     lane-back n h = lane-good s p n inside (omega (arith, is)) ∙ ap (λ (x : ℕ). got x (p + 1)) is
+
+    pub block-back : isBlockType b ≡ true → blockAt s p ≡ got b (p + 1)
+    block-back h = block-good s p inside (ap isBlockType is ∙ h) ∙ ap (λ (x : ℕ). got x (p + 1)) is
 
   pub lanes-back : (xs : List ℕ) (p : ℕ) (rest : List ℕ) → drop p s ≡ xs ++ rest → Below 32 xs → lanesAt (length xs) s p ≡ got 0 (p + length xs)
   unfolding lanesAt

@@ -1,17 +1,18 @@
--- What decoding one instruction answers (01, "Numbers on the inspector's card": 2 and 7 to 11, and "Decoding one instruction from any
--- place"): from left to right, each item judged as soon as it is read.
+-- What decoding one instruction answers (01, "Numbers on the inspector's card": 2 and 7 to 11, "Decoding one instruction from any
+-- place"; 02, C-13: told the version, 4 first and 6 after 8): from left to right, each item judged as soon as it is read.
 use Prim.Native.Nat.{ℕ, zero, suc, _+_, _-_, _^_}
 use mathlib.Core.Bool.{Bool, true, false, cond}
 use mathlib.Core.List.{List}
 use lib.Dec.{ltb, leb, eqb}
 use lib.ListN.{length, getD, take, drop}
-use Rattle.card.specs.Card.{SHORT, OPCODE, FLOAT, NUMBER, LANE, ALIGN}
+use Rattle.card.specs.Card.{SHORT, VERSION, KIND, OPCODE, FLOAT, NUMBER, LANE, ALIGN}
 use Rattle.leb128.specs.Number.{numberAt}
 use Rattle.leb128.specs.declared.read.Leb.{Leb}
 use Rattle.leb128.specs.declared.read.Leb.the-variants.{Val, Short, Number}
-use Rattle.opcode.specs.Table.{Row, carried, float, unassigned, PREFIX, rowAt}
-use Rattle.opcode.specs.Immediate.{Immediates, nothing, index, word, long, memory, memoryLane, laneIndex, sixteenBytes, sixteenLanes, immediates, movedBy, lanesOf}
-use Rattle.instr.specs.Layout.{Head, head, zeros, instr, found}
+use Rattle.opcode.specs.BlockType.{isBlockType}
+use Rattle.opcode.specs.Table.{Row, carried, float, unassigned, known, PREFIX, rowAt}
+use Rattle.opcode.specs.Immediate.{Immediates, nothing, index, blockType, word, long, memory, memoryLane, laneIndex, sixteenBytes, sixteenLanes, immediates, movedBy, lanesOf}
+use Rattle.instr.specs.Layout.{Head, head, zeros, instr, blockInstr, found}
 use Rattle.instr.specs.declared.Instr.{Instr}
 use Rattle.instr.specs.declared.Decoded.{Decoded}
 
@@ -62,6 +63,10 @@ byteAt s at = cond (ltb at (length s)) (got (getD s at 0) (at + 1)) (no SHORT (l
 unfoldable pub laneAt : ℕ → List ℕ → ℕ → Item
 laneAt n s at = andRead (byteAt s at) (λ b next. cond (ltb b n) (got b next) (no LANE at))
 
+-- a block type; else KIND, at that byte
+unfoldable pub blockAt : List ℕ → ℕ → Item
+blockAt s at = andRead (byteAt s at) (λ b next. cond (isBlockType b) (got b next) (no KIND at))
+
 -- an exponent for m bytes; else ALIGN, at its first byte
 unfoldable pub exponentAt : ℕ → List ℕ → ℕ → Item
 exponentAt m s at = andRead (u32At s at) (λ a next. cond (leb (2 ^ a) m) (got a next) (no ALIGN at))
@@ -78,6 +83,7 @@ sixteenAt s at = cond (leb (at + 16) (length s)) (got 0 (at + 16)) (no SHORT (le
 unfoldable pub immediatesAt : Immediates → ℕ → ℕ → List ℕ → ℕ → ℕ → Head → Decoded
 immediatesAt nothing m n s at p h = done at p (instr h 0 0 0 0 0 0 zeros)
 immediatesAt index m n s at p h = andThen (u32At s p) (λ v q. done at q (instr h v 0 0 0 0 0 zeros))
+immediatesAt blockType m n s at p h = andThen (blockAt s p) (λ b q. done at q (blockInstr h b))
 immediatesAt word m n s at p h = andThen (s32At s p) (λ v q. done at q (instr h 0 v 0 0 0 0 zeros))
 immediatesAt long m n s at p h = andThen (s64At s p) (λ v q. done at q (instr h 0 0 v 0 0 0 zeros))
 immediatesAt memory m n s at p h =
@@ -102,8 +108,13 @@ bodyOf unassigned s at p h = refusal OPCODE at
 unfoldable pub opcodeNumber : ℕ → List ℕ → ℕ → Leb
 opcodeNumber first s p = cond (eqb first PREFIX) (numberAt false 32 s p) (Val 0 0)
 
-unfoldable pub decodeAt : List ℕ → ℕ → Decoded
-decodeAt s at =
+-- in a strip of this version
+unfoldable pub decodeAt : ℕ → List ℕ → ℕ → Decoded
+decodeAt ver s at =
     andThen (byteAt s at) (λ b p.
     andThen (itemOf (length s) p (opcodeNumber b s p)) (λ n q.
-    bodyOf (rowAt b n) s at q (head b n)))
+    bodyOf (rowAt ver b n) s at q (head b n)))
+
+-- decoding one instruction, told the version: 4 is asked first
+abbrev pub decodeIn : ℕ → List ℕ → ℕ → Decoded
+decodeIn ver s at = cond (known ver) (decodeAt ver s at) (refusal VERSION 3)

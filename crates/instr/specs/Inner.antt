@@ -1,4 +1,3 @@
 -- What only contracts inside this crate cite; no promise to a caller does.
 pub mod Steps
-pub mod Version
 pub mod Over

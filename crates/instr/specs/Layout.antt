@@ -8,8 +8,9 @@ use lib.ListN.{length, drop, replicate}
 use Rattle.card.specs.Card.{DONE}
 use Rattle.leb128.specs.Grammar.{Written}
 use Rattle.leb128.specs.Bits.{integer}
+use Rattle.opcode.specs.BlockType.{isBlockType}
 use Rattle.opcode.specs.Table.{Row, carried, float, unassigned, PREFIX, rowAt}
-use Rattle.opcode.specs.Immediate.{Immediates, nothing, index, word, long, memory, memoryLane, laneIndex, sixteenBytes, sixteenLanes, immediates, movedBy, lanesOf}
+use Rattle.opcode.specs.Immediate.{Immediates, nothing, index, blockType, word, long, memory, memoryLane, laneIndex, sixteenBytes, sixteenLanes, immediates, movedBy, lanesOf}
 use Rattle.instr.specs.declared.Instr.{Instr}
 use Rattle.instr.specs.declared.Decoded.{Decoded}
 
@@ -48,6 +49,7 @@ opcodeFields first n = raw (first ∷ []) ∷ cond (eqb first PREFIX) (u32 n ∷
 unfoldable pub immediateFields : Immediates → Instr → List Field
 immediateFields nothing i = []
 immediateFields index i = u32 (i .index) ∷ []
+immediateFields blockType i = raw (i .block ∷ []) ∷ []
 immediateFields word i = s32 (i .word) ∷ []
 immediateFields long i = s64 (i .long) ∷ []
 immediateFields memory i = u32 (i .align) ∷ u32 (i .offset) ∷ []
@@ -61,22 +63,23 @@ fieldsOf (carried c) i = immediateFields (immediates c) i
 fieldsOf float i = []
 fieldsOf unassigned i = []
 
--- what the table says of an instruction
-abbrev pub rowIn : Instr → Row
-rowIn i = rowAt (i .first) (i .number)
+-- what the table says of an instruction, in a strip of this version
+abbrev pub rowIn : ℕ → Instr → Row
+rowIn ver i = rowAt ver (i .first) (i .number)
 
-unfoldable pub layout : Instr → List Field
-layout i = opcodeFields (i .first) (i .number) ++ fieldsOf (rowIn i) i
+unfoldable pub layout : ℕ → Instr → List Field
+layout ver i = opcodeFields (i .first) (i .number) ++ fieldsOf (rowIn ver i) i
 
 -- every one of them is below n
 abbrev pub Below : ℕ → List ℕ → Type 0
 Below n [] = Unit {0}
 Below n (x ∷ xs) = (x < n) × Below n xs
 
--- lanes and exponent are allowed: m bytes are moved, a lane index chooses among n
+-- block type, lanes and exponent are allowed: m bytes are moved, a lane index chooses among n
 unfoldable pub AllowedIn : Immediates → ℕ → ℕ → Instr → Type 0
 AllowedIn nothing m n i = Unit {0}
 AllowedIn index m n i = Unit {0}
+AllowedIn blockType m n i = isBlockType (i .block) ≡ true
 AllowedIn word m n i = Unit {0}
 AllowedIn long m n i = Unit {0}
 AllowedIn memory m n i = 2 ^ (i .align) ≤ m
@@ -101,8 +104,9 @@ head b n = record { first = b; number = n }
 abbrev pub zeros : List ℕ
 zeros = replicate 16 0
 
-abbrev pub instr : Head → ℕ → ℕ → ℕ → ℕ → ℕ → ℕ → List ℕ → Instr
-instr h x w v a o l bs =
+-- with these immediates
+abbrev pub made : Head → ℕ → ℕ → ℕ → ℕ → ℕ → ℕ → ℕ → List ℕ → Instr
+made h x w v a o l b bs =
     record {
       first = h .first;
       number = h .number;
@@ -112,13 +116,22 @@ instr h x w v a o l bs =
       align = a;
       offset = o;
       lane = l;
+      block = b;
       bytes = bs;
     }
+
+-- one without a block type, and one with nothing else
+abbrev pub instr : Head → ℕ → ℕ → ℕ → ℕ → ℕ → ℕ → List ℕ → Instr
+instr h x w v a o l bs = made h x w v a o l 0 bs
+
+abbrev pub blockInstr : Head → ℕ → Instr
+blockInstr h b = made h 0 0 0 0 0 0 b zeros
 
 -- the instruction with the immediates that it lacks as zero
 abbrev pub kept : Immediates → Head → Instr → Instr
 kept nothing h i = instr h 0 0 0 0 0 0 zeros
 kept index h i = instr h (i .index) 0 0 0 0 0 zeros
+kept blockType h i = blockInstr h (i .block)
 kept word h i = instr h 0 (i .word) 0 0 0 0 zeros
 kept long h i = instr h 0 0 (i .long) 0 0 0 zeros
 kept memory h i = instr h 0 0 0 (i .align) (i .offset) 0 zeros
@@ -135,8 +148,8 @@ keptOf unassigned h i = instr h 0 0 0 0 0 0 zeros
 abbrev pub headOf : Instr → Head
 headOf i = head (i .first) (cond (eqb (i .first) PREFIX) (i .number) 0)
 
-abbrev pub bare : Instr → Instr
-bare i = keptOf (rowIn i) (headOf i) i
+abbrev pub bare : ℕ → Instr → Instr
+bare ver i = keptOf (rowIn ver i) (headOf i) i
 
 -- the fields are of their types, as those of every value that the program holds
 pub record Typed (i : Instr) : Type 0 where
@@ -148,19 +161,20 @@ pub record Typed (i : Instr) : Type 0 where
   pub align : i .align < 2 ^ 32
   pub offset : i .offset < 2 ^ 32
   pub lane : i .lane < 2 ^ 8
+  pub block : i .block < 2 ^ 8
   pub sixteen : length (i .bytes) ≡ 16
   pub bytes : Below (2 ^ 8) (i .bytes)
 
--- at this place of s stands the instruction i, n bytes long
-pub record Stands (s : List ℕ) (at : ℕ) (i : Instr) (n : ℕ) : Type 0 where
+-- at this place of s, a strip of this version, stands the instruction i, n bytes long
+pub record Stands (ver : ℕ) (s : List ℕ) (at : ℕ) (i : Instr) (n : ℕ) : Type 0 where
   pub typed : Typed i
-  pub allowed : Allowed (rowIn i) i
-  pub lacking : bare i ≡ i
+  pub allowed : Allowed (rowIn ver i) i
+  pub lacking : bare ver i ≡ i
   pub bytes : List ℕ
   pub rest : List ℕ
   pub here : drop at s ≡ bytes ++ rest
   pub long : length bytes ≡ n
-  pub fields : InOrder Writes (layout i) bytes
+  pub fields : InOrder Writes (layout ver i) bytes
 
 -- the answer that it does
 abbrev pub found : ℕ → Instr → Decoded

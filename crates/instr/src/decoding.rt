@@ -2,6 +2,7 @@
 use crate::Decoded;
 use crate::Fetched;
 use crate::Instr;
+use crate::immediates::with_block;
 use crate::immediates::with_bytes;
 use crate::immediates::with_index;
 use crate::immediates::with_lane;
@@ -11,7 +12,6 @@ use crate::immediates::with_memory;
 use crate::immediates::with_word;
 use crate::number::Read;
 use crate::number::u32_at;
-use crate::version::Version;
 ghost use mathlib.Core.Path.{_≡_};
 ghost use Prim.Native.Nat.{_≤_};
 ghost use lib.ListN.{length};
@@ -19,37 +19,33 @@ ghost use Rattle.opcode.specs.Table.{Row};
 ghost use Rattle.opcode.specs.Number.{idOf};
 ghost use Rattle.opcode.specs.Entry.{entryOf, movedIn};
 ghost use Rattle.instr.specs.Layout.{head, instr};
-ghost use Rattle.instr.specs.Decode.{refusal, done, decodeAt};
+ghost use Rattle.instr.specs.Decode.{refusal, done, itemOf, opcodeNumber, bodyOf, decodeIn};
 ghost use Rattle.instr.specs.Fetch.{fetchOf};
-ghost use Rattle.instr.specs.Inner.Version.{item, opcodeBy, bodyBy, decodeBy};
+ghost use Rattle.instr.specs.Inner.Steps.{item};
 
-pub fn decode(s: &[u8], at: usize) -> Decoded
-    ensures { λ r. ⌜ r ≡ decodeAt (now (s .entry)) at ⌝ }
+pub fn decode(version: u16, s: &[u8], at: usize) -> Decoded
+    ensures { λ r. ⌜ r ≡ decodeIn version (now (s .entry)) at ⌝ }
 {
-    let f = fetch(s, at);
+    let f = fetch(version, s, at);
     f.decoded
 }
 
-pub fn fetch(s: &[u8], at: usize) -> Fetched
-    ensures { λ r. ⌜ r ≡ fetchOf (decodeAt (now (s .entry)) at) ⌝ }
+pub fn fetch(version: u16, s: &[u8], at: usize) -> Fetched
+    ensures { λ r. ⌜ r ≡ fetchOf (decodeIn version (now (s .entry)) at) ⌝ }
 {
-    fetch_by(crate::version::ONE, s, at)
-}
-
-// By a version's rules.
-fn fetch_by(version: Version, s: &[u8], at: usize) -> Fetched
-    ensures { λ r. ⌜ r ≡ fetchOf (decodeBy version (now (s .entry)) at) ⌝ }
-{
+    if !opcode::is_known(version) {
+        return not_found(refused(card::VERSION, 3));
+    }
     if s.len() <= at {
         return not_found(refused(card::SHORT, s.len()));
     }
     let first = s[at];
-    match opcode_number(version, s, at + 1, first) {
+    match opcode_number(s, at + 1, first) {
         Read::Got(n, p) => {
             let number = n as u32;
-            let id = crate::version::id_by(version, first, number);
+            let id = crate::id_in(version, first, number);
             let entry = opcode::entry(id);
-            let decoded = body(version, s, at, p, first, number, entry);
+            let decoded = body(s, at, p, first, number, entry);
             if decoded.code != card::DONE {
                 return not_found(decoded);
             }
@@ -87,6 +83,7 @@ pub(crate) fn refused(code: u8, place: usize) -> Decoded
             align: 0,
             offset: 0,
             lane: 0,
+            block: 0,
             bytes: [0; 16],
         },
     }
@@ -122,45 +119,37 @@ pub(crate) fn whole(
             align,
             offset,
             lane,
+            block: 0,
             bytes,
         },
     }
 }
 
 // The number after FD; after another byte there is none, and it is 0.
-pub(crate) fn opcode_number(version: Version, s: &[u8], p: usize, first: u8) -> Read
-    ensures { λ r. ⌜ item r ≡ opcodeBy version first (now (s .entry)) p ⌝ }
+pub(crate) fn opcode_number(s: &[u8], p: usize, first: u8) -> Read
+    ensures { λ r. ⌜ item r ≡ itemOf (length (now (s .entry))) p (opcodeNumber first (now (s .entry)) p) ⌝ }
 {
     if first == opcode::PREFIX {
-        u32_at(version, s, p)
+        u32_at(s, p)
     } else {
         Read::Got(0, p)
     }
 }
 
 // What follows the opcode. One caller, so that it becomes part of it; MEMORY and MEMORY_LANE share an arm for the same reason.
-fn body(
-    version: Version,
-    s: &[u8],
-    at: usize,
-    p: usize,
-    first: u8,
-    number: u32,
-    entry: u64,
-) -> Decoded
+fn body(s: &[u8], at: usize, p: usize, first: u8, number: u32, entry: u64) -> Decoded
     requires { ⌜ (at ≤ p) × (p ≤ length (now s)) × (movedIn entry ≤ 16) ⌝ }
-    ensures { λ r. ⌜ ((row : Row) → entry ≡ entryOf row → r ≡ bodyBy version row (now (s .entry)) at p (head first number)) ⌝ }
+    ensures { λ r. ⌜ ((row : Row) → entry ≡ entryOf row → r ≡ bodyOf row (now (s .entry)) at p (head first number)) ⌝ }
 {
     let class = opcode::immediates(entry);
     match class {
         opcode::NOTHING => whole(at, p, first, number, 0, 0, 0, 0, 0, 0, [0; 16]),
-        opcode::INDEX => with_index(version, s, at, p, first, number),
-        opcode::WORD => with_word(version, s, at, p, first, number),
-        opcode::LONG => with_long(version, s, at, p, first, number),
+        opcode::INDEX => with_index(s, at, p, first, number),
+        opcode::WORD => with_word(s, at, p, first, number),
+        opcode::LONG => with_long(s, at, p, first, number),
         opcode::MEMORY | opcode::MEMORY_LANE => {
             let laned = class == opcode::MEMORY_LANE;
             with_memory(
-                version,
                 s,
                 at,
                 p,
@@ -174,6 +163,7 @@ fn body(
         opcode::LANE => with_lane(s, at, p, first, number, opcode::lanes(entry), 0, 0),
         opcode::BYTES => with_bytes(s, at, p, first, number),
         opcode::LANES => with_lanes(s, at, p, first, number),
+        opcode::BLOCK_TYPE => with_block(s, at, p, first, number),
         opcode::FLOAT => refused(card::FLOAT, at),
         _ => refused(card::OPCODE, at),
     }

@@ -1,7 +1,6 @@
 // Encoding: what is wrong, then the room, then the bytes.
 use crate::Encoded;
 use crate::Instr;
-use crate::version::Version;
 use leb128::Wrote;
 ghost use mathlib.Core.Path.{_≡_};
 ghost use Prim.Native.Nat.{_+_, _<_, _≤_};
@@ -9,27 +8,26 @@ ghost use mathlib.Core.Bool.{true, false};
 ghost use mathlib.Core.List.{[], _∷_};
 ghost use lib.ListN.{length};
 ghost use Rattle.leb128.specs.Shortest.{bytesOf};
+ghost use Rattle.opcode.specs.Table.{latest};
 ghost use Rattle.opcode.specs.Number.{classOf, rowOf};
 ghost use Rattle.instr.specs.Layout.{opcodeFields, fieldsOf, rowIn};
 ghost use Rattle.instr.specs.Encode.{written, encoding, allBelow, exponentFault, faultOf, encoded, encodedIn};
 ghost use Rattle.instr.specs.Inner.Steps.{Put};
-ghost use Rattle.instr.specs.Inner.Version.{encodedBy, encodedInBy};
 
-pub fn encode(i: Instr, out: &mut [u8]) -> Encoded
-    ensures answer { λ r. ⌜ r ≡ encoded i (now (out .entry)) ⌝ }
-    ensures bytes { λ r. ⌜ now (out .exit) ≡ encodedIn i (now (out .entry)) ⌝ }
+pub fn encode(version: u16, i: Instr, out: &mut [u8]) -> Encoded
+    ensures answer { λ r. ⌜ r ≡ encoded version i (now (out .entry)) ⌝ }
+    ensures bytes { λ r. ⌜ now (out .exit) ≡ encodedIn version i (now (out .entry)) ⌝ }
 {
-    encode_by(crate::version::ONE, i, out)
-}
-
-// By a version's rules: what it does not carry is OPCODE.
-fn encode_by(version: Version, i: Instr, out: &mut [u8]) -> Encoded
-    ensures answer { λ r. ⌜ r ≡ encodedBy version i (now (out .entry)) ⌝ }
-    ensures bytes { λ r. ⌜ now (out .exit) ≡ encodedInBy version i (now (out .entry)) ⌝ }
-{
+    if !opcode::is_known(version) {
+        return Encoded {
+            code: card::VERSION,
+            place: 0,
+            len: 0,
+        };
+    }
     let first = i.first;
     let number = i.number;
-    let id = crate::version::id_by(version, first, number);
+    let id = crate::id_in(version, first, number);
     let wrong = fault_of(id, i);
     if wrong != card::DONE {
         return Encoded {
@@ -67,7 +65,7 @@ pub fn encoded_len(i: Instr) -> usize
     opcode_len(first, number) + immediates_len(opcode::immediates(entry), i)
 }
 
-// A lane index is asked about before the exponent.
+// A block type, a lane index, then the exponent.
 fn fault_of(id: u32, i: Instr) -> u8
     ensures { λ r. ⌜ r ≡ faultOf (rowOf id) i ⌝ }
 {
@@ -91,6 +89,13 @@ fn fault_of(id: u32, i: Instr) -> u8
         opcode::LANES => {
             let b = i.bytes;
             if all_lanes(b) { card::DONE } else { card::LANE }
+        }
+        opcode::BLOCK_TYPE => {
+            if crate::is_block_type(i.block) {
+                card::DONE
+            } else {
+                card::KIND
+            }
         }
         opcode::FLOAT => card::FLOAT,
         opcode::UNASSIGNED => card::OPCODE,
@@ -136,8 +141,8 @@ fn opcode_len(first: u8, number: u32) -> usize
 }
 
 fn immediates_len(class: u8, i: Instr) -> usize
-    requires { ⌜ class ≡ classOf (rowIn i) ⌝ }
-    ensures { λ r. ⌜ (r ≡ length (written (fieldsOf (rowIn i) i))) × (r ≤ 16) ⌝ }
+    requires { ⌜ class ≡ classOf (rowIn latest i) ⌝ }
+    ensures { λ r. ⌜ (r ≡ length (written (fieldsOf (rowIn latest i) i))) × (r ≤ 16) ⌝ }
 {
     match class {
         opcode::INDEX => leb128::len_u32(i.index),
@@ -148,6 +153,7 @@ fn immediates_len(class: u8, i: Instr) -> usize
         opcode::LANE => 1,
         opcode::BYTES => 16,
         opcode::LANES => 16,
+        opcode::BLOCK_TYPE => 1,
         _ => 0,
     }
 }
@@ -165,8 +171,8 @@ fn put_opcode(out: &mut [u8], first: u8, number: u32) -> usize
 }
 
 fn put_immediates(out: &mut [u8], at: usize, class: u8, i: Instr) -> usize
-    requires { ⌜ (class ≡ classOf (rowIn i)) × (at + length (written (fieldsOf (rowIn i) i)) ≤ length (now out)) ⌝ }
-    ensures { λ r. ⌜ Put (now (out .entry)) at (written (fieldsOf (rowIn i) i)) r (now (out .exit)) ⌝ }
+    requires { ⌜ (class ≡ classOf (rowIn latest i)) × (at + length (written (fieldsOf (rowIn latest i) i)) ≤ length (now out)) ⌝ }
+    ensures { λ r. ⌜ Put (now (out .entry)) at (written (fieldsOf (rowIn latest i) i)) r (now (out .exit)) ⌝ }
 {
     match class {
         opcode::INDEX => put_u32(out, at, i.index),
@@ -190,6 +196,7 @@ fn put_immediates(out: &mut [u8], at: usize, class: u8, i: Instr) -> usize
             let b = i.bytes;
             put_bytes(out, at, b)
         }
+        opcode::BLOCK_TYPE => put_byte(out, at, i.block),
         _ => at,
     }
 }

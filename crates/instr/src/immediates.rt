@@ -6,7 +6,6 @@ use crate::number::Read;
 use crate::number::s32_at;
 use crate::number::s64_at;
 use crate::number::u32_at;
-use crate::version::Version;
 ghost use mathlib.Core.Path.{_≡_};
 ghost use Prim.Native.Nat.{_+_, _≤_};
 ghost use lib.ListN.{length, take, drop};
@@ -14,61 +13,38 @@ ghost use Rattle.opcode.specs.Immediate as Class;
 ghost use Rattle.instr.specs.Layout.{head};
 ghost use Rattle.instr.specs.Decode.{immediatesAt};
 ghost use Rattle.instr.specs.Inner.Steps.{memoryClass, laneEnds, GoodUpTo};
-ghost use Rattle.instr.specs.Inner.Version.{immediatesBy};
 
-pub(crate) fn with_index(
-    version: Version,
-    s: &[u8],
-    at: usize,
-    p: usize,
-    first: u8,
-    number: u32,
-) -> Decoded
+pub(crate) fn with_index(s: &[u8], at: usize, p: usize, first: u8, number: u32) -> Decoded
     requires { ⌜ at ≤ p ⌝ }
-    ensures { λ r. ⌜ r ≡ immediatesBy version Class.index 0 0 (now (s .entry)) at p (head first number) ⌝ }
+    ensures { λ r. ⌜ r ≡ immediatesAt Class.index 0 0 (now (s .entry)) at p (head first number) ⌝ }
 {
-    match u32_at(version, s, p) {
+    match u32_at(s, p) {
         Read::Got(v, q) => whole(at, q, first, number, v as u32, 0, 0, 0, 0, 0, [0; 16]),
         Read::No(code, place) => refused(code, place),
     }
 }
 
-pub(crate) fn with_word(
-    version: Version,
-    s: &[u8],
-    at: usize,
-    p: usize,
-    first: u8,
-    number: u32,
-) -> Decoded
+pub(crate) fn with_word(s: &[u8], at: usize, p: usize, first: u8, number: u32) -> Decoded
     requires { ⌜ at ≤ p ⌝ }
-    ensures { λ r. ⌜ r ≡ immediatesBy version Class.word 0 0 (now (s .entry)) at p (head first number) ⌝ }
+    ensures { λ r. ⌜ r ≡ immediatesAt Class.word 0 0 (now (s .entry)) at p (head first number) ⌝ }
 {
-    match s32_at(version, s, p) {
+    match s32_at(s, p) {
         Read::Got(v, q) => whole(at, q, first, number, 0, v as u32, 0, 0, 0, 0, [0; 16]),
         Read::No(code, place) => refused(code, place),
     }
 }
 
-pub(crate) fn with_long(
-    version: Version,
-    s: &[u8],
-    at: usize,
-    p: usize,
-    first: u8,
-    number: u32,
-) -> Decoded
+pub(crate) fn with_long(s: &[u8], at: usize, p: usize, first: u8, number: u32) -> Decoded
     requires { ⌜ at ≤ p ⌝ }
-    ensures { λ r. ⌜ r ≡ immediatesBy version Class.long 0 0 (now (s .entry)) at p (head first number) ⌝ }
+    ensures { λ r. ⌜ r ≡ immediatesAt Class.long 0 0 (now (s .entry)) at p (head first number) ⌝ }
 {
-    match s64_at(version, s, p) {
+    match s64_at(s, p) {
         Read::Got(v, q) => whole(at, q, first, number, 0, 0, v, 0, 0, 0, [0; 16]),
         Read::No(code, place) => refused(code, place),
     }
 }
 
 pub(crate) fn with_memory(
-    version: Version,
     s: &[u8],
     at: usize,
     p: usize,
@@ -79,15 +55,15 @@ pub(crate) fn with_memory(
     laned: bool,
 ) -> Decoded
     requires { ⌜ (at ≤ p) × (moved ≤ 16) ⌝ }
-    ensures { λ r. ⌜ r ≡ immediatesBy version (memoryClass laned) moved lanes (now (s .entry)) at p (head first number) ⌝ }
+    ensures { λ r. ⌜ r ≡ immediatesAt (memoryClass laned) moved lanes (now (s .entry)) at p (head first number) ⌝ }
 {
-    match u32_at(version, s, p) {
+    match u32_at(s, p) {
         Read::Got(a, q) => {
             let align = a as u32;
             if !crate::exponent_fits(align, moved) {
                 return refused(card::ALIGN, p);
             }
-            match u32_at(version, s, q) {
+            match u32_at(s, q) {
                 Read::Got(o, next) => {
                     let offset = o as u32;
                     if laned {
@@ -137,6 +113,24 @@ pub(crate) fn with_lane(
         )
     } else {
         refused(card::LANE, p)
+    }
+}
+
+// A block type is one byte.
+pub(crate) fn with_block(s: &[u8], at: usize, p: usize, first: u8, number: u32) -> Decoded
+    requires { ⌜ at ≤ p ⌝ }
+    ensures { λ r. ⌜ r ≡ immediatesAt Class.blockType 0 0 (now (s .entry)) at p (head first number) ⌝ }
+{
+    if s.len() <= p {
+        return refused(card::SHORT, s.len());
+    }
+    let block = s[p];
+    if crate::is_block_type(block) {
+        let mut d = whole(at, p + 1, first, number, 0, 0, 0, 0, 0, 0, [0; 16]);
+        d.instr.block = block;
+        d
+    } else {
+        refused(card::KIND, p)
     }
 }
 

@@ -1,7 +1,7 @@
 // Instructions decoded, and what was decoded encoded again. Three lines a case: the answer and the instruction; the answer and the buffer,
 // EE where nothing was written; what scanning answers, the kinds that the table has for it, and the id that fetching tells. stdout was
-// worked out from documents 01 and 002 by a decoder and an encoder written for that in another language, its kinds by the table of bench/,
-// with no use of this code.
+// worked out from documents 01, 02 and 002 by a decoder and an encoder written for that in another language, its kinds by the table of
+// bench/, with no use of this code. Version 1 where none is named.
 use instr::Fetched;
 use instr::Instr;
 use instr::Scanned;
@@ -13,6 +13,10 @@ fn main() {
     places();
     cut();
     structs();
+    blocks();
+    not_yet();
+    unknown();
+    orders();
 }
 
 // Each of the 187 once, those with immediates at the largest exponent and lane.
@@ -207,11 +211,138 @@ fn structs() {
     small(253, 12, 0, 0, 0, 0, 0, 0, 7);
 }
 
+// What version 2 adds: each block type and other bytes, indices, the ends of the file; and what it has of version 1.
+fn blocks() {
+    in_version(2, b"\x02\x40", 0);
+    in_version(2, b"\x02\x7F", 0);
+    in_version(2, b"\x02\x7E", 0);
+    in_version(2, b"\x02\x7B", 0);
+    in_version(2, b"\x02\x7D", 0);
+    in_version(2, b"\x02\x00\x40", 0);
+    in_version(2, b"\x02\xC0\x00", 0);
+    in_version(2, b"\x02", 0);
+    in_version(2, b"\x03\x40", 0);
+    in_version(2, b"\x03\x7F", 0);
+    in_version(2, b"\x03\x7E", 0);
+    in_version(2, b"\x03\x7B", 0);
+    in_version(2, b"\x03\x41", 0);
+    in_version(2, b"\x03", 0);
+    in_version(2, b"\x0B\x02\x7F\x0B", 1);
+    in_version(2, b"\x0B\x03\xFF", 1);
+    in_version(2, b"\x0C\x00", 0);
+    in_version(2, b"\x0C\x20", 0);
+    in_version(2, b"\x0C\x80\x01", 0);
+    in_version(2, b"\x0C\x82\x80\x00", 0);
+    in_version(2, b"\x0C\xFF\xFF\xFF\xFF\x0F", 0);
+    in_version(2, b"\x0C\xFF\xFF\xFF\xFF\x10", 0);
+    in_version(2, b"\x0C", 0);
+    in_version(2, b"\x0C\x80", 0);
+    in_version(2, b"\x0D\x00", 0);
+    in_version(2, b"\x0D\x7F", 0);
+    in_version(2, b"\x0D\x80\x02", 0);
+    in_version(2, b"\x0D\x80\x80\x80\x80\x80", 0);
+    in_version(2, b"\x0D", 0);
+    in_version(2, b"\x0D\xFF\xFF", 0);
+    in_version(2, b"\x45", 0);
+    in_version(2, b"\x49\x45", 0);
+    in_version(2, b"\x49\x45", 1);
+    in_version(2, b"\x45", 1);
+    in_version(2, b"", 0);
+    in_version(2, b"\x04\x40", 0);
+    in_version(2, b"\x05", 0);
+    in_version(2, b"\x0E\x00\x00", 0);
+    in_version(2, b"\x0F", 0);
+    in_version(2, b"\x46", 0);
+    in_version(2, b"\x48", 0);
+    in_version(2, b"\x4A", 0);
+    in_version(2, b"\x0B", 0);
+    in_version(2, b"\x20\xA0\x01", 0);
+    in_version(2, b"\x41\x98\x84\x7C", 0);
+    in_version(2, b"\x6A", 0);
+    in_version(2, b"\xFD\x54\x00\x54\x0F", 0);
+    in_version(2, b"\xFD\xEE\x80\x80\x80\x00", 0);
+    in_version(2, b"\xFD\x00\x05\x00", 0);
+    in_version(2, b"\xFD\x13", 0);
+    in_version(2, b"\xFD\x9A\x01", 0);
+    in_version(2, b"\xFD\x80\x02", 0);
+}
+
+// Version 1 has none of them, whatever follows or is missing.
+fn not_yet() {
+    at_place(b"\x02\x40", 0);
+    at_place(b"\x02\x41", 0);
+    at_place(b"\x02", 0);
+    at_place(b"\x03\x7F", 0);
+    at_place(b"\x03", 0);
+    at_place(b"\x0C\x00", 0);
+    at_place(b"\x0C\xFF\xFF\xFF\xFF\x10", 0);
+    at_place(b"\x0D\x00", 0);
+    at_place(b"\x45", 0);
+    at_place(b"\x0B\x49", 1);
+}
+
+// No such version: asked before all else.
+fn unknown() {
+    in_version(0, b"\x0B", 0);
+    in_version(0, b"\xFD\x0E", 0);
+    in_version(0, b"", 0);
+    in_version(3, b"\x0B", 0);
+    in_version(3, b"\x02\x40", 0);
+    in_version(3, b"\x00", 0);
+    in_version(3, b"\x0B", 9);
+    in_version(65535, b"\x6A", 0);
+    in_version(65535, b"\x02", 0);
+}
+
+// Encoding asks 4, 7, 8, 6, 10, 11, 24, each before the others: all that follows is wrong too. What an instruction lacks is not read.
+fn orders() {
+    judged(0, 0, 0, 9, 99, 65);
+    judged(3, 0, 0, 9, 99, 65);
+    judged(3, 11, 0, 9, 99, 65);
+    judged(65535, 11, 0, 0, 0, 64);
+    judged(2, 0, 0, 9, 99, 65);
+    judged(2, 4, 0, 9, 99, 64);
+    judged(2, 253, 154, 9, 99, 65);
+    judged(2, 253, 256, 9, 99, 65);
+    judged(1, 2, 0, 9, 99, 65);
+    judged(1, 3, 0, 9, 99, 64);
+    judged(1, 12, 0, 9, 99, 64);
+    judged(1, 13, 0, 9, 99, 64);
+    judged(1, 69, 0, 9, 99, 64);
+    judged(1, 73, 0, 9, 99, 64);
+    judged(2, 253, 228, 9, 99, 65);
+    judged(2, 2, 0, 9, 99, 65);
+    judged(2, 3, 0, 9, 99, 125);
+    judged(2, 2, 0, 9, 99, 0);
+    judged(2, 253, 84, 9, 99, 65);
+    judged(2, 253, 13, 9, 99, 65);
+    judged(2, 253, 84, 9, 15, 65);
+    judged(2, 253, 0, 9, 99, 65);
+    judged(2, 253, 84, 0, 15, 65);
+    judged(2, 2, 0, 9, 99, 64);
+    judged(2, 3, 0, 9, 99, 123);
+    judged(2, 12, 0, 9, 99, 65);
+    judged(2, 13, 0, 9, 99, 65);
+    judged(2, 69, 0, 9, 99, 65);
+    judged(2, 73, 0, 9, 99, 65);
+    judged(2, 11, 0, 9, 99, 65);
+    judged(1, 11, 0, 9, 99, 65);
+    written(2, any(2, 0, 9, 99, 126));
+    written(2, any(3, 1, 9, 99, 127));
+    written(2, any(12, 0, 9, 99, 65));
+    written(2, any(13, 0, 9, 99, 65));
+    written(2, any(69, 2, 9, 99, 65));
+    written(2, any(73, 3, 9, 99, 65));
+    written(2, any(253, 84, 0, 15, 65));
+    written(1, any(12, 0, 9, 99, 64));
+    written(3, any(12, 0, 9, 99, 64));
+}
+
 // Instructions one after the other.
 fn stream(s: &[u8]) {
     let mut at: usize = 0;
     while at < s.len() {
-        let n = told(s, at);
+        let n = told(1, s, at);
         if n == 0 {
             break;
         }
@@ -223,7 +354,11 @@ fn stream(s: &[u8]) {
 }
 
 fn at_place(s: &[u8], at: usize) {
-    told(s, at);
+    told(1, s, at);
+}
+
+fn in_version(version: u16, s: &[u8], at: usize) {
+    told(version, s, at);
 }
 
 fn cuts(s: &[u8]) {
@@ -245,7 +380,10 @@ fn encodes(
     lane: u8,
     byte: u8,
 ) {
-    written(made(first, number, index, word, long, align, offset, lane, byte));
+    written(
+        1,
+        made(first, number, index, word, long, align, offset, lane, byte),
+    );
 }
 
 fn small(
@@ -261,12 +399,29 @@ fn small(
 ) {
     let mut out = [0xEEu8; 2];
     let e = instr::encode(
+        1,
         made(first, number, index, word, long, align, offset, lane, byte),
         &mut out,
     );
     answer(e.code, e.place, e.len);
     hex(&out);
     end_line();
+}
+
+// Into one byte of room.
+fn judged(version: u16, first: u8, number: u32, align: u32, lane: u8, block: u8) {
+    let mut out = [0xEEu8; 1];
+    let e = instr::encode(version, any(first, number, align, lane, block), &mut out);
+    answer(e.code, e.place, e.len);
+    hex(&out);
+    end_line();
+}
+
+// With an index of two bytes, and nothing zero but what is asked for.
+fn any(first: u8, number: u32, align: u32, lane: u8, block: u8) -> Instr {
+    let mut i = made(first, number, 300, 1, 1, align, 128, lane, 255);
+    i.block = block;
+    i
 }
 
 fn made(
@@ -289,12 +444,13 @@ fn made(
         align,
         offset,
         lane,
+        block: 0,
         bytes: [byte; 16],
     }
 }
 
-fn told(s: &[u8], at: usize) -> usize {
-    let d = instr::decode(s, at);
+fn told(version: u16, s: &[u8], at: usize) -> usize {
+    let d = instr::decode(version, s, at);
     answer(d.code, d.place, d.len);
     let i = d.instr;
     decimal(i.first as u64);
@@ -305,17 +461,18 @@ fn told(s: &[u8], at: usize) -> usize {
     decimal(i.align as u64);
     decimal(i.offset as u64);
     decimal(i.lane as u64);
+    decimal(i.block as u64);
     sixteen(i);
     end_line();
-    written(i);
-    scanned(instr::scan(s, at));
-    fetched(instr::fetch(s, at));
+    written(version, i);
+    scanned(instr::scan(version, s, at));
+    fetched(instr::fetch(version, s, at));
     d.len
 }
 
 fn scanned(d: Scanned) {
     answer(d.code, d.place, d.len);
-    decimal(d.index as u64);
+    decimal(d.immediate as u64);
     decimal(d.entry / 0x1_0000_0000);
 }
 
@@ -329,9 +486,9 @@ fn sixteen(i: Instr) {
     hex(&b);
 }
 
-fn written(i: Instr) {
+fn written(version: u16, i: Instr) {
     let mut out = [0xEEu8; 24];
-    let e = instr::encode(i, &mut out);
+    let e = instr::encode(version, i, &mut out);
     answer(e.code, e.place, e.len);
     hex(&out);
     end_line();

@@ -23,6 +23,10 @@ resultLimit = 4
 abbrev pub stackLimit : ℕ
 stackLimit = 64
 
+-- blocks inside blocks, the strip itself not counted
+abbrev pub nestLimit : ℕ
+nestLimit = 32
+
 -- the bytes that a value takes on the stack, in arguments and in results
 abbrev pub slot : ℕ
 slot = 16

@@ -16,6 +16,9 @@ pub const RESULTS: usize = 4;
 // Values on the operand stack.
 pub const STACK: usize = 64;
 
+// Blocks inside blocks, the strip itself not counted.
+pub const NEST: usize = 32;
+
 // The bytes that a value takes on the stack, in arguments and in results.
 pub const SLOT: usize = 16;
 

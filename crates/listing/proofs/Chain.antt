@@ -8,7 +8,7 @@ use Rattle.text.specs.Decimal.{decimal, spelled}
 use Rattle.text.specs.Words.{blank, newline, joined}
 use Rattle.text.specs.Append.{Appends}
 use Rattle.opcode.specs.Kind.{Kind}
-use Rattle.opcode.specs.Table.{carried}
+use Rattle.opcode.specs.Table.{latest, carried}
 use Rattle.opcode.specs.Number.{classOf, nameOf}
 use Rattle.opcode.specs.Entry.{classIn}
 use Rattle.opcode.proofs.Entries.{class-in}
@@ -32,7 +32,7 @@ module _ {kinds : List ℕ} {depth id entry : ℕ} {i : Instr} {room : ℕ} (w :
       subst Lettered (sym name-is)
       (record { few = name-short (i .first) (i .number) (w .typed .first); letters = λ k l. omega (arith, letters-at (mnemonic i) (name-letters (i .first) (i .number) (w .typed .first)) k l .low) })
 
-  pub class-is : {class : ℕ} → class ≡ classIn entry → class ≡ classOf (rowIn i)
+  pub class-is : {class : ℕ} → class ≡ classIn entry → class ≡ classOf (rowIn latest i)
   class-is e = e ∙ class-in (carried (w .code)) (w .entry-is) ∙ ap classOf (sym (w .row))
 
   pub kinds-long : depth ≤ length kinds

@@ -9,9 +9,9 @@ use lib.IntN.{pos}
 use lib.ListN.{length, length-map}
 use Rattle.leb128.specs.Bits.{integer, bits}
 use Rattle.leb128.proofs.Widths.{bits-back}
-use Rattle.opcode.specs.Immediate.{Immediates, nothing, index, word, long, memory, memoryLane, laneIndex, sixteenBytes, sixteenLanes}
+use Rattle.opcode.specs.Immediate.{Immediates, nothing, index, blockType, word, long, memory, memoryLane, laneIndex, sixteenBytes, sixteenLanes}
 use Rattle.instr.specs.declared.Instr.{Instr}
-use Rattle.instr.specs.Layout.{Field, number, raw, immediateFields, Head, instr, zeros, kept, Typed}
+use Rattle.instr.specs.Layout.{Field, number, raw, immediateFields, Head, instr, blockInstr, zeros, kept, Typed}
 use Rattle.rules.proofs.Lists.{parts-once}
 use Rattle.listing.specs.Line.{numbers}
 
@@ -59,6 +59,7 @@ module _ (i j : Instr) (t : Typed i) (u : Typed j) where
   unfolding immediateFields
   class-alike nothing = tt
   class-alike index = (refl, refl, lit< tt, t .index, u .index, tt)
+  class-alike blockType = (refl, tt)
   class-alike word = (refl, refl, lit< tt, t .word, u .word, tt)
   class-alike long = (refl, refl, lit< tt, t .long, u .long, tt)
   class-alike memory = (refl, refl, lit< tt, t .align, u .align, (refl, refl, lit< tt, t .offset, u .offset, tt))
@@ -72,6 +73,7 @@ pub kept-once : (k : Immediates) (h : Head) (i j : Instr) → immediateFields k 
 unfolding immediateFields
 kept-once nothing h i j e = refl
 kept-once index h i j e = let same : i .index ≡ j .index = cc in ap (λ (v : ℕ). instr h v 0 0 0 0 0 zeros) same
+kept-once blockType h i j e = let same : i .block ≡ j .block = cc in ap (blockInstr h) same
 kept-once word h i j e = let same : i .word ≡ j .word = cc in ap (λ (v : ℕ). instr h 0 v 0 0 0 0 zeros) same
 kept-once long h i j e = let same : i .long ≡ j .long = cc in ap (λ (v : ℕ). instr h 0 0 v 0 0 0 zeros) same
 kept-once memory h i j e =

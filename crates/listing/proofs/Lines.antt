@@ -4,12 +4,12 @@ use mathlib.Core.Path.{_≡_, refl, sym, ap, ap₂, subst, _∙_}
 use mathlib.Core.List.{List, [], _∷_, _++_}
 use native.Mathlib.Omega.{arith}
 use lib.ListN.{length}
-use Rattle.opcode.specs.Kind.{Kind}
 use Rattle.instr.specs.declared.Instr.{Instr}
 use Rattle.instr.specs.Layout.{Stands}
 use Rattle.instr.proofs.Stands.{stands-once}
 use Rattle.instr.proofs.Ranges.{stands-some, stands-inside}
 use Rattle.rules.specs.Header.{Header, headerBytes}
+use Rattle.rules.specs.Typing.{Frame, allValues}
 use Rattle.rules.specs.Strip.{Reaches, front, past, Valid}
 use Rattle.rules.specs.Consists.{Instructions}
 use Rattle.rules.specs.Consists as Consists
@@ -20,12 +20,12 @@ use Rattle.listing.specs.Listing.{Lines, no-more, one-more, Listing}
 
 -- ---- a valid strip has one
 
-lines-between : {s : List ℕ} {h : Header} {p q : ℕ} {κs λs : List Kind} {rest : List ℕ} → Reaches s h p κs → Onward s h p κs q λs → (Reaches s h q λs → Lines s h q rest)
+lines-between : {s : List ℕ} {h : Header} {p q : ℕ} {κs λs : List Frame} {rest : List ℕ} → Reaches s h p κs → Onward s h p κs q λs → (Reaches s h q λs → Lines s h q rest)
     → (text : List ℕ) × Lines s h p text
 lines-between {rest = rest} a here f = (rest, f a)
 lines-between {p = p} {κs = κs} a (next {i = i} r t l o) f =
     let more = lines-between (past a r t l) o f in
-    (line p κs i ++ more .0, one-more a (r .stands) (more .1))
+    (line p (allValues κs) i ++ more .0, one-more a (r .stands) (more .1))
 
 pub listed : {s : List ℕ} (v : Valid s) → (text : List ℕ) × Listing s text
 listed v =
@@ -34,17 +34,17 @@ listed v =
 
 -- ---- and no other
 
-no-room : {s : List ℕ} {p n : ℕ} {i : Instr} → p ≡ length s → Stands s p i n → ⊥
+no-room : {v : ℕ} {s : List ℕ} {p n : ℕ} {i : Instr} → p ≡ length s → Stands v s p i n → ⊥
 no-room e w = omega (arith, e, stands-some w, stands-inside w)
 
 pub lines-once : {s : List ℕ} {h : Header} {p : ℕ} {x y : List ℕ} → Lines s h p x → Lines s h p y → x ≡ y
 lines-once (no-more e) (no-more f) = refl
 lines-once (no-more e) (one-more r w l) = absurd (no-room e w)
 lines-once (one-more r w l) (no-more e) = absurd (no-room e w)
-lines-once {s} {h} {p} (one-more {n = n} {κs = κs} {i = i} {text = x} r w l) (one-more {n = m} {κs = λs} {i = j} {text = y} r′ w′ l′) =
-    let same = stands-once s p i j n m w w′ in
+lines-once {s} {h} {p} (one-more {n = n} {fs = κs} {i = i} {text = x} r w l) (one-more {n = m} {fs = λs} {i = j} {text = y} r′ w′ l′) =
+    let same = stands-once (h .version) s p i j n m w w′ in
     let rest = lines-once l (subst (λ (k : ℕ). Lines s h (p + k) y) (sym (same .1)) l′) in
-    ap₂ (λ (ks : List Kind) (a : Instr). line p ks a ++ x) (reached-once r r′) (same .0) ∙ ap (λ (z : List ℕ). line p λs j ++ z) rest
+    ap₂ (λ (ks : List Frame) (a : Instr). line p (allValues ks) a ++ x) (reached-once r r′) (same .0) ∙ ap (λ (z : List ℕ). line p (allValues λs) j ++ z) rest
 
 pub listing-once : {s x y : List ℕ} → Listing s x → Listing s y → x ≡ y
 listing-once {s} {y = y} a b =
@@ -57,6 +57,6 @@ abbrev pub instrsIn : {s : List ℕ} {h : Header} {p : ℕ} {x : List ℕ} → L
 instrsIn (no-more e) = []
 instrsIn (one-more {i = i} r w l) = i ∷ instrsIn l
 
-pub all-stand : {s : List ℕ} {h : Header} {p : ℕ} {x : List ℕ} (l : Lines s h p x) → Instructions s p (instrsIn l)
+pub all-stand : {s : List ℕ} {h : Header} {p : ℕ} {x : List ℕ} (l : Lines s h p x) → Instructions (h .version) s p (instrsIn l)
 all-stand (no-more e) = Consists.no-more e
 all-stand (one-more r w l) = Consists.one-more w (all-stand l)

@@ -17,8 +17,8 @@ use Rattle.text.specs.Words.{blank}
 use Rattle.text.specs.Append.{Appends}
 use Rattle.text.proofs.Decimals.{decimal-short, Word, spelled-short}
 use Rattle.leb128.specs.Bits.{integer}
-use Rattle.opcode.specs.Table.{Row}
-use Rattle.opcode.specs.Immediate.{index, word, long, memory, memoryLane, laneIndex, sixteenBytes, sixteenLanes}
+use Rattle.opcode.specs.Table.{Row, latest}
+use Rattle.opcode.specs.Immediate.{index, blockType, word, long, memory, memoryLane, laneIndex, sixteenBytes, sixteenLanes}
 use Rattle.opcode.specs.Number.{classNumber, classOf}
 use Rattle.instr.specs.declared.Instr.{Instr}
 use Rattle.instr.specs.Layout.{Field, immediateFields, fieldsOf, rowIn}
@@ -36,7 +36,7 @@ one n = blank ∷ decimal n
 
 module _ (i : Instr) where
   abbrev r : Row
-  r = rowIn i
+  r = rowIn latest i
 
   pub all-shown : led (map spelled (immediates i)) ≡ shown (fieldsOf r i)
   unfolding immediates
@@ -45,6 +45,10 @@ module _ (i : Instr) where
   pub shown-index : classOf r ≡ classNumber index → one (i .index) ≡ led (map spelled (immediates i))
   unfolding immediateFields immediates led spelled
   shown-index e = sym (append-nil (one (i .index))) ∙ ap shown (sym (fields-class r index e i))
+
+  pub shown-block : classOf r ≡ classNumber blockType → one (i .block) ≡ led (map spelled (immediates i))
+  unfolding immediateFields immediates led spelled
+  shown-block e = sym (append-nil (one (i .block))) ∙ ap shown (sym (fields-class r blockType e i))
 
   pub shown-word : classOf r ≡ classNumber word → blank ∷ spelled (integer true 32 (i .word)) ≡ led (map spelled (immediates i))
   unfolding immediateFields immediates led

@@ -9,7 +9,8 @@ use lib.Dec.{eqb}
 use lib.IntN.{ℤ}
 use Rattle.text.specs.Decimal.{spelled}
 use Rattle.text.proofs.Decimals.{spelled-back}
-use Rattle.opcode.specs.Table.{Code, Row, carried, PREFIX, rowAt}
+use Rattle.opcode.specs.Table.{Code, Row, carried, latest, PREFIX, rowAt}
+use Rattle.opcode.proofs.Versions.{row-latest}
 use Rattle.opcode.specs.Immediate as Immediate
 use Rattle.mnemonic.proofs.Names.{name-once}
 use Rattle.instr.specs.declared.Instr.{Instr}
@@ -37,38 +38,39 @@ module _ (a m b n : ℕ) (e : a ≡ b) (f : a ≡ PREFIX → m ≡ n) where
   pub same-head : head a (cond (eqb a PREFIX) m 0) ≡ head b (cond (eqb b PREFIX) n 0)
   same-head = ap (head a) (numbered (eqb a PREFIX) refl) ∙ ap (λ (x : ℕ). head x (cond (eqb x PREFIX) n 0)) e
 
-  rowed : (t : Bool) → eqb a PREFIX ≡ t → rowAt a m ≡ rowAt a n
-  rowed true q = ap (rowAt a) (f (eqb-true a PREFIX q))
-  rowed false q = rw q refl
+  rowed : (v : ℕ) (t : Bool) → eqb a PREFIX ≡ t → rowAt v a m ≡ rowAt v a n
+  rowed v true q = ap (rowAt v a) (f (eqb-true a PREFIX q))
+  rowed v false q = rw q refl
 
-  pub same-row : rowAt a m ≡ rowAt b n
-  same-row = rowed (eqb a PREFIX) refl ∙ ap (λ (x : ℕ). rowAt x n) e
+  pub same-row : (v : ℕ) → rowAt v a m ≡ rowAt v b n
+  same-row v = rowed v (eqb a PREFIX) refl ∙ ap (λ (x : ℕ). rowAt v x n) e
 
 -- of a row that is carried
-module _ (c : Code) (i : Instr) (e : rowIn i ≡ carried c) where
+module _ (v : ℕ) (c : Code) (i : Instr) (e : rowIn v i ≡ carried c) where
   abbrev class : Immediate.Immediates
   class = Immediate.immediates c
 
-  pub its-fields : fieldsOf (rowIn i) i ≡ immediateFields class i
+  pub its-fields : fieldsOf (rowIn latest i) i ≡ immediateFields class i
   unfolding fieldsOf
-  its-fields = ap (λ (r : Row). fieldsOf r i) e
+  its-fields = ap (λ (r : Row). fieldsOf r i) (row-latest v (i .first) (i .number) e)
 
-  pub its-bare : bare i ≡ kept class (headOf i) i
+  pub its-bare : bare v i ≡ kept class (headOf i) i
   unfolding keptOf
   its-bare = ap (λ (r : Row). keptOf r (headOf i) i) e
 
-pub one-instr : {s t : List ℕ} {p q n m : ℕ} {i j : Instr} {c d : Code} → Reads s p i c n → Reads t q j d m → mnemonic i ≡ mnemonic j → immediates i ≡ immediates j → i ≡ j
+-- two that stand in strips of one version
+pub one-instr : {v : ℕ} {s t : List ℕ} {p q n m : ℕ} {i j : Instr} {c d : Code} → Reads v s p i c n → Reads v t q j d m → mnemonic i ≡ mnemonic j → immediates i ≡ immediates j → i ≡ j
 unfolding immediates
-one-instr {i = i} {j = j} {c = c} {d = d} r w name shown =
+one-instr {v} {i = i} {j = j} {c = c} {d = d} r w name shown =
     let a = r .stands in
     let b = w .stands in
-    let opcode = name-once (i .first) (i .number) (j .first) (j .number) (a .typed .first) (b .typed .first) (r .does) (w .does) name in
-    let row : rowIn j ≡ carried c = sym (same-row (i .first) (i .number) (j .first) (j .number) (opcode .0) (opcode .1)) ∙ r .does in
+    let opcode = name-once (i .first) (i .number) (j .first) (j .number) (a .typed .first) (b .typed .first) (row-latest v (i .first) (i .number) (r .does)) (row-latest v (j .first) (j .number) (w .does)) name in
+    let row : rowIn v j ≡ carried c = sym (same-row (i .first) (i .number) (j .first) (j .number) (opcode .0) (opcode .1) v) ∙ r .does in
     let k = Immediate.immediates c in
     let fields : immediateFields k i ≡ immediateFields k j =
     fields-once (immediateFields k i) (immediateFields k j) (class-alike i j (a .typed) (b .typed) k)
-    (sym (ap numbers (its-fields c i (r .does))) ∙ shown ∙ ap numbers (its-fields c j row)) in
-    sym (a .lacking) ∙ its-bare c i (r .does)
+    (sym (ap numbers (its-fields v c i (r .does))) ∙ shown ∙ ap numbers (its-fields v c j row)) in
+    sym (a .lacking) ∙ its-bare v c i (r .does)
     ∙ kept-once k (headOf i) i j fields
     ∙ ap (λ (h : Head). kept k h j) (same-head (i .first) (i .number) (j .first) (j .number) (opcode .0) (opcode .1))
-    ∙ sym (its-bare c j row) ∙ b .lacking
+    ∙ sym (its-bare v c j row) ∙ b .lacking

@@ -62,7 +62,7 @@ inner κs = joined (map kindName κs)
 abbrev told : Instr → List ℕ
 told i = joined (mnemonic i ∷ map spelled (immediates i))
 
-module _ {s : List ℕ} {p n : ℕ} {i : Instr} {c : Code} (r : Reads s p i c n) where
+module _ {v : ℕ} {s : List ℕ} {p n : ℕ} {i : Instr} {c : Code} (r : Reads v s p i c n) where
   told-words : {b : ℕ} → Parts b → AllWithout b (mnemonic i ∷ map spelled (immediates i))
   told-words q = (letters-without q (mnemonic i) (name-letters (i .first) (i .number) (r .stands .typed .first)), numbers-without q (immediates i))
 
@@ -78,7 +78,7 @@ split : (κs : List Kind) (i : Instr) → unplaced κs i ≡ 0x5B ∷ (inner κs
 unfolding joined bracketed
 split κs i = simp append-assoc
 
-module _ {s t : List ℕ} {p q n m : ℕ} {i j : Instr} {c d : Code} (r : Reads s p i c n) (w : Reads t q j d m) where
+module _ {v u : ℕ} {s t : List ℕ} {p q n m : ℕ} {i j : Instr} {c d : Code} (r : Reads v s p i c n) (w : Reads u t q j d m) where
   pub told-once : (κs λs : List Kind) → unplaced κs i ≡ unplaced λs j → (mnemonic i ≡ mnemonic j) × (immediates i ≡ immediates j)
   told-once κs λs e =
       let whole : 0x5B ∷ (inner κs ++ 0x5D ∷ (blank ∷ told i)) ≡ 0x5B ∷ (inner λs ++ 0x5D ∷ (blank ∷ told j)) = sym (split κs i) ∙ e ∙ split λs j in

@@ -8,6 +8,7 @@ ghost use lib.ListN.{length};
 ghost use Rattle.text.specs.Decimal.{decimal, spelled};
 ghost use Rattle.text.specs.Words.{blank};
 ghost use Rattle.leb128.specs.Bits.{integer};
+ghost use Rattle.opcode.specs.Table.{latest};
 ghost use Rattle.opcode.specs.Number.{classOf};
 ghost use Rattle.instr.specs.Layout.{rowIn};
 ghost use Rattle.listing.specs.Line.{immediates as Line·immediates};
@@ -15,7 +16,7 @@ ghost use Rattle.listing.specs.Inner.Parts.{led, Adds};
 use instr::Instr;
 
 pub(crate) fn immediates(class: u8, i: Instr, out: &mut [u8], at: usize) -> usize
-    requires { ⌜ (class ≡ classOf (rowIn i)) × (at + 336 ≤ length (now out)) ⌝ }
+    requires { ⌜ (class ≡ classOf (rowIn latest i)) × (at + 336 ≤ length (now out)) ⌝ }
     ensures { λ r. ⌜ Adds 336 (led (map spelled (Line·immediates i))) (now (out .entry)) at r (now (out .exit)) ⌝ }
 {
     match class {
@@ -40,6 +41,7 @@ pub(crate) fn immediates(class: u8, i: Instr, out: &mut [u8], at: usize) -> usiz
             let b = i.bytes;
             bytes(b, out, at)
         }
+        opcode::BLOCK_TYPE => number(i.block as u64, out, at),
         _ => at,
     }
 }

@@ -1,4 +1,4 @@
-// The listing of a strip as text (02, C-11): one line an instruction, with the kinds on the stack before it.
+// The listing of a strip as text (02, C-11, C-13): one line an instruction, with the kinds on the stack before it.
 mod immediates;
 mod line;
 mod stack;
@@ -7,9 +7,11 @@ ghost use Prim.Native.Nat.{_≤_};
 ghost use mathlib.Core.Path.{_≡_};
 ghost use lib.ListN.{length};
 ghost use Rattle.rules.specs.Strip.{Valid};
+ghost use Rattle.checker.specs.Walk.{Walks};
 ghost use Rattle.listing.specs.Listing.{answer, Lists};
-ghost use Rattle.listing.specs.Walk.{longest, Walks, Walked};
+ghost use Rattle.listing.specs.Walk.{longest, Walked};
 ghost use Rattle.listing.specs.Inner.Pass.{Passed};
+use checker::State;
 
 pub struct Listed {
     pub code: u8,
@@ -17,10 +19,10 @@ pub struct Listed {
     pub len: usize,
 }
 
-// After a line: the next instruction's place, how many values the stack holds there, and the line's length.
+// After a line: the next instruction's place, what is known there, and the line's length.
 pub struct Next {
     pub at: usize,
-    pub depth: usize,
+    pub state: State,
     pub len: usize,
 }
 
@@ -72,43 +74,43 @@ fn pass(strip: &[u8], out: &mut [u8]) -> usize
     ensures { λ r. ⌜ Passed (now (strip .entry)) (now (out .entry)) r (now (out .exit)) ⌝ }
 {
     let mut kinds = [0u8; limits::STACK];
+    let mut blocks = [0u32; limits::NEST];
     let mut text = [0u8; LONGEST];
-    let mut depth = 0;
+    let mut state = checker::outset();
     let mut at = checker::start(strip);
     let mut to = 0;
     while at < strip.len() {
-        let n = next_line(strip, at, &mut kinds, depth, &mut text);
+        let n = next_line(strip, at, &mut kinds, &mut blocks, state, &mut text);
         let len = n.len;
         text::put(&text[..len], out, to);
         to += len;
-        depth = n.depth;
+        state = n.state;
         at = n.at;
     }
     to
 }
 
 // The line of the instruction at a place that the walk over a strip has reached; then the walk stands after it.
-pub fn next_line(strip: &[u8], at: usize, kinds: &mut [u8], depth: usize, text: &mut [u8]) -> Next
-    requires { ⌜ Walks (now strip) at (now kinds) depth × (longest ≤ length (now text)) ⌝ }
-    ensures { λ r. ⌜ Walked (now (strip .entry)) at (now (kinds .entry)) depth (now (text .entry)) r (now (kinds .exit)) (now (text .exit)) ⌝ }
+pub fn next_line(
+    strip: &[u8],
+    at: usize,
+    kinds: &mut [u8],
+    blocks: &mut [u32],
+    state: State,
+    text: &mut [u8],
+) -> Next
+    requires { ⌜ Walks (now strip) at (now kinds) (now blocks) state × (longest ≤ length (now text)) ⌝ }
+    ensures { λ r. ⌜ Walked (now (strip .entry)) at (now (kinds .entry)) (now (blocks .entry)) state (now (text .entry)) r (now (kinds .exit)) (now (blocks .exit)) (now (text .exit)) ⌝ }
 {
-    let f = instr::fetch(strip, at);
+    let f = instr::fetch(strip[3] as u16, strip, at);
     let d = f.decoded;
     let i = d.instr;
-    let len = line::line(at, kinds, depth, f.id, f.entry, i, text);
+    let len = line::line(at, kinds, state.depth, f.id, f.entry, i, text);
     let next = at + d.len;
-    if opcode::group(f.entry) == opcode::GROUP_END {
-        return Next {
-            at: next,
-            depth,
-            len,
-        };
-    }
-    let locals = strip[5] as usize + strip[6] as usize;
-    let j = checker::judge(strip, locals, f.entry, i.index, kinds, depth);
+    let state = checker::follow(strip, at, instr::summary(f), kinds, blocks, state);
     Next {
         at: next,
-        depth: j.depth,
+        state,
         len,
     }
 }

@@ -13,7 +13,7 @@ use Rattle.operation.specs.Vector.{le}
 use Rattle.operation.specs.Op.{Loadop, Op, Load, LoadLane, Store, StoreLane, Const, Shuffle, Splat, ExtractLane, ReplaceLane, Unary, Binary, Bitselect, Test, Shift, extracted}
 use Rattle.limits.specs.Limits.{slot, stackLimit}
 use Rattle.opcode.specs.Kind.{Kind}
-use Rattle.opcode.specs.Table.{Plain, End, Drop, LocalGet, LocalSet, LocalTee, I32Const, I64Const, I32Add, I32Sub, Code, plain, vector}
+use Rattle.opcode.specs.Table.{Plain, End, Drop, LocalGet, LocalSet, LocalTee, I32Const, I64Const, I32Add, I32Sub, I32Eqz, I32LtU, Code, plain, control, vector}
 use Rattle.opcode.specs.Immediate.{moved}
 use Rattle.instr.specs.declared.Instr.{Instr}
 use Rattle.machine.specs.Value.{Value, I32, I64}
@@ -22,7 +22,8 @@ use Rattle.machine.specs.Inner.Flat.{slotAt, topOf, low32, reach}
 use Rattle.machine.specs.Inner.Fit.{takenByPlain, takenByOp, takenBy, Slotted, boundsAt, boundsOp, boundsOf}
 use Rattle.machine.specs.declared.access.Bounds.{Bounds}
 use Rattle.machine.specs.declared.access.Bounds.the-variants.{Clear, Past}
-use Rattle.machine.proofs.Laws.Rep.{Rep, low-i32}
+use Rattle.machine.specs.Inner.Rep.{Rep}
+use Rattle.machine.proofs.Laws.Rep.{low-i32}
 use Rattle.machine.proofs.Laws.Pops.{pop-i32, pop-v128, pop-any, pop-scalar, named, same-kind}
 use Rattle.machine.proofs.Laws.Update.{all-held}
 
@@ -94,6 +95,8 @@ module _ (rs : List Kind) (i : Instr) (σ : State) (st : List ℕ) (d : ℕ) (ls
     slotted I64Const e = tt
     slotted I32Add e = tt
     slotted I32Sub e = tt
+    slotted I32Eqz e = tt
+    slotted I32LtU e = tt
 
     enough-plain : (p : Plain) → execPlain rs p i σ ≡ o → takenByPlain p ≤ d
     enough-plain End e = zero-le
@@ -105,6 +108,8 @@ module _ (rs : List Kind) (i : Instr) (σ : State) (st : List ℕ) (d : ℕ) (ls
     enough-plain I64Const e = zero-le
     enough-plain I32Add e = let p = pop-i32 st o moves (σ .stack) _ (all-held rep) e in omega (arith, p .long, pop-i32 st o moves (p .rest) _ (p .under) (p .next) .long, rep .depth)
     enough-plain I32Sub e = let p = pop-i32 st o moves (σ .stack) _ (all-held rep) e in omega (arith, p .long, pop-i32 st o moves (p .rest) _ (p .under) (p .next) .long, rep .depth)
+    enough-plain I32Eqz e = omega (arith, pop-i32 st o moves (σ .stack) _ (all-held rep) e .long, rep .depth)
+    enough-plain I32LtU e = let p = pop-i32 st o moves (σ .stack) _ (all-held rep) e in omega (arith, p .long, pop-i32 st o moves (p .rest) _ (p .under) (p .next) .long, rep .depth)
 
     enough-vector : (v : Op) → execVector v i σ ≡ o → takenByOp v ≤ d
     enough-vector (Load l) e = omega (arith, pop-i32 st o moves (σ .stack) _ (all-held rep) e .long, rep .depth)
@@ -126,6 +131,7 @@ module _ (rs : List Kind) (i : Instr) (σ : State) (st : List ℕ) (d : ℕ) (ls
 
     pub enough : (c : Code) → exec rs c i σ ≡ o → takenBy c ≤ d
     enough (plain p) e = enough-plain p e
+    enough (control k) e = zero-le
     enough (vector v) e = enough-vector v e
 
     -- ---- the address of an access is the one in the slot
@@ -199,6 +205,7 @@ module _ (rs : List Kind) (i : Instr) (σ : State) (st : List ℕ) (d : ℕ) (ls
 
     pub clear : (c : Code) → exec rs c i σ ≡ goes σ′ → boundsOf c i st d (length m) ≡ Clear
     clear (plain p) e = refl
+    clear (control k′) e = refl
     clear (vector v) e = clear-op v e
 
   -- ---- a trap is past the end
@@ -231,6 +238,10 @@ module _ (rs : List Kind) (i : Instr) (σ : State) (st : List ℕ) (d : ℕ) (ls
         let p = pop-i32 st (trap a k) traps-on (σ .stack) _ (all-held rep) e in
         on-not-trap _ (σ .locals) (σ .memory) a k (pop-i32 st (trap a k) traps-on (p .rest) _ (p .under) (p .next) .next)
     not-plain I32Sub e =
+        let p = pop-i32 st (trap a k) traps-on (σ .stack) _ (all-held rep) e in
+        on-not-trap _ (σ .locals) (σ .memory) a k (pop-i32 st (trap a k) traps-on (p .rest) _ (p .under) (p .next) .next)
+    not-plain I32Eqz e = on-not-trap _ (σ .locals) (σ .memory) a k (pop-i32 st (trap a k) traps-on (σ .stack) _ (all-held rep) e .next)
+    not-plain I32LtU e =
         let p = pop-i32 st (trap a k) traps-on (σ .stack) _ (all-held rep) e in
         on-not-trap _ (σ .locals) (σ .memory) a k (pop-i32 st (trap a k) traps-on (p .rest) _ (p .under) (p .next) .next)
 
@@ -267,4 +278,5 @@ module _ (rs : List Kind) (i : Instr) (σ : State) (st : List ℕ) (d : ℕ) (ls
 
     pub past-end : (c : Code) → exec rs c i σ ≡ trap a k → Beyond (boundsOf c i st d (length m)) (length (σ .memory)) a k
     past-end (plain p) e = absurd (not-plain p e)
+    past-end (control k′) e = absurd (traps-on (sym e))
     past-end (vector v) e = past-op v e

@@ -9,7 +9,7 @@ use lib.ListN.{length}
 use borrow.Author.Tests.{leb-true}
 use Rattle.operation.specs.Op.{Load, LoadLane, Store, StoreLane, Const, Shuffle, Splat, ExtractLane, ReplaceLane, Unary, Binary, Bitselect, Test, Shift}
 use Rattle.limits.specs.Limits.{stackLimit}
-use Rattle.opcode.specs.Table.{End, Drop, LocalGet, LocalSet, LocalTee, I32Const, I64Const, I32Add, I32Sub, Code, plain, vector, carried}
+use Rattle.opcode.specs.Table.{End, Drop, LocalGet, LocalSet, LocalTee, I32Const, I64Const, I32Add, I32Sub, I32Eqz, I32LtU, Code, plain, control, vector, carried}
 use Rattle.opcode.specs.Immediate.{movedBy}
 use Rattle.opcode.specs.Number.{rowOf, groupOf, groupOfCode}
 use Rattle.opcode.specs.Entry.{entryOf, groupIn, movedIn}
@@ -19,7 +19,7 @@ use Rattle.opcode.proofs.Groups.{Each, by-group}
 use Rattle.opcode.proofs.Entries.{moved-in, group-in}
 use Rattle.opcode.proofs.Arms.{anyKey}
 use Rattle.instr.specs.declared.Instr.{Instr}
-use Rattle.machine.specs.Inner.Flat.{flat}
+use Rattle.machine.specs.Inner.Flat.{flat, flatOf}
 use Rattle.machine.specs.Inner.Fit.{Fit, Fits, Named, Ready, Did, DidBy, boundsAt, boundsOf}
 use Rattle.machine.specs.declared.access.Bounds.the-variants.{Clear, Past}
 
@@ -35,35 +35,39 @@ within at n len e = go (leb (at + n) len) refl e
 abbrev pub alone : List ℕ → List (List ℕ)
 alone = map (λ k. k ∷ [])
 
--- past the arms of 1 to 22 is `end`
-pub only-end : (c : Code) → (T (anyKey (alone (1 to 22)) (groupOfCode c)) → ⊥) → c ≡ plain End
-only-end (plain End) h = refl
-only-end (plain Drop) h = absurd (h tt)
-only-end (plain LocalGet) h = absurd (h tt)
-only-end (plain LocalSet) h = absurd (h tt)
-only-end (plain LocalTee) h = absurd (h tt)
-only-end (plain I32Const) h = absurd (h tt)
-only-end (plain I64Const) h = absurd (h tt)
-only-end (plain I32Add) h = absurd (h tt)
-only-end (plain I32Sub) h = absurd (h tt)
-only-end (vector (Load l)) h = absurd (h tt)
-only-end (vector (LoadLane w)) h = absurd (h tt)
-only-end (vector Store) h = absurd (h tt)
-only-end (vector (StoreLane w)) h = absurd (h tt)
-only-end (vector Const) h = absurd (h tt)
-only-end (vector Shuffle) h = absurd (h tt)
-only-end (vector (Splat w)) h = absurd (h tt)
-only-end (vector (ExtractLane s w)) h = absurd (h tt)
-only-end (vector (ReplaceLane w)) h = absurd (h tt)
-only-end (vector (Unary o)) h = absurd (h tt)
-only-end (vector (Binary o)) h = absurd (h tt)
-only-end (vector Bitselect) h = absurd (h tt)
-only-end (vector (Test o)) h = absurd (h tt)
-only-end (vector (Shift o)) h = absurd (h tt)
+-- past the arms of 1 to 24 are `end`, blocks and branches, which leave all as it is
+pub idle : (i : Instr) (st : List ℕ) (d : ℕ) (ls m : List ℕ) (c : Code) → (T (anyKey (alone (1 to 24)) (groupOfCode c)) → ⊥) → flat c i st d ls m ≡ flatOf d st ls m
+idle i st d ls m (plain End) h = refl
+idle i st d ls m (plain Drop) h = absurd (h tt)
+idle i st d ls m (plain LocalGet) h = absurd (h tt)
+idle i st d ls m (plain LocalSet) h = absurd (h tt)
+idle i st d ls m (plain LocalTee) h = absurd (h tt)
+idle i st d ls m (plain I32Const) h = absurd (h tt)
+idle i st d ls m (plain I64Const) h = absurd (h tt)
+idle i st d ls m (plain I32Add) h = absurd (h tt)
+idle i st d ls m (plain I32Sub) h = absurd (h tt)
+idle i st d ls m (plain I32Eqz) h = absurd (h tt)
+idle i st d ls m (plain I32LtU) h = absurd (h tt)
+idle i st d ls m (control k) h = refl
+idle i st d ls m (vector (Load l)) h = absurd (h tt)
+idle i st d ls m (vector (LoadLane w)) h = absurd (h tt)
+idle i st d ls m (vector Store) h = absurd (h tt)
+idle i st d ls m (vector (StoreLane w)) h = absurd (h tt)
+idle i st d ls m (vector Const) h = absurd (h tt)
+idle i st d ls m (vector Shuffle) h = absurd (h tt)
+idle i st d ls m (vector (Splat w)) h = absurd (h tt)
+idle i st d ls m (vector (ExtractLane s w)) h = absurd (h tt)
+idle i st d ls m (vector (ReplaceLane w)) h = absurd (h tt)
+idle i st d ls m (vector (Unary o)) h = absurd (h tt)
+idle i st d ls m (vector (Binary o)) h = absurd (h tt)
+idle i st d ls m (vector Bitselect) h = absurd (h tt)
+idle i st d ls m (vector (Test o)) h = absurd (h tt)
+idle i st d ls m (vector (Shift o)) h = absurd (h tt)
 
 -- past the arms of 9 to 12 is what leaves the memory alone
 pub untouched : (i : Instr) (st : List ℕ) (d len : ℕ) (c : Code) → (T (anyKey (alone (9 to 12)) (groupOfCode c)) → ⊥) → Clear ≡ boundsOf c i st d len
 untouched i st d len (plain p) h = refl
+untouched i st d len (control k) h = refl
 untouched i st d len (vector (Load l)) h = absurd (h tt)
 untouched i st d len (vector (LoadLane w)) h = absurd (h tt)
 untouched i st d len (vector Store) h = absurd (h tt)

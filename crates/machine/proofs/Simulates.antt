@@ -4,6 +4,7 @@ use mathlib.Core.Path.{_≡_, refl, ap, ap₂, sym, _∙_, subst}
 use mathlib.Core.Bool.{Bool, true, false, cond}
 use mathlib.Core.List.{List, _∷_, reverse}
 use native.Mathlib.Omega.{arith}
+use lib.Dec.{eqb, ltb}
 use lib.ListN.{length, getD, take}
 use mir.Syntax.{Width, w8, w16, w32, w64, w128}
 use lib.IntN.{pos, _+ℤ_, _-ℤ_}
@@ -15,7 +16,7 @@ use Rattle.lane.proofs.Laws.Number.{Bytes, bytes-take}
 use Rattle.lane.proofs.Laws.Vectors.{test-lt, extracted-lt, sixteen-unary, sixteen-binary, sixteen-bitselect, sixteen-shift, sixteen-splat, sixteen-replaced, sixteen-shuffled, sixteen-loaded, sixteen-laneIn, sixteen-laneOut}
 use Rattle.limits.specs.Limits.{slot}
 use Rattle.opcode.specs.Kind.{Kind}
-use Rattle.opcode.specs.Table.{Plain, End, Drop, LocalGet, LocalSet, LocalTee, I32Const, I64Const, I32Add, I32Sub, Code, plain, vector}
+use Rattle.opcode.specs.Table.{Plain, End, Drop, LocalGet, LocalSet, LocalTee, I32Const, I64Const, I32Add, I32Sub, I32Eqz, I32LtU, Code, plain, control, vector}
 use Rattle.opcode.specs.Immediate.{moved}
 use Rattle.opcode.proofs.Classes.{moved-small}
 use Rattle.instr.specs.declared.Instr.{Instr}
@@ -23,7 +24,8 @@ use Rattle.machine.specs.Value.{Value, I32, I64, V128, InRange, bytesOf}
 use Rattle.machine.specs.Memory.{part, padded, stored}
 use Rattle.machine.specs.Exec.{State, goes, done, stuck, goOn, access, ofKinds, popI32, popV128, execPlain, execVector, exec}
 use Rattle.machine.specs.Inner.Flat.{slotAt, putSlot, topOf, low32, low64, lowest, reach, Flat, flatPlain, flatVector, flat}
-use Rattle.machine.proofs.Laws.Rep.{Rep, low-i32, low-i64}
+use Rattle.machine.specs.Inner.Rep.{Rep}
+use Rattle.machine.proofs.Laws.Rep.{low-i32, low-i64}
 use Rattle.machine.proofs.Laws.Pops.{scalarOf, pop-i32, pop-v128, pop-any, pop-scalar, named, same-kind, reached}
 use Rattle.machine.proofs.Laws.Ranges.{bytes-part, length-part, sixteen-padded, bytes-stored, range-at}
 use Rattle.machine.proofs.Laws.Update.{all-held, with-memory, with-local, pushed, popped}
@@ -44,6 +46,10 @@ scalar-low w128 v x e h = ap low64 e ∙ low-i64 x h
 difference-lt : (a b : ℕ) → isub w32 a b < 2 ^ 32
 unfolding isub
 difference-lt a b = wrap-lt w32 (pos a -ℤ pos b)
+
+flag-lt : (t : Bool) → cond t 1 0 < 2 ^ 32
+flag-lt true = omega arith
+flag-lt false = omega arith
 
 -- ---- one lemma a group: σ goes to σ′, and the flat state holds σ′
 module _ (rs : List Kind) (i : Instr) (apt : Apt i) (σ σ′ : State) (st : List ℕ) (d : ℕ) (ls m : List ℕ) (rep : Rep σ st d ls m) where
@@ -102,6 +108,15 @@ module _ (rs : List Kind) (i : Instr) (apt : Apt i) (σ σ′ : State) (st : Lis
       let t2 = ap low32 (top 2 (length (q .rest)) _ (omega (arith, rep .depth, p .long, q .long)) (q .at)) ∙ low-i32 (q .value) (q .ok) in
       pushed rep (q .rest) (q .under) (I32 (f (q .value) (p .value))) _ (d - 2) (d - 1) (small (q .value) (p .value)) (ap₂ (λ (a b : ℕ). le slot (f a b)) t2 t1)
       (omega (arith, rep .depth, p .long, q .long)) (omega (arith, rep .depth, p .long, q .long)) (q .next)
+
+  -- one number
+  sim-number : (f : ℕ → ℕ) → ((a : ℕ) → f a < 2 ^ 32) → popI32 (σ .stack) (λ a vs. goOn (I32 (f a) ∷ vs) (σ .locals) (σ .memory)) ≡ goes σ′
+      → Rep σ′ (putSlot st (d - 1) (le slot (f (low32 (topOf st d 1))))) d ls m
+  sim-number f small e =
+      let p = pop-i32 st (goes σ′) moves (σ .stack) _ (all-held rep) e in
+      let t1 = ap low32 (top 1 (length (p .rest)) _ (omega (arith, rep .depth, p .long)) (p .at)) ∙ low-i32 (p .value) (p .ok) in
+      pushed rep (p .rest) (p .under) (I32 (f (p .value))) _ (d - 1) d (small (p .value)) (ap (λ (a : ℕ). le slot (f a)) t1)
+      (omega (arith, rep .depth, p .long)) (omega (arith, rep .depth, p .long)) (p .next)
 
   -- ---- vectors
 
@@ -233,6 +248,8 @@ module _ (rs : List Kind) (i : Instr) (apt : Apt i) (σ σ′ : State) (st : Lis
   sim-plain I64Const e = sim-i64-const e
   sim-plain I32Add e = sim-two (iadd w32) (λ a b. wrap-lt w32 (pos a +ℤ pos b)) e
   sim-plain I32Sub e = sim-two (isub w32) difference-lt e
+  sim-plain I32Eqz e = sim-number (λ a. cond (eqb a 0) 1 0) (λ a. flag-lt (eqb a 0)) e
+  sim-plain I32LtU e = sim-two (λ a b. cond (ltb a b) 1 0) (λ a b. flag-lt (ltb a b)) e
 
   sim-vector : (o : Op) → execVector o i σ ≡ goes σ′ → After (flatVector o i st d ls m)
   sim-vector (Load l) e = sim-load l e
@@ -253,4 +270,5 @@ module _ (rs : List Kind) (i : Instr) (apt : Apt i) (σ σ′ : State) (st : Lis
   -- where the standard's machine goes to σ′, the flat state holds σ′
   pub simulates : (c : Code) → exec rs c i σ ≡ goes σ′ → After (flat c i st d ls m)
   simulates (plain p) e = sim-plain p e
+  simulates (control k) e = absurd (moves (sym e))
   simulates (vector o) e = sim-vector o e

@@ -2,11 +2,14 @@
 use Prim.Native.Nat.{ℕ}
 use mathlib.Core.Path.{_≡_, sym, _∙_}
 use mathlib.Core.List.{List}
+use denote.Ref.{now}
 use Rattle.opcode.specs.Table.{Code, carried}
 use Rattle.opcode.specs.Number.{rowOf}
 use Rattle.instr.specs.declared.Instr.{Instr}
 use Rattle.machine.specs.Inner.Fit.{DidBy, boundsOf}
 use Rattle.machine.specs.declared.access.Bounds.{Bounds}
+use Rattle.machine.proofs.slot.top_word.Reads as top-word
+use Rattle.machine.proofs.slot.carry.Reads as carry
 
 module _ (id : ℕ) (i : Instr) (st : List ℕ) (d : ℕ) (c : Code) (row : rowOf id ≡ carried c) where
   pub one-bounds : (len : ℕ) (r r′ : Bounds) → ((c : Code) → rowOf id ≡ carried c → r ≡ boundsOf c i st d len) → ((c : Code) → rowOf id ≡ carried c → r′ ≡ boundsOf c i st d len) → r ≡ r′
@@ -16,3 +19,10 @@ module _ (id : ℕ) (i : Instr) (st : List ℕ) (d : ℕ) (c : Code) (row : rowO
   one-exec ls m d₁ d₂ st₁ st₂ ls₁ ls₂ m₁ m₂ p q =
       let x = p .does c row in let y = q .does c row in
       (x .depth ∙ sym (y .depth), x .stack ∙ sym (y .stack), x .locals ∙ sym (y .locals), x .memory ∙ sym (y .memory))
+
+-- of what a branch asks and takes along, by the functions' own contracts
+pub one-word : (κs : _) (a : _) (e e′ : _) (r r′ : ℕ) → top-word.Post κs a r e → top-word.Post κs a r′ e′ → r ≡ r′
+one-word κs a e e′ r r′ p q = p ∙ sym q
+
+pub one-carry : (κs : _) (a : _) (e e′ : _) (r r′ : _) → carry.Post κs a r e → carry.Post κs a r′ e′ → now (e .0) ≡ now (e′ .0)
+one-carry κs a e e′ r r′ p q = p ∙ sym q

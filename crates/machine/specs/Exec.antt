@@ -10,7 +10,7 @@ use Rattle.scalar.specs.Scalar.{iadd, isub}
 use Rattle.operation.specs.Op.{Op, Load, LoadLane, Store, StoreLane, Const, Shuffle, Splat, ExtractLane, ReplaceLane, Unary, Binary, Bitselect, Test, Shift, unary, binary, bitselect, test, shift, splat, extracted, replaced, shuffled, loaded, laneIn, laneOut}
 use Rattle.limits.specs.Limits.{stackLimit}
 use Rattle.opcode.specs.Kind.{Kind, kindByte}
-use Rattle.opcode.specs.Table.{Plain, End, Drop, LocalGet, LocalSet, LocalTee, I32Const, I64Const, I32Add, I32Sub, Code, plain, vector}
+use Rattle.opcode.specs.Table.{Plain, End, Drop, LocalGet, LocalSet, LocalTee, I32Const, I64Const, I32Add, I32Sub, I32Eqz, I32LtU, Code, plain, control, vector}
 use Rattle.opcode.specs.Immediate.{moved}
 use Rattle.instr.specs.declared.Instr.{Instr}
 use Rattle.machine.specs.Value.{Value, I32, I64, V128, kindOf}
@@ -112,6 +112,8 @@ execPlain rs I32Const i c = push c (c .stack) (I32 (i .word))
 execPlain rs I64Const i c = push c (c .stack) (I64 (i .long))
 execPlain rs I32Add i c = popI32 (c .stack) (λ b st. popI32 st (λ a st. push c st (I32 (iadd w32 a b))))
 execPlain rs I32Sub i c = popI32 (c .stack) (λ b st. popI32 st (λ a st. push c st (I32 (isub w32 a b))))
+execPlain rs I32Eqz i c = popI32 (c .stack) (λ a st. push c st (I32 (cond (eqb a 0) 1 0)))
+execPlain rs I32LtU i c = popI32 (c .stack) (λ b st. popI32 st (λ a st. push c st (I32 (cond (ltb a b) 1 0))))
 
 -- the bytes that an operation moves, read
 abbrev pub read : Op → Instr → ℕ → State → List ℕ
@@ -137,7 +139,8 @@ execVector Bitselect i c = popV128 (c .stack) (λ m st. popV128 st (λ b st. pop
 execVector (Test o) i c = popV128 (c .stack) (λ a st. push c st (I32 (test o a)))
 execVector (Shift o) i c = popI32 (c .stack) (λ n st. popV128 st (λ a st. push c st (V128 (shift o a n))))
 
--- of a strip whose results are of these kinds
+-- of a strip whose results are of these kinds; what blocks and branches do is said of the whole strip (standard), and by itself each is stuck
 abbrev pub exec : List Kind → Code → Instr → State → Outcome
 exec rs (plain p) i c = execPlain rs p i c
+exec rs (control k) i c = stuck
 exec rs (vector o) i c = execVector o i c

@@ -165,6 +165,14 @@ pub fn exec(
             step::vectors::shift(id, stack, depth);
             depth - 1
         }
+        opcode::GROUP_I32_EQZ => {
+            step::numbers::eqz(stack, depth);
+            depth
+        }
+        opcode::GROUP_I32_LT_U => {
+            step::numbers::lt_u(stack, depth);
+            depth - 1
+        }
         _ => depth,
     }
 }

@@ -9,3 +9,5 @@ mod vector;
 pub use access::Bounds;
 pub use instruction::bounds;
 pub use instruction::exec;
+pub use slot::carry;
+pub use slot::top_word;

@@ -4,7 +4,7 @@ ghost use Prim.Native.Nat.{_+_, _*_, _≤_, _<_};
 ghost use lib.ListN.{length};
 ghost use Rattle.limits.specs.Limits.{stackLimit, stackBytes};
 ghost use Rattle.operation.specs.Vector.{le};
-ghost use Rattle.machine.specs.Inner.Flat.{slotAt, putSlot, topOf, low32, low64};
+ghost use Rattle.machine.specs.Inner.Flat.{Holds, slotAt, putSlot, topOf, low32, low64};
 use crate::bytes;
 use lane::V128;
 use lane::i32x4;
@@ -49,4 +49,21 @@ pub(crate) fn of_number(x: u64) -> V128
     ensures { λ r. ⌜ r .bytes ≡ le 16 x ⌝ }
 {
     i64x2::replace_lane(V128 { bytes: [0u8; 16] }, 0, x).value
+}
+
+// The number on top: what a branch asks.
+pub fn top_word(stack: &[u8], depth: usize) -> u32
+    requires { ⌜ Holds 1 (now stack) depth ⌝ }
+    ensures { λ r. ⌜ r ≡ low32 (topOf (now (stack .entry)) depth 1) ⌝ }
+{
+    word(top(stack, depth, 1))
+}
+
+// A value to a lower slot: what a branch takes along.
+pub fn carry(stack: &mut [u8], from: usize, to: usize)
+    requires { ⌜ (from < stackLimit) × (to < stackLimit) × (length (now stack) ≡ stackBytes) ⌝ }
+    ensures { λ r. ⌜ now (stack .exit) ≡ putSlot (now (stack .entry)) to (slotAt (now (stack .entry)) from) ⌝ }
+{
+    let v = get(stack, from);
+    put(stack, to, v);
 }

@@ -11,7 +11,7 @@ use lib.ListN.{length}
 use mir.Facts.{and-yes}
 use borrow.Author.Tests.{eq-eqb, ne-eqb, lt-ltb, le-ltb}
 use Rattle.opcode.specs.Ascii.{ascii}
-use Rattle.opcode.specs.Table.{Plain, Code, Row, carried, float, unassigned, Line, name, lines, vectors, vectorAt, vectorName, plainLines, plainAt, plainName, PREFIX, rowAt, nameAt}
+use Rattle.opcode.specs.Table.{Code, Row, carried, float, unassigned, Line, name, lines, vectors, vectorAt, vectorName, plainLines, latest, plainAt, plainName, PREFIX, rowAt, nameAt}
 use Rattle.opcode.specs.Number.{idOf, rowOf, nameOf}
 use Rattle.opcode.specs.Lists.{upFrom}
 use Rattle.opcode.proofs.Every.{every, below, below-or-past}
@@ -54,7 +54,7 @@ abbrev find : List ℕ → ℕ → List Line → ℕ
 find n k [] = k
 find n k (l ∷ ls) = cond (same n (ascii (name l))) k (find n (suc k) ls)
 
-abbrev findPlain : List ℕ → List (ℕ × String × Plain) → ℕ
+abbrev findPlain : List ℕ → List (ℕ × String × ℕ × Code) → ℕ
 findPlain n [] = 256 + find n 0 lines
 findPlain n (l ∷ ls) = cond (same n (ascii (l .1))) (l .0) (findPlain n ls)
 
@@ -85,7 +85,7 @@ name-back id e = eqb→eq (idOfName (nameOf id)) id (at-id id e .0)
 
 -- ---- for callers
 
-pub name-once : (a m b n : ℕ) {c d : Code} → a < 256 → b < 256 → rowAt a m ≡ carried c → rowAt b n ≡ carried d → nameAt a m ≡ nameAt b n → (a ≡ b) × (a ≡ PREFIX → m ≡ n)
+pub name-once : (a m b n : ℕ) {c d : Code} → a < 256 → b < 256 → rowAt latest a m ≡ carried c → rowAt latest b n ≡ carried d → nameAt a m ≡ nameAt b n → (a ≡ b) × (a ≡ PREFIX → m ≡ n)
 name-once a m b n la lb p q e =
     id-once a m b n la lb p
     (sym (name-back (idOf a m) (row-of-id a m la ∙ p))
@@ -93,7 +93,7 @@ name-once a m b n la lb p q e =
     ∙ name-back (idOf b n) (row-of-id b n lb ∙ q))
 
 module _ (first n : ℕ) (l : first < 256) where
-  pub name-some : {c : Code} → rowAt first n ≡ carried c → 0 < length (nameAt first n)
+  pub name-some : {c : Code} → rowAt latest first n ≡ carried c → 0 < length (nameAt first n)
   name-some e = rw (← name-of-id first n l) (ltb→lt 0 (length (nameOf (idOf first n))) (at-id (idOf first n) (row-of-id first n l ∙ e) .1))
 
   pub name-short : length (nameAt first n) ≤ 32

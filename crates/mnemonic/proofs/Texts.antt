@@ -32,7 +32,7 @@ all-found : T (every (λ id. eqt (textIn (rowOfName id)) (textOf id)) (upFrom 0 
 unfolding rowOfName plainName vectorName
 all-found = tt
 
-rowless : (id : ℕ) → 512 ≤ id → rowOfName id ≡ 265
+rowless : (id : ℕ) → 512 ≤ id → rowOfName id ≡ 271
 unfolding rowOfName
 rowless id h = let past : 256 ≤ id = omega arith in simp (le-ltb id 256 past, le-ltb id 512 h)
 
@@ -45,13 +45,13 @@ name-in-row id =
     (below-or-past 512 id)
 
 -- every row is in one of the blocks
-all-inside : T (every (λ id. leb (rowOfName id) 265) (upFrom 0 512))
+all-inside : T (every (λ id. leb (rowOfName id) 271) (upFrom 0 512))
 unfolding rowOfName
 all-inside = tt
 
-pub row-inside : (id : ℕ) → rowOfName id ≤ 265
+pub row-inside : (id : ℕ) → rowOfName id ≤ 271
 row-inside id =
     ⊎-elim
-    (λ l. leb→le (rowOfName id) 265 (below (λ k. leb (rowOfName k) 265) 512 all-inside id l))
+    (λ l. leb→le (rowOfName id) 271 (below (λ k. leb (rowOfName k) 271) 512 all-inside id l))
     (λ h. omega (arith, rowless id h))
     (below-or-past 512 id)

@@ -10,22 +10,28 @@ ghost use Rattle.mnemonic.specs.Inner.Row.{rowOfName};
 const ROWS: u32 = 16;
 
 // A row without a name.
-const NAMELESS: u32 = 265;
+const NAMELESS: u32 = 271;
 
 // The row that has the name of the instruction with this id.
 fn row(id: u32) -> u32
     ensures { λ r. ⌜ r ≡ rowOfName id ⌝ }
 {
     match id {
-        0x0B => 256,
-        0x1A => 257,
-        0x20 => 258,
-        0x21 => 259,
-        0x22 => 260,
-        0x41 => 261,
-        0x42 => 262,
-        0x6A => 263,
-        0x6B => 264,
+        0x02 => 256,
+        0x03 => 257,
+        0x0B => 258,
+        0x0C => 259,
+        0x0D => 260,
+        0x1A => 261,
+        0x20 => 262,
+        0x21 => 263,
+        0x22 => 264,
+        0x41 => 265,
+        0x42 => 266,
+        0x45 => 267,
+        0x49 => 268,
+        0x6A => 269,
+        0x6B => 270,
         _ => if id < 256 {
             NAMELESS
         } else if id < 512 {

@@ -1,5 +1,5 @@
-// The names (document 002, and Core 6.5 for the nine outside the prefix), a row of 32 bytes each, filled with blanks. Sixteen rows a
-// function: an array is written to the stack where it is read, and all the rows in one would be 8,480 bytes for each name.
+// The names (document 002, and Core 6.5 for those outside the prefix), a row of 32 bytes each, filled with blanks. Sixteen rows a
+// function: an array is written to the stack where it is read, and all the rows in one would be 8,672 bytes for each name.
 ghost use mathlib.Core.Path.{_≡_};
 ghost use Prim.Native.Nat.{_≤_};
 ghost use lib.ListN.{length};
@@ -419,27 +419,27 @@ fn from_f0(n: usize, out: &mut [u8; 32])
     copy(&names, n, out);
 }
 
-// The nine outside the prefix.
+// Those outside the prefix.
 fn plain(n: usize, out: &mut [u8; 32])
     requires { ⌜ Fits n (now out) ⌝ }
     ensures { λ r. ⌜ now (out .exit) ≡ row n (block 0x10) ⌝ }
 {
     let names = *b"\
+        block                           \
+        loop                            \
         end                             \
+        br                              \
+        br_if                           \
         drop                            \
         local.get                       \
         local.set                       \
         local.tee                       \
         i32.const                       \
         i64.const                       \
+        i32.eqz                         \
+        i32.lt_u                        \
         i32.add                         \
         i32.sub                         \
-        \x20                               \
-        \x20                               \
-        \x20                               \
-        \x20                               \
-        \x20                               \
-        \x20                               \
         \x20                               \
     ";
     copy(&names, n, out);

@@ -15,9 +15,10 @@ const BUDGET: u32 = 1000000;
 // What stands in the results before a run.
 const UNTOUCHED: u8 = 0xEE;
 
-// What the check answered, what the run did, and the results after it.
+// What the check answered and the strip's byte at that place, what the run did, and the results after it.
 pub(crate) struct Got {
     pub verdict: Answer,
+    pub named: u8,
     pub answer: Answer,
     pub results: [u8; 64],
 }
@@ -47,7 +48,7 @@ pub(crate) fn refusal(s: &[u8], at: usize, strips: &[usize], memory: &mut [u8]) 
     requires { ⌜ at < length (now s) ⌝ }
 {
     let got = outcome(s, at, strips, memory);
-    let held = is_for(got.verdict.code, s, field(s, at, 3))
+    let held = is_for(got.verdict.code, got.named, s, field(s, at, 3))
         && alike(got.verdict, got.answer)
         && untouched(got);
     told(s, at, got, held)
@@ -72,8 +73,10 @@ fn outcome(s: &[u8], at: usize, strips: &[usize], memory: &mut [u8]) -> Got {
     let r = within(results_len(&strip[..n]), &results);
     let verdict = strip::check(&strip[..n]);
     let answer = strip::run(&strip[..n], &args[..a], memory, &mut results[..r], BUDGET);
+    let named = byte_at(&strip[..n], verdict.place);
     Got {
         verdict,
+        named,
         answer,
         results,
     }
@@ -88,6 +91,11 @@ fn strip_of(s: &[u8], at: usize, strips: &[usize], out: &mut [u8]) -> usize
     } else {
         0
     }
+}
+
+// 0 past the end, where no instruction is.
+fn byte_at(strip: &[u8], place: usize) -> u8 {
+    if place < strip.len() { strip[place] } else { 0 }
 }
 
 // Sixteen bytes for each result that the header declares.
@@ -112,8 +120,8 @@ fn untouched(got: Got) -> bool {
     check::same(&got.results, &expected)
 }
 
-// Whether the code is the card's for the reason at `at`, which the suite gives in its own words.
-fn is_for(code: u8, s: &[u8], at: usize) -> bool {
+// Whether the code is the card's for the reason at `at`, which the suite gives in its own words, and names an instruction that the code is for.
+fn is_for(code: u8, named: u8, s: &[u8], at: usize) -> bool {
     if s.len() <= at {
         return false;
     }
@@ -123,9 +131,33 @@ fn is_for(code: u8, s: &[u8], at: usize) -> bool {
         // invalid lane index
         b'i' => code == card::LANE,
         // type mismatch
-        b't' => code == card::OPERAND || code == card::RESULT,
-        // unknown local
-        b'u' => code == card::LOCAL,
+        b't' => is_mismatch(code, named),
+        // unknown label, unknown local
+        b'u' => is_unknown(code, named, s, field(s, at, 1)),
+        _ => false,
+    }
+}
+
+// RESULT of an `end`, OPERAND of any other.
+fn is_mismatch(code: u8, named: u8) -> bool {
+    if named == 0x0B {
+        code == card::RESULT
+    } else {
+        code == card::OPERAND
+    }
+}
+
+// The word at `at` is `label` or `local`: LABEL of br and br_if, LOCAL of local.get, local.set and local.tee.
+fn is_unknown(code: u8, named: u8, s: &[u8], at: usize) -> bool {
+    if s.len() <= at {
+        return false;
+    }
+    if s.len() - at < 2 {
+        return false;
+    }
+    match s[at + 1] {
+        b'a' => code == card::LABEL && 0x0C <= named && named <= 0x0D,
+        b'o' => code == card::LOCAL && 0x20 <= named && named <= 0x22,
         _ => false,
     }
 }

@@ -1,5 +1,6 @@
-// Runs the official WebAssembly SIMD tests that fit strips, data/official-simd.txt; README.md says how its lines are read. Prints
-// for each file of the suite how many cases it has and how many of them differ, and last the same of all.
+// Runs the official WebAssembly tests that fit strips: data/official-simd.txt, of version 1, and data/official-control.txt, of version 2;
+// README.md says how their lines are read. Prints for each file of the suite how many cases it has and how many of them differ, and
+// after those of each text the same of all.
 mod case;
 mod count;
 mod group;
@@ -18,7 +19,11 @@ use text::next_line;
 use text::number_at;
 
 fn main() {
-    let path = b"official-simd.txt";
+    text_at(b"official-simd.txt");
+    text_at(b"official-control.txt");
+}
+
+fn text_at(path: &[u8]) {
     let fd = os::open_read(path);
     if fd < 0 {
         os::fail(path);

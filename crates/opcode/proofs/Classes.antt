@@ -11,13 +11,13 @@ use mir.Syntax.{Width, w8, w16, w32, w64, w128}
 use mir.Val.{bytes}
 use Rattle.operation.specs.Shape.{lanes}
 use Rattle.operation.specs.Op.{Whole, Widen, Repeat, ZeroPad, Op, Load, LoadLane, Store, StoreLane, Const, Shuffle, Splat, ExtractLane, ReplaceLane, Unary, Binary, Bitselect, Test, Shift}
-use Rattle.opcode.specs.Table.{Code, plain, vector, Row, carried, float, unassigned}
-use Rattle.opcode.specs.Immediate.{Immediates, nothing, index, word, long, memory, memoryLane, laneIndex, sixteenBytes, sixteenLanes, immediates, moved, laneCount, movedBy, lanesOf}
+use Rattle.opcode.specs.Table.{Code, plain, control, vector, Row, carried, float, unassigned}
+use Rattle.opcode.specs.Immediate.{Immediates, nothing, index, blockType, word, long, memory, memoryLane, laneIndex, sixteenBytes, sixteenLanes, immediates, moved, laneCount, movedBy, lanesOf}
 use Rattle.opcode.specs.Number.{classNumber, FLOAT, UNASSIGNED, classOf}
 use Rattle.opcode.proofs.Every.{below-or-past}
 
 abbrev classAt : ℕ → Immediates
-classAt n = getD (nothing ∷ index ∷ word ∷ long ∷ memory ∷ memoryLane ∷ laneIndex ∷ sixteenBytes ∷ []) n sixteenLanes
+classAt n = getD (nothing ∷ index ∷ word ∷ long ∷ memory ∷ memoryLane ∷ laneIndex ∷ sixteenBytes ∷ sixteenLanes ∷ []) n blockType
 
 class-back : (i : Immediates) → classAt (classNumber i) ≡ i
 class-back nothing = refl
@@ -29,6 +29,7 @@ class-back memoryLane = refl
 class-back laneIndex = refl
 class-back sixteenBytes = refl
 class-back sixteenLanes = refl
+class-back blockType = refl
 
 class-small : (i : Immediates) → classNumber i < FLOAT
 class-small nothing = lit< tt
@@ -40,6 +41,7 @@ class-small memoryLane = lit< tt
 class-small laneIndex = lit< tt
 class-small sixteenBytes = lit< tt
 class-small sixteenLanes = lit< tt
+class-small blockType = lit< tt
 
 pub class-once : {i j : Immediates} → classNumber i ≡ classNumber j → i ≡ j
 class-once {i} {j} e = sym (class-back i) ∙ ap classAt e ∙ class-back j
@@ -99,6 +101,7 @@ moved-small o = ⊎-elim (λ e. omega arith) (λ p. omega (arith, pow-mono (p .2
 
 pub row-moved-small : (r : Row) → movedBy r ≤ 16
 row-moved-small (carried (plain p)) = lit≤ tt
+row-moved-small (carried (control k)) = lit≤ tt
 row-moved-small (carried (vector o)) = moved-small o
 row-moved-small float = lit≤ tt
 row-moved-small unassigned = lit≤ tt
@@ -130,6 +133,7 @@ lanes-small (Shift o) = lit≤ tt
 
 pub row-lanes-small : (r : Row) → lanesOf r ≤ 16
 row-lanes-small (carried (plain p)) = lit≤ tt
+row-lanes-small (carried (control k)) = lit≤ tt
 row-lanes-small (carried (vector o)) = lanes-small o
 row-lanes-small float = lit≤ tt
 row-lanes-small unassigned = lit≤ tt

@@ -9,7 +9,7 @@ use lib.ListN.{length, getD, length-map, length-reverse}
 use Rattle.operation.specs.Vector.{number}
 use Rattle.operation.specs.Op.{Op, Load, LoadLane, Store, StoreLane, Const, Shuffle, Splat, ExtractLane, ReplaceLane, Unary, Binary, Bitselect, Test, Shift}
 use Rattle.opcode.specs.Kind.{Kind, i32, i64, v128, kindByte}
-use Rattle.opcode.specs.Table.{End, Drop, LocalGet, LocalSet, LocalTee, I32Const, I64Const, I32Add, I32Sub, Code, plain, vector}
+use Rattle.opcode.specs.Table.{End, Drop, LocalGet, LocalSet, LocalTee, I32Const, I64Const, I32Add, I32Sub, I32Eqz, I32LtU, Code, plain, control, vector}
 use Rattle.opcode.specs.Effect.{Signature, _⇒_, takes, leaves, signature, effect}
 use Rattle.opcode.specs.Number.{packed}
 
@@ -114,6 +114,9 @@ small (plain I32Const) = (lit≤ tt, lit≤ tt, lit< tt)
 small (plain I64Const) = (lit≤ tt, lit≤ tt, lit< tt)
 small (plain I32Add) = (lit≤ tt, lit≤ tt, lit< tt)
 small (plain I32Sub) = (lit≤ tt, lit≤ tt, lit< tt)
+small (plain I32Eqz) = (lit≤ tt, lit≤ tt, lit< tt)
+small (plain I32LtU) = (lit≤ tt, lit≤ tt, lit< tt)
+small (control k) = tt
 small (vector o) = small-op o
 
 pub unpacked : (c : Code) {s : Signature} → effect c ≡ some s → Unpacked s

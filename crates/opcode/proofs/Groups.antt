@@ -6,8 +6,8 @@ use lib.Dec.{lit≤}
 use mir.Syntax.{Width}
 use Rattle.scalar.specs.Scalar.{Sign}
 use Rattle.operation.specs.Op.{Loadop, Unop, Binop, Testop, Shiftop, Op, Load, LoadLane, Store, StoreLane, Const, Shuffle, Splat, ExtractLane, ReplaceLane, Unary, Binary, Bitselect, Test, Shift}
-use Rattle.opcode.specs.Table.{Plain, End, Drop, LocalGet, LocalSet, LocalTee, I32Const, I64Const, I32Add, I32Sub, Code, plain, vector, Row, carried, float, unassigned}
-use Rattle.opcode.specs.Number.{groupOfPlain, groupOfOp, groupOfCode, groupOf}
+use Rattle.opcode.specs.Table.{Plain, End, Drop, LocalGet, LocalSet, LocalTee, I32Const, I64Const, I32Add, I32Sub, I32Eqz, I32LtU, Control, Block, Loop, Br, BrIf, Code, plain, control, vector, Row, carried, float, unassigned}
+use Rattle.opcode.specs.Number.{groupOfPlain, groupOfControl, groupOfOp, groupOfCode, groupOf}
 
 -- the k-th, and nothing past the last
 abbrev pick : List {1} (Type 0) → ℕ → Type 0
@@ -42,6 +42,12 @@ Each P =
     ∷ P (vector Bitselect)
     ∷ ((o : Testop) → P (vector (Test o)))
     ∷ ((o : Shiftop) → P (vector (Shift o)))
+    ∷ P (plain I32Eqz)
+    ∷ P (plain I32LtU)
+    ∷ P (control Block)
+    ∷ P (control Loop)
+    ∷ P (control Br)
+    ∷ P (control BrIf)
     ∷ [])
 
 pub by-group : (P : Code → Type 0) (k : ℕ) → Each P k → (c : Code) → groupOfCode c ≡ k → P c
@@ -54,6 +60,12 @@ by-group P k h (plain I32Const) e = subst (Each P) (sym e) h
 by-group P k h (plain I64Const) e = subst (Each P) (sym e) h
 by-group P k h (plain I32Add) e = subst (Each P) (sym e) h
 by-group P k h (plain I32Sub) e = subst (Each P) (sym e) h
+by-group P k h (plain I32Eqz) e = subst (Each P) (sym e) h
+by-group P k h (plain I32LtU) e = subst (Each P) (sym e) h
+by-group P k h (control Block) e = subst (Each P) (sym e) h
+by-group P k h (control Loop) e = subst (Each P) (sym e) h
+by-group P k h (control Br) e = subst (Each P) (sym e) h
+by-group P k h (control BrIf) e = subst (Each P) (sym e) h
 by-group P k h (vector (Load l)) e = subst (Each P) (sym e) h l
 by-group P k h (vector (LoadLane w)) e = subst (Each P) (sym e) h w
 by-group P k h (vector Store) e = subst (Each P) (sym e) h
@@ -69,7 +81,7 @@ by-group P k h (vector Bitselect) e = subst (Each P) (sym e) h
 by-group P k h (vector (Test o)) e = subst (Each P) (sym e) h o
 by-group P k h (vector (Shift o)) e = subst (Each P) (sym e) h o
 
-plain-small : (p : Plain) → groupOfPlain p ≤ 23
+plain-small : (p : Plain) → groupOfPlain p ≤ 29
 plain-small End = lit≤ tt
 plain-small Drop = lit≤ tt
 plain-small LocalGet = lit≤ tt
@@ -79,8 +91,16 @@ plain-small I32Const = lit≤ tt
 plain-small I64Const = lit≤ tt
 plain-small I32Add = lit≤ tt
 plain-small I32Sub = lit≤ tt
+plain-small I32Eqz = lit≤ tt
+plain-small I32LtU = lit≤ tt
 
-op-small : (o : Op) → groupOfOp o ≤ 23
+control-small : (k : Control) → groupOfControl k ≤ 29
+control-small Block = lit≤ tt
+control-small Loop = lit≤ tt
+control-small Br = lit≤ tt
+control-small BrIf = lit≤ tt
+
+op-small : (o : Op) → groupOfOp o ≤ 29
 op-small (Load l) = lit≤ tt
 op-small (LoadLane w) = lit≤ tt
 op-small Store = lit≤ tt
@@ -96,8 +116,9 @@ op-small Bitselect = lit≤ tt
 op-small (Test o) = lit≤ tt
 op-small (Shift o) = lit≤ tt
 
-pub row-group-small : (r : Row) → groupOf r ≤ 23
+pub row-group-small : (r : Row) → groupOf r ≤ 29
 row-group-small (carried (plain p)) = plain-small p
+row-group-small (carried (control k)) = control-small k
 row-group-small (carried (vector o)) = op-small o
 row-group-small float = lit≤ tt
 row-group-small unassigned = lit≤ tt

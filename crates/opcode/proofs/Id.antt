@@ -5,16 +5,16 @@ use Prim.Native.Nat.{ℕ, _+_, _≤_, _<_}
 use native.Mathlib.Decide.{ℕ-discrete}
 use native.Mathlib.Omega.{arith}
 use borrow.Author.Tests.{eq-eqb, ne-eqb, lt-ltb, le-ltb}
-use Rattle.opcode.specs.Table.{Code, carried, vectorAt, plainAt, PREFIX, rowAt}
+use Rattle.opcode.specs.Table.{Code, carried, vectorAt, latest, plainAt, PREFIX, rowAt}
 use Rattle.opcode.specs.Number.{idOf, rowOf}
 use Rattle.opcode.proofs.Every.{below-or-past}
 use Rattle.opcode.proofs.Rows.{vector-beyond, row-beyond, row-vector}
 
 -- the three ways to an id
 pub data Way (first n : ℕ) : Type 0 where
-  byte : (first ≡ PREFIX → ⊥) → idOf first n ≡ first → rowAt first n ≡ plainAt first → Way first n
-  number : first ≡ PREFIX → n < 256 → idOf first n ≡ 256 + n → rowAt first n ≡ vectorAt n → Way first n
-  beyond : first ≡ PREFIX → 256 ≤ n → idOf first n ≡ 512 → rowAt first n ≡ vectorAt n → Way first n
+  byte : (first ≡ PREFIX → ⊥) → idOf first n ≡ first → rowAt latest first n ≡ plainAt latest first → Way first n
+  number : first ≡ PREFIX → n < 256 → idOf first n ≡ 256 + n → rowAt latest first n ≡ vectorAt n → Way first n
+  beyond : first ≡ PREFIX → 256 ≤ n → idOf first n ≡ 512 → rowAt latest first n ≡ vectorAt n → Way first n
 
 pub way : (first n : ℕ) → Way first n
 way first n =
@@ -27,19 +27,19 @@ way first n =
       | no d ↦ byte d (simp (ne-eqb first PREFIX d)) (simp (ne-eqb first PREFIX d))
     ]
 
-plain-row : (id : ℕ) → id < 256 → rowOf id ≡ plainAt id
+plain-row : (id : ℕ) → id < 256 → rowOf id ≡ plainAt latest id
 unfolding rowOf
 plain-row id l = simp (lt-ltb id 256 l)
 
-pub row-of-id : (first n : ℕ) → first < 256 → rowOf (idOf first n) ≡ rowAt first n
+pub row-of-id : (first n : ℕ) → first < 256 → rowOf (idOf first n) ≡ rowAt latest first n
 row-of-id first n l = by (way first n)
   where
-    by : Way first n → rowOf (idOf first n) ≡ rowAt first n
+    by : Way first n → rowOf (idOf first n) ≡ rowAt latest first n
     by (byte d i r) = rw (i, r) (plain-row first l)
     by (number e b i r) = rw (i, r) (row-vector n)
     by (beyond e b i r) = rw (i, r) (row-beyond 512 (omega arith) ∙ sym (vector-beyond n b))
 
-pub id-once : (a m b n : ℕ) {c : Code} → a < 256 → b < 256 → rowAt a m ≡ carried c → idOf a m ≡ idOf b n → (a ≡ b) × (a ≡ PREFIX → m ≡ n)
+pub id-once : (a m b n : ℕ) {c : Code} → a < 256 → b < 256 → rowAt latest a m ≡ carried c → idOf a m ≡ idOf b n → (a ≡ b) × (a ≡ PREFIX → m ≡ n)
 id-once a m b n {c} la lb e same = by (way a m) (way b n)
   where
     by : Way a m → Way b n → (a ≡ b) × (a ≡ PREFIX → m ≡ n)

@@ -10,7 +10,7 @@ use mir.Syntax.{Width}
 use mir.Val.{bytes}
 use Rattle.scalar.specs.Scalar.{Sign, S, U}
 use Rattle.operation.specs.Op.{Half, Low, High, Unop, Not, Abs, Neg, Popcnt, Extend, ExtaddPairwise, Binop, And, Andnot, Or, Xor, Swizzle, Eq, Ne, Lt, Gt, Le, Ge, Add, Sub, Mul, AddSat, SubSat, Min, Max, AvgrU, Q15mulrSatS, DotS, Narrow, Extmul, Testop, AnyTrue, AllTrue, Bitmask, Shiftop, Shl, Shr, Loadop, Whole, Widen, Repeat, ZeroPad, Op, Load, LoadLane, Store, StoreLane, Const, Shuffle, Splat, ExtractLane, ReplaceLane, Unary, Binary, Bitselect, Test, Shift}
-use Rattle.opcode.specs.Table.{Plain, End, Drop, LocalGet, LocalSet, LocalTee, I32Const, I64Const, I32Add, I32Sub, Code, plain, vector, Row, carried, float, unassigned, vectors, vectorAt, plainAt}
+use Rattle.opcode.specs.Table.{Plain, End, Drop, LocalGet, LocalSet, LocalTee, I32Const, I64Const, I32Add, I32Sub, I32Eqz, I32LtU, Control, Block, Loop, Br, BrIf, Code, plain, control, vector, Row, carried, float, unassigned, vectors, vectorAt, plainAt}
 use Rattle.opcode.specs.Number.{rowOf}
 use Rattle.opcode.specs.Lists.{upFrom}
 use Rattle.opcode.proofs.Every.{every, below, below-or-past}
@@ -94,6 +94,7 @@ tag (Shift o) = 4096 * 13 + shiftop o
 
 abbrev has : ℕ → Row → Bool
 has t (carried (plain p)) = false
+has t (carried (control k)) = false
 has t (carried (vector o)) = eqb t (tag o)
 has t float = false
 has t unassigned = false
@@ -116,9 +117,18 @@ byteOf I32Const = 0x41
 byteOf I64Const = 0x42
 byteOf I32Add = 0x6A
 byteOf I32Sub = 0x6B
+byteOf I32Eqz = 0x45
+byteOf I32LtU = 0x49
+
+unfoldable pub byteOfControl : Control → ℕ
+byteOfControl Block = 0x02
+byteOfControl Loop = 0x03
+byteOfControl Br = 0x0C
+byteOfControl BrIf = 0x0D
 
 abbrev pub idOfCode : Code → ℕ
 idOfCode (plain p) = byteOf p
+idOfCode (control k) = byteOfControl k
 idOfCode (vector o) = 256 + numberOf o
 
 abbrev back : ℕ → Row → Bool
@@ -127,7 +137,7 @@ back id float = true
 back id unassigned = true
 
 all-back : T (every (λ id. back id (rowOf id)) (upFrom 0 512))
-unfolding rowOf plainAt vectorAt vectors numberOf byteOf
+unfolding rowOf plainAt vectorAt vectors numberOf byteOf byteOfControl
 all-back = tt
 
 pub code-back : (id : ℕ) {c : Code} → rowOf id ≡ carried c → idOfCode c ≡ id

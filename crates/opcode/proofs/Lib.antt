@@ -2,6 +2,7 @@ pub mod Every
 pub mod Rows
 pub mod Arms
 pub mod Lists
+pub mod BlockTypes
 pub mod Names
 pub mod Inverse
 pub mod Id
@@ -10,3 +11,4 @@ pub mod Effects
 pub mod Groups
 pub mod Entries
 pub mod Unique
+pub mod Versions

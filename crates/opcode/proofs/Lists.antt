@@ -8,8 +8,8 @@ use native.Mathlib.Nat.{eq-or-lt-of-le}
 use native.Mathlib.Omega.{arith}
 use lib.Dec.{T}
 use lib.ListN.{length}
-use Rattle.opcode.specs.Table.{Row, carried, float, unassigned, vectors, vectorAt}
-use Rattle.opcode.specs.Lists.{upFrom, _to_, unassigneds, floats, isFloat, isUnassigned, isCarried, keep, those}
+use Rattle.opcode.specs.Table.{Row, carried, float, unassigned, vectors, vectorAt, plainAt}
+use Rattle.opcode.specs.Lists.{upFrom, _to_, unassigneds, floats, isFloat, isUnassigned, isCarried, keep, those, plainsOfOne, plainsOfTwo, plainsIn}
 use Rattle.opcode.proofs.Every.{below-or-past}
 use Rattle.opcode.proofs.Rows.{vector-beyond}
 
@@ -30,6 +30,14 @@ count-floats = refl
 
 pub count-unassigned : length unassigneds ≡ 20
 count-unassigned = refl
+
+pub plains-of-one : plainsIn 1 (0 to 255) ≡ plainsOfOne
+unfolding plainAt
+plains-of-one = refl
+
+pub plains-of-two : plainsIn 2 (0 to 255) ≡ plainsOfTwo
+unfolding plainAt
+plains-of-two = refl
 
 -- ---- the same of one number
 

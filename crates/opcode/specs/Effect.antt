@@ -5,7 +5,7 @@ use mathlib.Core.Option.{Option, none, some}
 use mir.Syntax.{Width, w8, w16, w32, w64, w128}
 use Rattle.operation.specs.Op.{Op, Load, LoadLane, Store, StoreLane, Const, Shuffle, Splat, ExtractLane, ReplaceLane, Unary, Binary, Bitselect, Test, Shift}
 use Rattle.opcode.specs.Kind.{Kind, i32, i64, v128}
-use Rattle.opcode.specs.Table.{End, Drop, LocalGet, LocalSet, LocalTee, I32Const, I64Const, I32Add, I32Sub, Code, plain, vector}
+use Rattle.opcode.specs.Table.{End, Drop, LocalGet, LocalSet, LocalTee, I32Const, I64Const, I32Add, I32Sub, I32Eqz, I32LtU, Code, plain, control, vector}
 
 infix 20 _⇒_
 pub data Signature : Type 0 where
@@ -41,7 +41,7 @@ signature Bitselect = v128 ∷ v128 ∷ v128 ∷ [] ⇒ v128 ∷ []
 signature (Test o) = v128 ∷ [] ⇒ i32 ∷ []
 signature (Shift o) = v128 ∷ i32 ∷ [] ⇒ v128 ∷ []
 
--- drop and local.get, set and tee go by the kind on the stack or of the local, and end by the results: they have no signature here
+-- drop and local.get, set and tee go by the kind on the stack or of the local, end and branches by the block: they have no signature here
 abbrev pub effect : Code → Option Signature
 effect (plain End) = none
 effect (plain Drop) = none
@@ -52,4 +52,7 @@ effect (plain I32Const) = some ([] ⇒ i32 ∷ [])
 effect (plain I64Const) = some ([] ⇒ i64 ∷ [])
 effect (plain I32Add) = some (i32 ∷ i32 ∷ [] ⇒ i32 ∷ [])
 effect (plain I32Sub) = some (i32 ∷ i32 ∷ [] ⇒ i32 ∷ [])
+effect (plain I32Eqz) = some (i32 ∷ [] ⇒ i32 ∷ [])
+effect (plain I32LtU) = some (i32 ∷ i32 ∷ [] ⇒ i32 ∷ [])
+effect (control c) = none
 effect (vector o) = some (signature o)

@@ -4,11 +4,12 @@ use Prim.Native.Nat.{ℕ}
 use mir.Val.{bytes}
 use Rattle.operation.specs.Shape.{lanes}
 use Rattle.operation.specs.Op.{Whole, Widen, Repeat, ZeroPad, Op, Load, LoadLane, Store, StoreLane, Const, Shuffle, Splat, ExtractLane, ReplaceLane, Unary, Binary, Bitselect, Test, Shift}
-use Rattle.opcode.specs.Table.{End, Drop, LocalGet, LocalSet, LocalTee, I32Const, I64Const, I32Add, I32Sub, Code, plain, vector, Row, carried, float, unassigned}
+use Rattle.opcode.specs.Table.{End, Drop, LocalGet, LocalSet, LocalTee, I32Const, I64Const, I32Add, I32Sub, I32Eqz, I32LtU, Block, Loop, Br, BrIf, Code, plain, control, vector, Row, carried, float, unassigned}
 
 pub data Immediates : Type 0 where
   nothing : Immediates
-  index : Immediates  -- of a local, u32
+  index : Immediates  -- of a local or a block, u32
+  blockType : Immediates  -- a byte
   word : Immediates  -- a constant, s32
   long : Immediates  -- a constant, s64
   memory : Immediates  -- an alignment exponent and an offset, u32
@@ -27,6 +28,12 @@ immediates (plain I32Const) = word
 immediates (plain I64Const) = long
 immediates (plain I32Add) = nothing
 immediates (plain I32Sub) = nothing
+immediates (plain I32Eqz) = nothing
+immediates (plain I32LtU) = nothing
+immediates (control Block) = blockType
+immediates (control Loop) = blockType
+immediates (control Br) = index
+immediates (control BrIf) = index
 immediates (vector (Load l)) = memory
 immediates (vector (LoadLane w)) = memoryLane
 immediates (vector Store) = memory
@@ -82,12 +89,14 @@ laneCount (Shift o) = 0
 -- the same of a row of the table: 0 where it has no operation
 abbrev pub movedBy : Row → ℕ
 movedBy (carried (plain p)) = 0
+movedBy (carried (control c)) = 0
 movedBy (carried (vector o)) = moved o
 movedBy float = 0
 movedBy unassigned = 0
 
 abbrev pub lanesOf : Row → ℕ
 lanesOf (carried (plain p)) = 0
+lanesOf (carried (control c)) = 0
 lanesOf (carried (vector o)) = laneCount o
 lanesOf float = 0
 lanesOf unassigned = 0

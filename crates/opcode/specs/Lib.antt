@@ -1,5 +1,6 @@
 pub mod Ascii
 pub mod Kind
+pub mod BlockType
 pub mod Table
 pub mod Immediate
 pub mod Effect

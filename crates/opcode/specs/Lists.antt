@@ -1,8 +1,9 @@
--- 01's two lists of numbers after FD ("Instructions"), as it writes them: a second source, to which the table is held.
+-- 01's two lists of numbers after FD ("Instructions"), as it writes them, and the opcodes outside the prefix by version (01; 02, C-13): a second
+-- source, to which the table is held.
 use Prim.Native.Nat.{ℕ, zero, suc, _-_}
 use mathlib.Core.Bool.{Bool, true, false}
 use mathlib.Core.List.{List, [], _∷_, _++_}
-use Rattle.opcode.specs.Table.{Row, carried, float, unassigned, vectorAt}
+use Rattle.opcode.specs.Table.{Row, carried, float, unassigned, vectorAt, plainAt}
 
 infix 70 _to_
 abbrev pub upFrom : ℕ → ℕ → List ℕ
@@ -44,3 +45,16 @@ keep false n ns = ns
 abbrev pub those : (Row → Bool) → List ℕ → List ℕ
 those P [] = []
 those P (n ∷ ns) = keep (P (vectorAt n)) n (those P ns)
+
+-- the first bytes that are opcodes by themselves: 01's nine, and with them the six of 02, C-13, at Core's numbers
+abbrev pub plainsOfOne : List ℕ
+plainsOfOne = 0x0B ∷ 0x1A ∷ 0x20 ∷ 0x21 ∷ 0x22 ∷ 0x41 ∷ 0x42 ∷ 0x6A ∷ 0x6B ∷ []
+
+abbrev pub plainsOfTwo : List ℕ
+plainsOfTwo =
+    0x02 ∷ 0x03 ∷ 0x0B ∷ 0x0C ∷ 0x0D ∷ 0x1A ∷ 0x20 ∷ 0x21 ∷ 0x22 ∷ 0x41 ∷ 0x42 ∷ 0x45 ∷ 0x49 ∷ 0x6A ∷ 0x6B ∷ []
+
+-- those of the bytes that a version carries
+abbrev pub plainsIn : ℕ → List ℕ → List ℕ
+plainsIn ver [] = []
+plainsIn ver (b ∷ bs) = keep (isCarried (plainAt ver b)) b (plainsIn ver bs)

@@ -1,9 +1,11 @@
--- The names of the vector operations, put together of their parts as 002 puts them: a second source, to which the table's names are held.
+-- The names by what an instruction does: those of the vector operations put together of their parts as 002 puts them, the others Core's (6.5). A
+-- second source, to which the table's names are held.
 use Prim.Native.String.{String, _++_}
 use mir.Syntax.{Width, w8, w16, w32, w64, w128}
 use Rattle.scalar.specs.Scalar.{Sign, S, U}
 use Rattle.operation.specs.Shape.{i8x16, i16x8, i32x4, half, twice}
 use Rattle.operation.specs.Op.{Half, Low, High, Unop, Not, Abs, Neg, Popcnt, Extend, ExtaddPairwise, Binop, And, Andnot, Or, Xor, Swizzle, Eq, Ne, Lt, Gt, Le, Ge, Add, Sub, Mul, AddSat, SubSat, Min, Max, AvgrU, Q15mulrSatS, DotS, Narrow, Extmul, Testop, AnyTrue, AllTrue, Bitmask, Shiftop, Shl, Shr, Loadop, Whole, Widen, Repeat, ZeroPad, Op, Load, LoadLane, Store, StoreLane, Const, Shuffle, Splat, ExtractLane, ReplaceLane, Unary, Binary, Bitselect, Test, Shift}
+use Rattle.opcode.specs.Table.{Plain, End, Drop, LocalGet, LocalSet, LocalTee, I32Const, I64Const, I32Add, I32Sub, I32Eqz, I32LtU, Control, Block, Loop, Br, BrIf, Code, plain, control, vector}
 
 -- ---- the parts
 
@@ -106,3 +108,27 @@ nameOfOp (Binary o) = nameOfBinary o
 nameOfOp Bitselect = "v128.bitselect"
 nameOfOp (Test o) = nameOfTest o
 nameOfOp (Shift o) = nameOfShift o
+
+abbrev pub nameOfPlain : Plain → String
+nameOfPlain End = "end"
+nameOfPlain Drop = "drop"
+nameOfPlain LocalGet = "local.get"
+nameOfPlain LocalSet = "local.set"
+nameOfPlain LocalTee = "local.tee"
+nameOfPlain I32Const = "i32.const"
+nameOfPlain I64Const = "i64.const"
+nameOfPlain I32Add = "i32.add"
+nameOfPlain I32Sub = "i32.sub"
+nameOfPlain I32Eqz = "i32.eqz"
+nameOfPlain I32LtU = "i32.lt_u"
+
+abbrev pub nameOfControl : Control → String
+nameOfControl Block = "block"
+nameOfControl Loop = "loop"
+nameOfControl Br = "br"
+nameOfControl BrIf = "br_if"
+
+abbrev pub nameOfCode : Code → String
+nameOfCode (plain p) = nameOfPlain p
+nameOfCode (control k) = nameOfControl k
+nameOfCode (vector o) = nameOfOp o

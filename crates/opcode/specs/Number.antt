@@ -1,28 +1,38 @@
 -- An instruction as one number, its id: the first byte, or 256 and the number after FD. And what the table says of it, as numbers.
 use Prim.Native.Nat.{ℕ, _+_, _-_, _*_, _^_}
 use mathlib.Core.Bool.{cond}
-use mathlib.Core.List.{List, map, reverse}
+use Prim.Native.String.{String}
+use mathlib.Core.List.{List, [], _∷_, map, reverse}
 use mathlib.Core.Option.{Option, none, some}
 use lib.Dec.{eqb, ltb}
 use Rattle.operation.specs.Vector.{number}
 use Rattle.opcode.specs.Ascii.{ascii}
 use Rattle.opcode.specs.Kind.{kindByte}
 use Rattle.operation.specs.Op.{Op, Load, LoadLane, Store, StoreLane, Const, Shuffle, Splat, ExtractLane, ReplaceLane, Unary, Binary, Bitselect, Test, Shift}
-use Rattle.opcode.specs.Table.{Plain, End, Drop, LocalGet, LocalSet, LocalTee, I32Const, I64Const, I32Add, I32Sub, Code, plain, vector, Row, carried, float, unassigned, vectorAt, plainAt, vectorName, plainName, PREFIX}
-use Rattle.opcode.specs.Immediate.{Immediates, nothing, index, word, long, memory, memoryLane, laneIndex, sixteenBytes, sixteenLanes, immediates}
+use Rattle.opcode.specs.Table.{Plain, End, Drop, LocalGet, LocalSet, LocalTee, I32Const, I64Const, I32Add, I32Sub, I32Eqz, I32LtU, Control, Block, Loop, Br, BrIf, Code, plain, control, vector, Row, carried, float, unassigned, vectorAt, plainLines, latest, plainAt, vectorName, plainName, PREFIX}
+use Rattle.opcode.specs.Immediate.{Immediates, nothing, index, blockType, word, long, memory, memoryLane, laneIndex, sixteenBytes, sixteenLanes, immediates}
 use Rattle.opcode.specs.Effect.{Signature, _⇒_, effect}
 
 -- 512 stands for every number after FD from 256 on: none of them is assigned
 abbrev pub idOf : ℕ → ℕ → ℕ
 idOf first n = cond (eqb first PREFIX) (cond (ltb n 256) (256 + n) 512) first
 
+-- in the latest version
 unfoldable pub rowOf : ℕ → Row
-rowOf id = cond (ltb id 256) (plainAt id) (vectorAt (id - 256))
+rowOf id = cond (ltb id 256) (plainAt latest id) (vectorAt (id - 256))
 
 unfoldable pub nameOf : ℕ → List ℕ
 nameOf id = ascii (cond (ltb id 256) (plainName id) (vectorName (id - 256)))
 
--- NOTHING, INDEX, WORD, LONG, MEMORY, MEMORY_LANE, LANE, BYTES, LANES
+-- the first version that has a first byte's instructions; of a byte that none has, the first
+abbrev pub sinceIn : ℕ → List (ℕ × String × ℕ × Code) → ℕ
+sinceIn b [] = 1
+sinceIn b (l ∷ ls) = cond (eqb b (l .0)) (l .2) (sinceIn b ls)
+
+unfoldable pub sinceOf : ℕ → ℕ
+sinceOf b = sinceIn b plainLines
+
+-- NOTHING, INDEX, WORD, LONG, MEMORY, MEMORY_LANE, LANE, BYTES, LANES, BLOCK_TYPE
 abbrev pub classNumber : Immediates → ℕ
 classNumber nothing = 0
 classNumber index = 1
@@ -33,12 +43,13 @@ classNumber memoryLane = 5
 classNumber laneIndex = 6
 classNumber sixteenBytes = 7
 classNumber sixteenLanes = 8
+classNumber blockType = 9
 
 abbrev pub FLOAT : ℕ
-FLOAT = 9
+FLOAT = 10
 
 abbrev pub UNASSIGNED : ℕ
-UNASSIGNED = 10
+UNASSIGNED = 11
 
 abbrev pub classOf : Row → ℕ
 classOf (carried c) = classNumber (immediates c)
@@ -55,7 +66,7 @@ effectOf (carried c) = packed (effect c)
 effectOf float = 0
 effectOf unassigned = 0
 
--- ---- the groups: the nine plain opcodes, then those of the enumeration of operations
+-- ---- the groups: version 1's plain opcodes, then those of the enumeration of operations, then what version 2 adds
 
 abbrev pub groupOfPlain : Plain → ℕ
 groupOfPlain End = 0
@@ -67,6 +78,14 @@ groupOfPlain I32Const = 5
 groupOfPlain I64Const = 6
 groupOfPlain I32Add = 7
 groupOfPlain I32Sub = 8
+groupOfPlain I32Eqz = 23
+groupOfPlain I32LtU = 24
+
+abbrev pub groupOfControl : Control → ℕ
+groupOfControl Block = 25
+groupOfControl Loop = 26
+groupOfControl Br = 27
+groupOfControl BrIf = 28
 
 abbrev pub groupOfOp : Op → ℕ
 groupOfOp (Load l) = 9
@@ -86,9 +105,10 @@ groupOfOp (Shift o) = 22
 
 abbrev pub groupOfCode : Code → ℕ
 groupOfCode (plain p) = groupOfPlain p
+groupOfCode (control k) = groupOfControl k
 groupOfCode (vector o) = groupOfOp o
 
 abbrev pub groupOf : Row → ℕ
 groupOf (carried c) = groupOfCode c
-groupOf float = 23
-groupOf unassigned = 23
+groupOf float = 29
+groupOf unassigned = 29

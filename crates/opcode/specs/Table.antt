@@ -2,16 +2,16 @@
 -- its name (002; of those outside the prefix Core 6.5).
 use Prim.Native.Nat.{ℕ}
 use Prim.Native.String.{String}
-use mathlib.Core.Bool.{cond}
+use mathlib.Core.Bool.{Bool, cond, _&&_}
 use mathlib.Core.List.{List, [], _∷_, map}
-use lib.Dec.{eqb}
+use lib.Dec.{eqb, leb}
 use lib.ListN.{getD}
 use Rattle.scalar.specs.Scalar.{S, U}
 use Rattle.operation.specs.Shape.{i8x16, i16x8, i32x4, i64x2}
 use Rattle.operation.specs.Op.{Low, High, Not, Abs, Neg, Popcnt, Extend, ExtaddPairwise, And, Andnot, Or, Xor, Swizzle, Eq, Ne, Lt, Gt, Le, Ge, Add, Sub, Mul, AddSat, SubSat, Min, Max, AvgrU, Q15mulrSatS, DotS, Narrow, Extmul, AnyTrue, AllTrue, Bitmask, Shl, Shr, Whole, Widen, Repeat, ZeroPad, Op, Load, LoadLane, Store, StoreLane, Const, Shuffle, Splat, ExtractLane, ReplaceLane, Unary, Binary, Bitselect, Test, Shift}
 use Rattle.opcode.specs.Ascii.{ascii}
 
--- the nine that are opcodes by themselves
+-- those that are opcodes by themselves
 pub data Plain : Type 0 where
   End : Plain
   Drop : Plain
@@ -22,9 +22,19 @@ pub data Plain : Type 0 where
   I64Const : Plain
   I32Add : Plain
   I32Sub : Plain
+  I32Eqz : Plain
+  I32LtU : Plain
+
+-- those after which it may go on elsewhere
+pub data Control : Type 0 where
+  Block : Control
+  Loop : Control
+  Br : Control
+  BrIf : Control
 
 pub data Code : Type 0 where
   plain : Plain → Code
+  control : Control → Code
   vector : Op → Code
 
 -- carried here, one of the float instructions, or not assigned
@@ -317,30 +327,43 @@ vectorAt n = getD vectors n unassigned
 unfoldable pub vectorName : ℕ → String
 vectorName n = name (getD lines n ("" is unassigned))
 
-abbrev pub plainLines : List (ℕ × String × Plain)
+-- outside the prefix: the byte, the name, the first version that has it (01; 02, C-13), and what it does
+abbrev pub plainLines : List (ℕ × String × ℕ × Code)
 plainLines =
-    (0x0B, "end", End) ∷
-    (0x1A, "drop", Drop) ∷
-    (0x20, "local.get", LocalGet) ∷
-    (0x21, "local.set", LocalSet) ∷
-    (0x22, "local.tee", LocalTee) ∷
-    (0x41, "i32.const", I32Const) ∷
-    (0x42, "i64.const", I64Const) ∷
-    (0x6A, "i32.add", I32Add) ∷
-    (0x6B, "i32.sub", I32Sub) ∷
+    (0x02, "block", 2, control Block) ∷
+    (0x03, "loop", 2, control Loop) ∷
+    (0x0B, "end", 1, plain End) ∷
+    (0x0C, "br", 2, control Br) ∷
+    (0x0D, "br_if", 2, control BrIf) ∷
+    (0x1A, "drop", 1, plain Drop) ∷
+    (0x20, "local.get", 1, plain LocalGet) ∷
+    (0x21, "local.set", 1, plain LocalSet) ∷
+    (0x22, "local.tee", 1, plain LocalTee) ∷
+    (0x41, "i32.const", 1, plain I32Const) ∷
+    (0x42, "i64.const", 1, plain I64Const) ∷
+    (0x45, "i32.eqz", 2, plain I32Eqz) ∷
+    (0x49, "i32.lt_u", 2, plain I32LtU) ∷
+    (0x6A, "i32.add", 1, plain I32Add) ∷
+    (0x6B, "i32.sub", 1, plain I32Sub) ∷
     []
 
-abbrev pub plains : List (ℕ × Plain)
-plains = map (λ l. (l .0, l .2)) plainLines
+-- the latest version of the format; the first is 1
+abbrev pub latest : ℕ
+latest = 2
 
-abbrev pub lookUp : ℕ → List (ℕ × Plain) → Row
-lookUp b [] = unassigned
-lookUp b (p ∷ ps) = cond (eqb b (p .0)) (carried (plain (p .1))) (lookUp b ps)
+-- the versions that are known
+abbrev pub known : ℕ → Bool
+known ver = leb 1 ver && leb ver latest
 
-unfoldable pub plainAt : ℕ → Row
-plainAt b = lookUp b plains
+-- a byte that this version does not have yet is not assigned in it
+abbrev pub lookUp : ℕ → ℕ → List (ℕ × String × ℕ × Code) → Row
+lookUp ver b [] = unassigned
+lookUp ver b (l ∷ ls) = cond (eqb b (l .0)) (cond (leb (l .2) ver) (carried (l .3)) unassigned) (lookUp ver b ls)
 
-abbrev pub lookUpName : ℕ → List (ℕ × String × Plain) → String
+unfoldable pub plainAt : ℕ → ℕ → Row
+plainAt ver b = lookUp ver b plainLines
+
+abbrev pub lookUpName : ℕ → List (ℕ × String × ℕ × Code) → String
 lookUpName b [] = ""
 lookUpName b (l ∷ ls) = cond (eqb b (l .0)) (l .1) (lookUpName b ls)
 
@@ -350,9 +373,9 @@ plainName b = lookUpName b plainLines
 abbrev pub PREFIX : ℕ
 PREFIX = 0xFD
 
--- by the number after the prefix, or by a first byte that is not the prefix
-abbrev pub rowAt : ℕ → ℕ → Row
-rowAt first number = cond (eqb first PREFIX) (vectorAt number) (plainAt first)
+-- in a strip of this version, by the number after the prefix, or by a first byte that is not the prefix
+abbrev pub rowAt : ℕ → ℕ → ℕ → Row
+rowAt ver first number = cond (eqb first PREFIX) (vectorAt number) (plainAt ver first)
 
 -- the bytes of its name, none where it has none
 abbrev pub nameAt : ℕ → ℕ → List ℕ

@@ -5,7 +5,8 @@ mod table;
 
 pub use table::entry;
 ghost use mathlib.Core.Path.{_≡_};
-ghost use Rattle.opcode.specs.Number.{idOf};
+ghost use Rattle.opcode.specs.Table.{known};
+ghost use Rattle.opcode.specs.Number.{idOf, sinceOf};
 ghost use Rattle.opcode.specs.Entry.{classIn, movedIn, lanesIn, groupIn, effectIn};
 
 // The classes of immediates.
@@ -27,12 +28,14 @@ pub const BYTES: u8 = 7;
 
 pub const LANES: u8 = 8;
 
+pub const BLOCK_TYPE: u8 = 9;
+
 // Two more, of what is not carried.
-pub const FLOAT: u8 = 9;
+pub const FLOAT: u8 = 10;
 
-pub const UNASSIGNED: u8 = 10;
+pub const UNASSIGNED: u8 = 11;
 
-// The groups: the nine plain opcodes, then those of the enumeration of operations, then what is not carried.
+// The groups: version 1's plain opcodes, then those of the enumeration of operations, then what version 2 adds, then what is not carried.
 pub const GROUP_END: u8 = 0;
 
 pub const GROUP_DROP: u8 = 1;
@@ -79,11 +82,43 @@ pub const GROUP_TEST: u8 = 21;
 
 pub const GROUP_SHIFT: u8 = 22;
 
+pub const GROUP_I32_EQZ: u8 = 23;
+
+pub const GROUP_I32_LT_U: u8 = 24;
+
+pub const GROUP_BLOCK: u8 = 25;
+
+pub const GROUP_LOOP: u8 = 26;
+
+pub const GROUP_BR: u8 = 27;
+
+pub const GROUP_BR_IF: u8 = 28;
+
 // The first byte of the vector instructions.
 pub const PREFIX: u8 = 0xFD;
 
+// The latest version of the format; the first is 1.
+pub const LATEST: u16 = 2;
+
 // The id of the prefix with any number from 256 on.
 pub const BEYOND: u32 = 512;
+
+pub fn is_known(version: u16) -> bool
+    ensures { λ r. ⌜ r ≡ known version ⌝ }
+{
+    1 <= version && version <= LATEST
+}
+
+// The first version that has the instructions with this first byte. No arm has two neighbours, as in the table.
+pub fn since(first: u8) -> u16
+    ensures { λ r. ⌜ r ≡ sinceOf first ⌝ }
+{
+    match first {
+        0x02 | 0x0C | 0x45 | 0x49 => 2,
+        0x03 | 0x0D => 2,
+        _ => 1,
+    }
+}
 
 pub fn id_of(first: u8, number: u32) -> u32
     ensures { λ r. ⌜ r ≡ idOf first number ⌝ }

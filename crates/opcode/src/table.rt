@@ -1,6 +1,7 @@
 // Document 002 in numbers: an entry of eight bytes for each id. From the highest: the kind of what is left on the stack; the kinds of the
 // third operand, the second and the top one; the group; the lanes that a lane index chooses among; the bytes that an access moves; the
 // class of the immediates.
+use crate::BLOCK_TYPE;
 use crate::BYTES;
 use crate::FLOAT;
 use crate::INDEX;
@@ -96,9 +97,21 @@ const TEST: u64 = 0x7F_00_00_7B_15_00_00_00 + NOTHING as u64; // v128 -> i32
 
 const SHIFT: u64 = 0x7B_00_7B_7F_16_00_00_00 + NOTHING as u64; // v128 i32 -> v128
 
-const FLOATS: u64 = 0x17_00_00_00 + FLOAT as u64;
+const I32_EQZ: u64 = 0x7F_00_00_7F_17_00_00_00 + NOTHING as u64; // i32 -> i32
 
-const NONE: u64 = 0x17_00_00_00 + UNASSIGNED as u64;
+const I32_LT_U: u64 = 0x7F_00_7F_7F_18_00_00_00 + NOTHING as u64; // i32 i32 -> i32
+
+const BLOCK: u64 = 0x19_00_00_00 + BLOCK_TYPE as u64;
+
+const LOOP: u64 = 0x1A_00_00_00 + BLOCK_TYPE as u64;
+
+const BR: u64 = 0x1B_00_00_00 + INDEX as u64;
+
+const BR_IF: u64 = 0x1C_00_00_00 + INDEX as u64;
+
+const FLOATS: u64 = 0x1D_00_00_00 + FLOAT as u64;
+
+const NONE: u64 = 0x1D_00_00_00 + UNASSIGNED as u64;
 
 // No arm has two neighbours: the even numbers stand in one and the odd ones in another. Neighbours would be compiled to a search by
 // comparisons, and numbers that stand alone are compiled to a table in memory.
@@ -106,13 +119,19 @@ pub fn entry(id: u32) -> u64
     ensures { λ r. ⌜ r ≡ entryOf (rowOf id) ⌝ }
 {
     match id {
+        0x02 => BLOCK,
+        0x03 => LOOP,
         0x0B => END,
+        0x0C => BR,
+        0x0D => BR_IF,
         0x1A => DROP,
         0x20 => LOCAL_GET,
         0x21 => LOCAL_SET,
         0x22 => LOCAL_TEE,
         0x41 => I32_CONST,
         0x42 => I64_CONST,
+        0x45 => I32_EQZ,
+        0x49 => I32_LT_U,
         0x6A => I32_ADD,
         0x6B => I32_SUB,
         0x107 => LOAD_8,

@@ -13,30 +13,33 @@ use Rattle.instr.specs.declared.Instr.{Instr}
 use Rattle.instr.specs.declared.Decoded.{Decoded}
 use Rattle.instr.specs.declared.Encoded.{Encoded}
 use Rattle.instr.specs.Layout.{Stands, found}
-use Rattle.instr.specs.Decode.{decodeAt}
+use Rattle.instr.specs.Decode.{decodeAt, decodeIn}
 use Rattle.instr.specs.Encode.{encoding, fault, encoded, encodedIn}
 use Rattle.instr.proofs.Decodes.{stands-decodes}
 use Rattle.instr.proofs.Encodes.{stands-encodes}
 use Rattle.instr.proofs.Ranges.{stands-some, stands-inside}
+use Rattle.rules.specs.Header.{Version}
 use Rattle.rules.specs.Consists.{Instructions, no-more, one-more}
 use Rattle.rewrite.specs.Rewrite.{encodings}
 use Rattle.rewrite.specs.Inner.Pass.{put, Ready, Passed}
 use Rattle.rewrite.proofs.Puts.{put-append, length-put, part-sets}
 
-pub record Passing (s : List ℕ) (start : ℕ) (writing : Bool) (out₀ out : List ℕ) (at to : ℕ) : Type 0 where
+pub record Passing (ver : ℕ) (s : List ℕ) (start : ℕ) (writing : Bool) (out₀ out : List ℕ) (at to : ℕ) : Type 0 where
+  pub versioned : Version ver
   pub all : List Instr
   pub left : List Instr
-  pub from-start : Instructions s start all
-  pub from-here : Instructions s at left
+  pub from-start : Instructions ver s start all
+  pub from-here : Instructions ver s at left
   pub less : to ≤ at
   pub ends : to + length (encodings left) ≡ start + length (encodings all)
   pub room : writing ≡ true → start + length (encodings all) ≤ length out
   pub same : put writing out to (encodings left) ≡ put writing out₀ start (encodings all)
   pub long : length out ≡ length out₀
 
-pub begins : {s : List ℕ} {start : ℕ} {writing : Bool} {out : List ℕ} → Ready s start writing (length out) → Passing s start writing out out start start
+pub begins : {ver : ℕ} {s : List ℕ} {start : ℕ} {writing : Bool} {out : List ℕ} → Ready ver s start writing (length out) → Passing ver s start writing out out start start
 begins f =
     record {
+      versioned = f .versioned;
       all = f .instrs;
       left = f .instrs;
       from-start = f .stand;
@@ -49,24 +52,24 @@ begins f =
     }
 
 -- the instruction at a place before the end of the file
-record Front (s : List ℕ) (at : ℕ) (is : List Instr) : Type 0 where
+record Front (ver : ℕ) (s : List ℕ) (at : ℕ) (is : List Instr) : Type 0 where
   instr : Instr
   size : ℕ
   rest : List Instr
   list : is ≡ instr ∷ rest
-  stands : Stands s at instr size
-  after : Instructions s (at + size) rest
+  stands : Stands ver s at instr size
+  after : Instructions ver s (at + size) rest
 
-first : {s : List ℕ} {at : ℕ} {is : List Instr} → Instructions s at is → at < length s → Front s at is
+first : {ver : ℕ} {s : List ℕ} {at : ℕ} {is : List Instr} → Instructions ver s at is → at < length s → Front ver s at is
 first (no-more e) h = absurd (let z : ⊥ = omega (arith, e) in z)
 first (one-more {n = n} {i = i} {is = is} w r) h = record { instr = i; size = n; rest = is; list = refl; stands = w; after = r }
 
-none-left : {s : List ℕ} {at : ℕ} {is : List Instr} → Instructions s at is → length s ≤ at → is ≡ []
+none-left : {ver : ℕ} {s : List ℕ} {at : ℕ} {is : List Instr} → Instructions ver s at is → length s ≤ at → is ≡ []
 none-left (no-more e) h = refl
 none-left (one-more w r) h = absurd (let z : ⊥ = omega (arith, stands-some w, stands-inside w) in z)
 
-module _ {s : List ℕ} {start : ℕ} {writing : Bool} {out₀ out : List ℕ} {at to : ℕ} (p : Passing s start writing out₀ out at to) where
-  pub passes : length s ≤ at → Passed s start writing out₀ to out
+module _ {ver : ℕ} {s : List ℕ} {start : ℕ} {writing : Bool} {out₀ out : List ℕ} {at to : ℕ} (p : Passing ver s start writing out₀ out at to) where
+  pub passes : length s ≤ at → Passed ver s start writing out₀ to out
   passes h =
       let none = none-left (p .from-here) h in
       record {
@@ -80,15 +83,21 @@ module _ {s : List ℕ} {start : ℕ} {writing : Bool} {out₀ out : List ℕ} {
       nothing true = refl
       nothing false = refl
 
-  module _ (h : at < length s) {d : Decoded} (e : d ≡ decodeAt s at) where
-    here : Front s at (p .left)
+  module _ (h : at < length s) {d : Decoded} (e : d ≡ decodeIn ver s at) where
+    here : Front ver s at (p .left)
     here = first (p .from-here) h
 
-    is-found : d ≡ found (here .size) (here .instr)
-    is-found = e ∙ stands-decodes s at (here .instr) (here .size) (here .stands)
+    known-decodes : decodeIn ver s at ≡ decodeAt ver s at
+    known-decodes = rw (p .versioned)
 
-    is-there : Stands s at (d .instr) (d .len)
-    is-there = subst (λ (x : Decoded). Stands s at (x .instr) (x .len)) (sym is-found) (here .stands)
+    is-found : d ≡ found (here .size) (here .instr)
+    is-found = e ∙ known-decodes ∙ stands-decodes ver s at (here .instr) (here .size) (here .stands)
+
+    is-there : Stands ver s at (d .instr) (d .len)
+    is-there = subst (λ (x : Decoded). Stands ver s at (x .instr) (x .len)) (sym is-found) (here .stands)
+
+    no-fault : fault ver (d .instr) ≡ DONE
+    no-fault = rw (p .versioned) (stands-encodes is-there .no-fault)
 
     pub goes-on : at < at + d .len
     goes-on = omega (arith, stands-some is-there)
@@ -111,15 +120,16 @@ module _ {s : List ℕ} {start : ℕ} {writing : Bool} {out₀ out : List ℕ} {
     adds k = omega (arith, k, no-longer, stays)
 
     step : (l : ℕ) (out′ : List ℕ) → l ≡ length (encoding (d .instr)) → out′ ≡ put writing out to (encoding (d .instr))
-        → Passing s start writing out₀ out′ (at + d .len) (to + l)
+        → Passing ver s start writing out₀ out′ (at + d .len) (to + l)
     step l out′ k b =
         let i = d .instr in
         let q = ap length b ∙ length-put writing out to (encoding i) in
         record {
+          versioned = p .versioned;
           all = p .all;
           left = here .rest;
           from-start = p .from-start;
-          from-here = subst (λ (x : Decoded). Instructions s (at + x .len) (here .rest)) (sym is-found) (here .after);
+          from-here = subst (λ (x : Decoded). Instructions ver s (at + x .len) (here .rest)) (sym is-found) (here .after);
           less = omega (arith, k, no-longer);
           ends = omega (arith, k, lengths);
           room = λ t. omega (arith, q, p .room t);
@@ -132,7 +142,7 @@ module _ {s : List ℕ} {start : ℕ} {writing : Bool} {out₀ out : List ℕ} {
         }
 
     -- only counted
-    pub counts-on : writing ≡ false → {l : ℕ} → l ≡ length (encoding (d .instr)) → Passing s start writing out₀ out (at + d .len) (to + l)
+    pub counts-on : writing ≡ false → {l : ℕ} → l ≡ length (encoding (d .instr)) → Passing ver s start writing out₀ out (at + d .len) (to + l)
     counts-on f {l} k = step l out k (rw f refl)
 
     -- written
@@ -149,20 +159,20 @@ module _ {s : List ℕ} {start : ℕ} {writing : Bool} {out₀ out : List ℕ} {
       fits : length (encoding (d .instr)) ≤ length part
       fits = omega (arith, has-room, length-take (length out - to) (drop to out), length-drop to out)
 
-      module _ {r : Encoded} {tail : List ℕ} (a : r ≡ encoded (d .instr) part) (b : tail ≡ encodedIn (d .instr) part) where
+      module _ {r : Encoded} {tail : List ℕ} (a : r ≡ encoded ver (d .instr) part) (b : tail ≡ encodedIn ver (d .instr) part) where
         pub adds-len : r .len ≡ length (encoding (d .instr))
         unfolding encoded
         adds-len =
             let i = d .instr in
-            ap (λ (x : Encoded). x .len) a ∙ rw (eq-eqb (fault i) DONE (stands-encodes is-there .no-fault), le-leb (length (encoding i)) (length part) fits)
+            ap (λ (x : Encoded). x .len) a ∙ rw (eq-eqb (fault ver i) DONE no-fault, le-leb (length (encoding i)) (length part) fits)
 
         wrote : putMid to (length out - to) out tail ≡ sets out to (encoding (d .instr))
         unfolding encodedIn
         wrote =
             let i = d .instr in
             let c : tail ≡ encoding i ++ drop (length (encoding i)) part =
-            b ∙ rw (eq-eqb (fault i) DONE (stands-encodes is-there .no-fault), le-leb (length (encoding i)) (length part) fits) in
+            b ∙ rw (eq-eqb (fault ver i) DONE no-fault, le-leb (length (encoding i)) (length part) fits) in
             ap (putMid to (length out - to) out) c ∙ part-sets out (encoding i) to (length out - to) begins-inside refl (omega (arith, has-room))
 
-        pub writes-on : Passing s start writing out₀ (putMid to (length out - to) out tail) (at + d .len) (to + r .len)
+        pub writes-on : Passing ver s start writing out₀ (putMid to (length out - to) out tail) (at + d .len) (to + r .len)
         writes-on = step (r .len) (putMid to (length out - to) out tail) adds-len (wrote ∙ rw t refl)

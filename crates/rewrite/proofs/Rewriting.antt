@@ -111,7 +111,7 @@ module _ {s out : List ℕ} {r : Rewritten} {out′ : List ℕ} (w : Rewrites s 
         after = holds-again a written e not-longer;
         valid = still-valid;
         numbers =
-            subst (InOrder Shortest (layouts is)) (sym (ap (drop (length (headerBytes h))) e ∙ drop-append-seam (headerBytes h) (encodings is)))
+            subst (InOrder Shortest (layouts (h .version) is)) (sym (ap (drop (length (headerBytes h))) e ∙ drop-append-seam (headerBytes h) (encodings is)))
             (all-shortest (a .instructions));
         shorter = not-longer;
         least = λ u b. omega (arith, ap length e, holds-least a b);

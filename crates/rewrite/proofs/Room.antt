@@ -4,11 +4,11 @@ use mathlib.Core.Bool.{Bool, true, false, false≢true}
 use mathlib.Core.Path.{_≡_, sym, ap, ap₂, subst, _∙_}
 use mathlib.Core.List.{List, _++_}
 use native.Mathlib.Omega.{arith}
-use lib.ListN.{length, take, drop, length-append, length-drop}
+use lib.ListN.{length, getD, take, drop, length-append, length-drop}
 use lib.Seq.{sets, sets-eq, take-append-seam, drop-append-add, drop-drop}
 use Rattle.card.specs.Card.{DONE, SMALL}
 use Rattle.instr.specs.declared.Instr.{Instr}
-use Rattle.rules.specs.Header.{Header, Declares, headerBytes}
+use Rattle.rules.specs.Header.{Version, Header, Declares, headerBytes}
 use Rattle.rules.specs.Strip.{Valid}
 use Rattle.rules.specs.Breach.{Breach}
 use Rattle.rules.specs.Consists.{Instructions}
@@ -29,7 +29,7 @@ front-sets hb bs out l =
     let beyond = drop-append-add hb (drop (length hb) out) (length bs) ∙ drop-drop (length bs) (length hb) out ∙ ap (λ (j : ℕ). drop j out) (sym n) in
     sets-eq bs all (length hb) k ∙ ap₂ (λ (x y : List ℕ). x ++ bs ++ y) (take-append-seam hb (drop (length hb) out)) beyond
 
-module _ {s : List ℕ} (v : Valid s) {start : ℕ} (st : (h : Header) → Declares s h → start ≡ length (headerBytes h)) where
+module _ {s : List ℕ} (v : Valid s) {ver start : ℕ} (vs : ver ≡ getD s 3 0) (st : (h : Header) → Declares s h → start ≡ length (headerBytes h)) where
   abbrev hb : List ℕ
   hb = headerBytes (v .header)
 
@@ -39,17 +39,24 @@ module _ {s : List ℕ} (v : Valid s) {start : ℕ} (st : (h : Header) → Decla
   begin : start ≡ length hb
   begin = st (v .header) (valid-holds v .declares)
 
-  stand : Instructions s start (instrs v)
-  stand = subst (λ (p : ℕ). Instructions s p (instrs v)) (sym begin) (valid-holds v .instructions)
+  -- the version is the strip's byte 3
+  same-version : ver ≡ v .header .version
+  same-version = vs ∙ ap (λ (l : List ℕ). getD l 3 0) (valid-holds v .declares .bytes)
 
-  same-instrs : {writing : Bool} {out : List ℕ} {r : ℕ} {out′ : List ℕ} (p : Passed s start writing out r out′) → p .instrs ≡ instrs v
+  versioned : Version ver
+  versioned = subst (λ (n : ℕ). Version n) (sym same-version) (valid-holds v .declares .versioned)
+
+  stand : Instructions ver s start (instrs v)
+  stand = rw (same-version, begin) (valid-holds v .instructions)
+
+  same-instrs : {writing : Bool} {out : List ℕ} {r : ℕ} {out′ : List ℕ} (p : Passed ver s start writing out r out′) → p .instrs ≡ instrs v
   same-instrs p = instructions-once (p .stand) stand
 
-  pub ready-to-count : {n : ℕ} → Ready s start false n
-  ready-to-count = record { instrs = instrs v; stand = stand; room = λ t. absurd (false≢true t) }
+  pub ready-to-count : {n : ℕ} → Ready ver s start false n
+  ready-to-count = record { versioned = versioned; instrs = instrs v; stand = stand; room = λ t. absurd (false≢true t) }
 
   -- counted: len bytes, and the output as it was
-  module _ {out : List ℕ} {len : ℕ} {out₁ : List ℕ} (p : Passed s start false out len out₁) where
+  module _ {out : List ℕ} {len : ℕ} {out₁ : List ℕ} (p : Passed ver s start false out len out₁) where
     len-is : len ≡ length (shortest (v .header) (instrs v))
     len-is = omega (arith, p .to, begin, length-append hb body, ap (λ (x : List Instr). length (encodings x)) (same-instrs p))
 
@@ -71,9 +78,10 @@ module _ {s : List ℕ} (v : Valid s) {start : ℕ} (st : (h : Header) → Decla
             let x : take start s ≡ hb = ap₂ take begin (d .bytes) ∙ take-append-seam hb (d .body) in
             c ∙ ap₂ _++_ x (ap₂ drop begin (p .bytes))
 
-        pub ready-to-write : Ready s start true (length out₂)
+        pub ready-to-write : Ready ver s start true (length out₂)
         ready-to-write =
             record {
+              versioned = versioned;
               instrs = instrs v;
               stand = stand;
               room = λ t. omega (
@@ -89,7 +97,7 @@ module _ {s : List ℕ} (v : Valid s) {start : ℕ} (st : (h : Header) → Decla
               );
             }
 
-        pub all-written : {r : ℕ} {out₃ : List ℕ} → Passed s start true out₂ r out₃ → Rewrites s out (answer DONE 0 len) out₃
+        pub all-written : {r : ℕ} {out₃ : List ℕ} → Passed ver s start true out₂ r out₃ → Rewrites s out (answer DONE 0 len) out₃
         all-written {out₃ = out₃} q =
             let fits : length (hb ++ body) ≤ length out = omega (arith, l, len-is, ap length (p .bytes)) in
             let e : out₃ ≡ hb ++ body ++ drop (length (hb ++ body)) out =

@@ -9,10 +9,10 @@ use Rattle.rules.specs.Header.{Header, headerBytes}
 use Rattle.rules.specs.Strip.{Valid}
 use Rattle.rules.specs.Consists.{Consists}
 
--- the fields of all of them
-abbrev pub layouts : List Instr → List Field
-layouts [] = []
-layouts (i ∷ is) = layout i ++ layouts is
+-- the fields of all of them, in a strip of this version
+abbrev pub layouts : ℕ → List Instr → List Field
+layouts ver [] = []
+layouts ver (i ∷ is) = layout ver i ++ layouts ver is
 
 -- of the strip s, the bytes t
 pub record Shortened (s t : List ℕ) : Type 0 where
@@ -23,7 +23,7 @@ pub record Shortened (s t : List ℕ) : Type 0 where
   pub after : Consists t header instrs
   pub valid : Valid t
   -- every number in its shortest form
-  pub numbers : InOrder Shortest (layouts instrs) (drop (length (headerBytes header)) t)
+  pub numbers : InOrder Shortest (layouts (header .version) instrs) (drop (length (headerBytes header)) t)
   -- not longer than s
   pub shorter : length t ≤ length s
   -- no strip that has the same is shorter, and no other is as short

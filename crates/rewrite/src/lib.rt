@@ -28,13 +28,14 @@ fn shorten(strip: &[u8], out: &mut [u8]) -> Rewritten
     requires { ⌜ Valid (now strip) ⌝ }
     ensures { λ r. ⌜ Rewrites (now (strip .entry)) (now (out .entry)) r (now (out .exit)) ⌝ }
 {
+    let version = strip[3] as u16;
     let start = checker::start(strip);
-    let len = pass(strip, start, out, false);
+    let len = pass(version, strip, start, out, false);
     if out.len() < len {
         return refused(card::SMALL, 0);
     }
     copy(strip, start, out);
-    pass(strip, start, out, true);
+    pass(version, strip, start, out, true);
     Rewritten {
         code: card::DONE,
         place: 0,
@@ -64,20 +65,20 @@ fn copy(strip: &[u8], n: usize, out: &mut [u8])
     }
 }
 
-// A pass over the instructions from `start` to the end of the file. Their shortest forms are written, or only counted, from the same place of the output on;
-// the answer is the place after them. One function for both passes: the decoder and the encoder have one caller here.
-fn pass(strip: &[u8], start: usize, out: &mut [u8], writing: bool) -> usize
-    requires { ⌜ Ready (now strip) start writing (length (now out)) ⌝ }
-    ensures { λ r. ⌜ Passed (now (strip .entry)) start writing (now (out .entry)) r (now (out .exit)) ⌝ }
+// A pass over the instructions of a strip of this version, from `start` to the end of the file. Their shortest forms are written, or only counted, from the
+// same place of the output on; the answer is the place after them. One function for both passes: the decoder and the encoder have one caller here.
+fn pass(version: u16, strip: &[u8], start: usize, out: &mut [u8], writing: bool) -> usize
+    requires { ⌜ Ready version (now strip) start writing (length (now out)) ⌝ }
+    ensures { λ r. ⌜ Passed version (now (strip .entry)) start writing (now (out .entry)) r (now (out .exit)) ⌝ }
 {
     let mut at = start;
     let mut to = start;
     while at < strip.len() {
-        let d = instr::decode(strip, at);
+        let d = instr::decode(version, strip, at);
         let i = d.instr;
         at = at + d.len;
         if writing {
-            let e = instr::encode(i, &mut out[to..]);
+            let e = instr::encode(version, i, &mut out[to..]);
             to = to + e.len;
         } else {
             to = to + instr::encoded_len(i);

@@ -6,7 +6,7 @@ use mathlib.Core.Logic.{_⊎_, inl, inr}
 use native.Mathlib.Omega.{arith}
 use lib.ListN.{length}
 use Rattle.card.specs.Card.{DONE}
-use Rattle.limits.specs.Limits.{stackLimit}
+use Rattle.limits.specs.Limits.{stackLimit, nestLimit}
 use Rattle.opcode.specs.Kind.{Kind}
 use Rattle.opcode.specs.Table.{End, Code, plain}
 use Rattle.instr.specs.declared.Instr.{Instr}
@@ -14,111 +14,150 @@ use Rattle.instr.specs.declared.Decoded.{Decoded}
 use Rattle.instr.specs.Decode.{decodeAt}
 use Rattle.instr.proofs.Decodes.{stands-decodes}
 use Rattle.rules.specs.Header.{Header, locals}
-use Rattle.rules.specs.Typing.{Local, Typed, by-signature, dropped, got, set, teed, Types, Names, get-names, set-names, tee-names}
-use Rattle.rules.specs.Strip.{Reads}
+use Rattle.rules.specs.Typing.{Frame, allValues, Target, Local, Types, Names, Opens, Branches, Ends}
+use Rattle.rules.specs.Strip.{Reads, Within}
 use Rattle.rules.proofs.Ranks.{asked, Kept, none-asked, more, Stop}
 use Rattle.rules.proofs.Typings.{types-once}
+use Rattle.rules.proofs.Sorts.{opens-control, branches-control, names-control, end-nameless, opens-plain, branches-plain, opens-branches, typed-local, typed-label, typed-opens, typed-ends, typed-inner, opens-typed}
 use Rattle.rules.proofs.Onward.{only}
 
--- `end` has no typing
-pub end-untyped : {ls ins outs : List Kind} {n : ℕ} {c : Code} → Typed ls n c ins outs → c ≡ plain End → ⊥
-end-untyped (by-signature p) e = let z : _≡_ {A = ℕ} 0 1 = cc in omega arith
-end-untyped dropped e = let z : _≡_ {A = ℕ} 0 1 = cc in omega arith
-end-untyped (got l) e = let z : _≡_ {A = ℕ} 0 1 = cc in omega arith
-end-untyped (set l) e = let z : _≡_ {A = ℕ} 0 1 = cc in omega arith
-end-untyped (teed l) e = let z : _≡_ {A = ℕ} 0 1 = cc in omega arith
-
-end-nameless : {c : Code} → Names c → c ≡ plain End → ⊥
-end-nameless get-names e = let z : _≡_ {A = ℕ} 0 1 = cc in omega arith
-end-nameless set-names e = let z : _≡_ {A = ℕ} 0 1 = cc in omega arith
-end-nameless tee-names e = let z : _≡_ {A = ℕ} 0 1 = cc in omega arith
-
--- what is typed and names a local, names one that is declared
-pub declared-local : {ls ins outs : List Kind} {n : ℕ} {c : Code} → Typed ls n c ins outs → Names c → (k : Kind) × Local ls n k
-declared-local (by-signature p) get-names = absurd (let z : _≡_ {A = ℕ} 0 1 = cc in omega arith)
-declared-local (by-signature p) set-names = absurd (let z : _≡_ {A = ℕ} 0 1 = cc in omega arith)
-declared-local (by-signature p) tee-names = absurd (let z : _≡_ {A = ℕ} 0 1 = cc in omega arith)
-declared-local (got {k} l) get-names = (k, l)
-declared-local (set {k} l) set-names = (k, l)
-declared-local (teed {k} l) tee-names = (k, l)
-
-module _ (s : List ℕ) (h : Header) (p : ℕ) (κs : List Kind) where
+module _ (s : List ℕ) (h : Header) (p : ℕ) (fs : List Frame) where
   -- of the instruction that is read
   abbrev pub Every : (Instr → Code → Type 0) → Type 0
-  Every P = (i : Instr) (c : Code) (n : ℕ) → Reads s p i c n → P i c
+  Every P = (i : Instr) (c : Code) (n : ℕ) → Reads (h .version) s p i c n → P i c
 
   abbrev pub DeclaredP : Instr → Code → Type 0
   DeclaredP i c = Names c → (k : Kind) × Local (locals h) (i .index) k
 
+  abbrev pub NestP : Instr → Code → Type 0
+  NestP i c = Opens c → length fs ≤ nestLimit
+
+  abbrev pub LabelP : Instr → Code → Type 0
+  LabelP i c = Branches c → (g : Frame) × Target fs (i .index) g
+
   abbrev pub OperandsP : Instr → Code → Type 0
-  OperandsP i c = (c ≡ plain End) ⊎ ((κs′ : List Kind) × Types (locals h) (i .index) c κs κs′)
+  OperandsP i c = (c ≡ plain End) ⊎ ((fs′ : List Frame) × Types (locals h) i c fs fs′)
+
+  abbrev pub ResultsP : Instr → Code → Type 0
+  ResultsP i c = c ≡ plain End → Ends fs
 
   abbrev pub ShallowP : Instr → Code → Type 0
-  ShallowP i c = (κs′ : List Kind) → Types (locals h) (i .index) c κs κs′ → length κs′ ≤ stackLimit
+  ShallowP i c = (fs′ : List Frame) → Types (locals h) i c fs fs′ → length (allValues fs′) ≤ stackLimit
+
+  abbrev pub LastP : Instr → Code → Type 0
+  LastP i c = (c ≡ plain End) × (length fs ≡ 1)
 
   abbrev pub Asked : ℕ → Type 0
   Asked =
       asked (
-      (decodeAt s p .code ≡ DONE)  -- it is read
+      (decodeAt (h .version) s p .code ≡ DONE)  -- it is read
       ∷ Every DeclaredP  -- its local is declared
+      ∷ Every NestP  -- it is no block too many
+      ∷ Every LabelP  -- its block is there
       ∷ Every OperandsP  -- its operands are there
+      ∷ Every ResultsP  -- `end` has the results
       ∷ Every ShallowP  -- not too many values stand after it
-      ∷ Every (λ i c. c ≡ plain End)  -- it is `end`
-      ∷ (κs ≡ h .results)  -- the results are there
+      ∷ Every LastP  -- it is the `end` of the strip
       ∷ (p + 1 ≡ length s)  -- nothing follows
       ∷ [])
 
   -- ---- each line of the card at its rank
 
-  pub unread : {code : ℕ} → decodeAt s p .code ≡ suc code → Stop Asked 0
+  pub unread : {code : ℕ} → decodeAt (h .version) s p .code ≡ suc code → Stop Asked 0
   unread e = record { kept = none-asked Asked; broken = λ q. omega arith }
 
-  module _ {i : Instr} {c : Code} {n : ℕ} (r : Reads s p i c n) where
+  module _ {i : Instr} {c : Code} {n : ℕ} (r : Reads (h .version) s p i c n) where
     read : Kept Asked 1
-    read = more Asked 0 (none-asked Asked) (ap (λ (d : Decoded). d .code) (stands-decodes s p i n (r .stands)))
+    read = more Asked 0 (none-asked Asked) (ap (λ (d : Decoded). d .code) (stands-decodes (h .version) s p i n (r .stands)))
 
     pub undeclared : Names c → ((k : Kind) → Local (locals h) (i .index) k → ⊥) → Stop Asked 1
     undeclared names no-local = record { kept = read; broken = λ q. let it = q i c n r names in no-local (it .0) (it .1) }
 
-    pub missing : (c ≡ plain End → ⊥) → DeclaredP i c → ((κs′ : List Kind) → Types (locals h) (i .index) c κs κs′ → ⊥) → Stop Asked 2
-    missing other declared untyped = record { kept = more Asked 1 read (only DeclaredP r declared); broken = λ q. out (q i c n r) }
+    pub too-nested : Opens c → nestLimit < length fs → Stop Asked 2
+    too-nested o g =
+        record {
+          kept = more Asked 1 read (only DeclaredP r (λ names. absurd (names-control names (opens-control o .1))));
+          broken = λ q. let few = q i c n r o in omega (arith, few, g);
+        }
+
+    pub no-label : Branches c → ((g : Frame) → Target fs (i .index) g → ⊥) → Stop Asked 3
+    no-label b never =
+        record {
+          kept =
+              more Asked 2
+              (more Asked 1 read (only DeclaredP r (λ names. absurd (names-control names (branches-control b .1)))))
+              (only NestP r (λ o. absurd (opens-branches o b refl)));
+          broken = λ q. let it = q i c n r b in never (it .0) (it .1);
+        }
+
+    pub missing : (c ≡ plain End → ⊥) → DeclaredP i c → LabelP i c → ((fs′ : List Frame) → Types (locals h) i c fs fs′ → ⊥) → Stop Asked 4
+    missing other declared labelled untyped =
+        record {
+          kept =
+              more Asked 3
+              (more Asked 2 (more Asked 1 read (only DeclaredP r declared)) (only NestP r (λ o. let t = opens-typed fs o in absurd (untyped (t .0) (t .1)))))
+              (only LabelP r labelled);
+          broken = λ q. out (q i c n r);
+        }
       where
         out : OperandsP i c → ⊥
         out (inl e) = other e
         out (inr t) = untyped (t .0) (t .1)
 
-    module _ {κs′ : List Kind} (t : Types (locals h) (i .index) c κs κs′) where
-      typed-kept : Kept Asked 3
-      typed-kept = more Asked 2 (more Asked 1 read (only DeclaredP r (declared-local (t .typed)))) (only OperandsP r (inr (κs′, t)))
+    module _ {fs′ : List Frame} (t : Types (locals h) i c fs fs′) where
+      typed-kept : NestP i c → Kept Asked 6
+      typed-kept few =
+          more Asked 5
+          (more Asked 4
+          (more Asked 3
+          (more Asked 2
+          (more Asked 1 read (only DeclaredP r (typed-local t)))
+          (only NestP r few))
+          (only LabelP r (typed-label t)))
+          (only OperandsP r (inr (fs′, t))))
+          (only ResultsP r (typed-ends t))
 
-      pub too-deep : stackLimit < length κs′ → Stop Asked 3
-      too-deep g = record { kept = typed-kept; broken = λ q. let small = q i c n r κs′ t in omega arith }
-
-      -- and it is not the last
-      pub goes-on : length κs′ ≤ stackLimit → Stop Asked 4
-      goes-on g =
+      -- the stack was not too deep before it
+      pub too-deep : length (allValues fs) ≤ stackLimit → stackLimit < length (allValues fs′) → Stop Asked 6
+      too-deep few g =
           record {
-            kept = more Asked 3 typed-kept (only ShallowP r (λ λs u. subst (λ (x : List Kind). length x ≤ stackLimit) (types-once t u) g));
-            broken = λ q. end-untyped (t .typed) (q i c n r);
+            kept = typed-kept (λ o. absurd (omega (arith, few, g, ap length (typed-opens t o .1))));
+            broken = λ q. let small = q i c n r fs′ t in omega arith;
           }
 
-  module _ {i : Instr} {n : ℕ} (r : Reads s p i (plain End) n) where
+      -- and it is not the last
+      pub goes-on : Within fs′ → Stop Asked 7
+      goes-on w =
+          record {
+            kept =
+                more Asked 6 (typed-kept (λ o. omega (arith, w .blocks, typed-opens t o .0)))
+                (only ShallowP r (λ gs u. subst (λ (x : List Frame). length (allValues x) ≤ stackLimit) (types-once t u) (w .values)));
+            broken = λ q. let it = q i c n r in typed-inner t (it .0) (it .1);
+          }
+
+  module _ {i : Instr} {n : ℕ} (r : Reads (h .version) s p i (plain End) n) where
     end-kept : Kept Asked 5
     end-kept =
         more Asked 4
         (more Asked 3
         (more Asked 2
         (more Asked 1 (read r) (only DeclaredP r (λ names. absurd (end-nameless names refl))))
-        (only OperandsP r (inl refl)))
-        (only ShallowP r (λ λs t. absurd (end-untyped (t .typed) refl))))
-        (only (λ i c. c ≡ plain End) r refl)
+        (only NestP r (λ o. absurd (opens-plain o refl))))
+        (only LabelP r (λ b. absurd (branches-plain b refl))))
+        (only OperandsP r (inl refl))
 
-    pub other-results : (κs ≡ h .results → ⊥) → Stop Asked 5
-    other-results no-match = record { kept = end-kept; broken = no-match }
+    pub other-results : (Ends fs → ⊥) → Stop Asked 5
+    other-results never = record { kept = end-kept; broken = λ q. never (q i (plain End) n r refl) }
 
-    module _ (match : κs ≡ h .results) where
-      pub followed : p + 1 < length s → Stop Asked 6
-      followed g = record { kept = more Asked 5 end-kept match; broken = λ q. omega arith }
+    module _ (one : length fs ≡ 1) (match : Ends fs) where
+      last-kept : Kept Asked 8
+      last-kept =
+          more Asked 7
+          (more Asked 6 (more Asked 5 end-kept (only ResultsP r (λ e. match))) (only ShallowP r (λ fs′ t. absurd (typed-inner t refl one))))
+          (only LastP r (refl, one))
 
-      pub ends-well : p + 1 ≡ length s → Stop Asked 7
-      ends-well e = record { kept = more Asked 6 (more Asked 5 end-kept match) e; broken = λ q. q }
+      pub followed : p + 1 < length s → Stop Asked 8
+      followed g = record { kept = last-kept; broken = λ q. omega arith }
+
+      pub ends-well : p + 1 ≡ length s → Stop Asked 9
+      ends-well e = record { kept = more Asked 8 last-kept e; broken = λ q. q }

@@ -7,8 +7,8 @@ use lib.ListN.{length, length-append}
 use Rattle.limits.specs.Limits.{fileLimit, parameterLimit, localLimit, resultLimit}
 use Rattle.opcode.specs.Kind.{Kind, kindByte}
 use Rattle.opcode.proofs.Effects.{kind-once}
-use Rattle.rules.specs.Header.{Header, Few, Declares, mark, version, kinds, locals}
-use Rattle.rules.specs.Breach.{Sized, front}
+use Rattle.rules.specs.Header.{Version, Header, Few, Declares, mark, versionBytes, kinds, locals}
+use Rattle.rules.specs.Breach.{Sized, preamble}
 use Rattle.rules.proofs.Ranks.{asked, Kept, none-asked, more, Stop}
 
 -- no kind byte is first
@@ -34,11 +34,11 @@ module _ (s : List ℕ) where
       (length s ≤ fileLimit)
       ∷ (8 ≤ length s)
       ∷ ((rest : List ℕ) × (s ≡ mark ++ rest))
-      ∷ ((rest : List ℕ) × (s ≡ front ++ rest))
-      ∷ ((p : ℕ) (rest : List ℕ) → s ≡ front ++ p ∷ rest → p ≤ parameterLimit)
-      ∷ ((p l : ℕ) (rest : List ℕ) → s ≡ front ++ p ∷ l ∷ rest → l ≤ localLimit)
-      ∷ ((p l r : ℕ) (rest : List ℕ) → s ≡ front ++ p ∷ l ∷ r ∷ rest → r ≤ resultLimit)
-      ∷ ((p l r : ℕ) (ks : List Kind) (t : List ℕ) → s ≡ front ++ p ∷ l ∷ r ∷ map kindByte ks ++ t → NoKind t → p + l + r ≤ length ks)
+      ∷ ((v : ℕ) × (rest : List ℕ) × Version v × (s ≡ preamble v ++ rest))
+      ∷ ((v p : ℕ) (rest : List ℕ) → s ≡ preamble v ++ p ∷ rest → p ≤ parameterLimit)
+      ∷ ((v p l : ℕ) (rest : List ℕ) → s ≡ preamble v ++ p ∷ l ∷ rest → l ≤ localLimit)
+      ∷ ((v p l r : ℕ) (rest : List ℕ) → s ≡ preamble v ++ p ∷ l ∷ r ∷ rest → r ≤ resultLimit)
+      ∷ ((v p l r : ℕ) (ks : List Kind) (t : List ℕ) → s ≡ preamble v ++ p ∷ l ∷ r ∷ map kindByte ks ++ t → NoKind t → p + l + r ≤ length ks)
       ∷ [])
 
   pub too-long : fileLimit < length s → Stop HeadAsked 0
@@ -57,38 +57,39 @@ module _ (s : List ℕ) where
     marked-kept : (rest : List ℕ) → s ≡ mark ++ rest → Kept HeadAsked 3
     marked-kept rest marked = more HeadAsked 2 sized-kept (rest, marked)
 
-    pub no-version : (rest : List ℕ) → s ≡ mark ++ rest → ((more : List ℕ) → s ≡ front ++ more → ⊥) → Stop HeadAsked 3
-    no-version rest marked f = record { kept = marked-kept rest marked; broken = λ q. f (q .0) (q .1) }
+    pub no-version : (rest : List ℕ) → s ≡ mark ++ rest → ((v : ℕ) (more : List ℕ) → Version v → s ≡ preamble v ++ more → ⊥) → Stop HeadAsked 3
+    no-version rest marked f = record { kept = marked-kept rest marked; broken = λ q. f (q .0) (q .1) (q .2) (q .3) }
 
-    versioned-kept : (rest : List ℕ) → s ≡ front ++ rest → Kept HeadAsked 4
-    versioned-kept rest here = more HeadAsked 3 (marked-kept (version ++ rest) here) (rest, here)
+    module _ (v : ℕ) (is : Version v) where
+      versioned-kept : (rest : List ℕ) → s ≡ preamble v ++ rest → Kept HeadAsked 4
+      versioned-kept rest here = more HeadAsked 3 (marked-kept (versionBytes v ++ rest) here) (v, rest, is, here)
 
-    pub many-parameters : (p : ℕ) (rest : List ℕ) → s ≡ front ++ p ∷ rest → parameterLimit < p → Stop HeadAsked 4
-    many-parameters p rest here g = record { kept = versioned-kept (p ∷ rest) here; broken = λ q. let small = q p rest here in omega arith }
+      pub many-parameters : (p : ℕ) (rest : List ℕ) → s ≡ preamble v ++ p ∷ rest → parameterLimit < p → Stop HeadAsked 4
+      many-parameters p rest here g = record { kept = versioned-kept (p ∷ rest) here; broken = λ q. let small = q v p rest here in omega arith }
 
-    parameters-kept : (p : ℕ) (rest : List ℕ) → s ≡ front ++ p ∷ rest → p ≤ parameterLimit → Kept HeadAsked 5
-    parameters-kept p rest here few =
-        more HeadAsked 4 (versioned-kept (p ∷ rest) here) (λ p′ rest′ e. let same : p ≡ p′ = cc (here, e) in omega (arith, same, few))
+      parameters-kept : (p : ℕ) (rest : List ℕ) → s ≡ preamble v ++ p ∷ rest → p ≤ parameterLimit → Kept HeadAsked 5
+      parameters-kept p rest here few =
+          more HeadAsked 4 (versioned-kept (p ∷ rest) here) (λ v′ p′ rest′ e. let same : p ≡ p′ = cc (here, e) in omega (arith, same, few))
 
-    pub many-further : (p l : ℕ) (rest : List ℕ) → s ≡ front ++ p ∷ l ∷ rest → p ≤ parameterLimit → localLimit < l → Stop HeadAsked 5
-    many-further p l rest here few g = record { kept = parameters-kept p (l ∷ rest) here few; broken = λ q. let small = q p l rest here in omega arith }
+      pub many-further : (p l : ℕ) (rest : List ℕ) → s ≡ preamble v ++ p ∷ l ∷ rest → p ≤ parameterLimit → localLimit < l → Stop HeadAsked 5
+      many-further p l rest here few g = record { kept = parameters-kept p (l ∷ rest) here few; broken = λ q. let small = q v p l rest here in omega arith }
 
-    further-kept : (p l : ℕ) (rest : List ℕ) → s ≡ front ++ p ∷ l ∷ rest → p ≤ parameterLimit → l ≤ localLimit → Kept HeadAsked 6
-    further-kept p l rest here few few-l =
-        more HeadAsked 5 (parameters-kept p (l ∷ rest) here few) (λ p′ l′ rest′ e. let same : l ≡ l′ = cc (here, e) in omega (arith, same, few-l))
+      further-kept : (p l : ℕ) (rest : List ℕ) → s ≡ preamble v ++ p ∷ l ∷ rest → p ≤ parameterLimit → l ≤ localLimit → Kept HeadAsked 6
+      further-kept p l rest here few few-l =
+          more HeadAsked 5 (parameters-kept p (l ∷ rest) here few) (λ v′ p′ l′ rest′ e. let same : l ≡ l′ = cc (here, e) in omega (arith, same, few-l))
 
-    pub many-results : (p l r : ℕ) (rest : List ℕ) → s ≡ front ++ p ∷ l ∷ r ∷ rest → p ≤ parameterLimit → l ≤ localLimit → resultLimit < r → Stop HeadAsked 6
-    many-results p l r rest here few few-l g = record { kept = further-kept p l (r ∷ rest) here few few-l; broken = λ q. let small = q p l r rest here in omega arith }
+      pub many-results : (p l r : ℕ) (rest : List ℕ) → s ≡ preamble v ++ p ∷ l ∷ r ∷ rest → p ≤ parameterLimit → l ≤ localLimit → resultLimit < r → Stop HeadAsked 6
+      many-results p l r rest here few few-l g = record { kept = further-kept p l (r ∷ rest) here few few-l; broken = λ q. let small = q v p l r rest here in omega arith }
 
-    counts-kept : (p l r : ℕ) (rest : List ℕ) → s ≡ front ++ p ∷ l ∷ r ∷ rest → Few p l r → Kept HeadAsked 7
-    counts-kept p l r rest here few =
-        more HeadAsked 6
-        (further-kept p l (r ∷ rest) here (few .parameters) (few .further))
-        (λ p′ l′ r′ rest′ e. let same : r ≡ r′ = cc (here, e) in omega (arith, same, few .results))
+      counts-kept : (p l r : ℕ) (rest : List ℕ) → s ≡ preamble v ++ p ∷ l ∷ r ∷ rest → Few p l r → Kept HeadAsked 7
+      counts-kept p l r rest here few =
+          more HeadAsked 6
+          (further-kept p l (r ∷ rest) here (few .parameters) (few .further))
+          (λ v′ p′ l′ r′ rest′ e. let same : r ≡ r′ = cc (here, e) in omega (arith, same, few .results))
 
-    pub bad-kinds : (p l r : ℕ) (ks : List Kind) (t : List ℕ) → s ≡ front ++ p ∷ l ∷ r ∷ map kindByte ks ++ t → Few p l r → NoKind t → length ks < p + l + r
-        → Stop HeadAsked 7
-    bad-kinds p l r ks t here few n g = record { kept = counts-kept p l r (map kindByte ks ++ t) here few; broken = λ q. let enough = q p l r ks t here n in omega arith }
+      pub bad-kinds : (p l r : ℕ) (ks : List Kind) (t : List ℕ) → s ≡ preamble v ++ p ∷ l ∷ r ∷ map kindByte ks ++ t → Few p l r → NoKind t → length ks < p + l + r
+          → Stop HeadAsked 7
+      bad-kinds p l r ks t here few n g = record { kept = counts-kept p l r (map kindByte ks ++ t) here few; broken = λ q. let enough = q v p l r ks t here n in omega arith }
 
 -- as many kinds stand there as are declared
 covers : (xs ks : List Kind) (b t : List ℕ) → NoKind t → map kindByte xs ++ b ≡ map kindByte ks ++ t → length xs ≤ length ks
@@ -105,12 +106,12 @@ module _ {s : List ℕ} {h : Header} (d : Declares s h) where
   pub whole-header : Stop (HeadAsked s) 8
   whole-header =
       record {
-        kept = more (HeadAsked s) 7 (counts-kept s declared-sized (length (h .parameters)) (length (h .further)) (length (h .results)) (map kindByte (kinds h) ++ d .body) (d .bytes) (d .few)) all-kinds;
+        kept = more (HeadAsked s) 7 (counts-kept s declared-sized (h .version) (d .versioned) (length (h .parameters)) (length (h .further)) (length (h .results)) (map kindByte (kinds h) ++ d .body) (d .bytes) (d .few)) all-kinds;
         broken = λ q. q;
       }
     where
       all-kinds : HeadAsked s 7
-      all-kinds p l r ks t e n =
+      all-kinds v p l r ks t e n =
           let ep : length (h .parameters) ≡ p = cc (d .bytes, e) in
           let el : length (h .further) ≡ l = cc (d .bytes, e) in
           let er : length (h .results) ≡ r = cc (d .bytes, e) in

@@ -1,10 +1,15 @@
 pub mod Lists
+pub mod Ranks
 pub mod Headers
 pub mod Typings
+pub mod Sorts
+pub mod Filling
+pub mod Dead
 pub mod Onward
-pub mod Ranks
 pub mod Events
 pub mod Ends
 pub mod Heads
 pub mod Verdicts
 pub mod Strips
+pub mod One
+pub mod Core

@@ -1,5 +1,4 @@
 -- Two ways to part one list, where one part has the same length in both.
-use Prim.Native.Nat.{_+_}
 use mathlib.Core.Path.{_≡_, refl, ap, ap₂, sym, _∙_}
 use mathlib.Core.List.{List, [], _∷_, _++_}
 use native.Mathlib.Omega.{arith}

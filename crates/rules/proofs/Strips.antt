@@ -5,11 +5,12 @@ use mathlib.Core.List.{List, [], _∷_, _++_}
 use native.Mathlib.Omega.{arith}
 use lib.ListN.{length, getD, length-append, length-map}
 use Rattle.card.specs.Card.{DONE}
-use Rattle.opcode.specs.Kind.{Kind, kindByte}
+use Rattle.opcode.specs.Kind.{kindByte}
 use Rattle.instr.specs.declared.Instr.{Instr}
 use Rattle.instr.proofs.Stands.{stands-once}
 use Rattle.instr.proofs.Ranges.{stands-some, stands-inside}
 use Rattle.rules.specs.Header.{Header, Declares, headerBytes, kinds, locals}
+use Rattle.rules.specs.Typing.{Frame}
 use Rattle.rules.specs.Strip.{Valid}
 use Rattle.rules.specs.Breach.{Breach, Says, valid, breach}
 use Rattle.rules.proofs.Headers.{declares-once}
@@ -17,25 +18,25 @@ use Rattle.rules.proofs.Onward.{Onward, here, next, from-front, declare
 use Rattle.rules.proofs.Verdicts.{breach-coded}
 use Rattle.rules.specs.Consists.{Instructions, no-more, one-more, Consists}
 
-pub instructions-once : {s : List ℕ} {p : ℕ} {is js : List Instr} → Instructions s p is → Instructions s p js → is ≡ js
+pub instructions-once : {v : ℕ} {s : List ℕ} {p : ℕ} {is js : List Instr} → Instructions v s p is → Instructions v s p js → is ≡ js
 instructions-once (no-more e) (no-more f) = refl
 instructions-once (no-more e) (one-more t r) = absurd (let z : ⊥ = omega (arith, e, stands-some t, stands-inside t) in z)
 instructions-once (one-more t r) (no-more e) = absurd (let z : ⊥ = omega (arith, e, stands-some t, stands-inside t) in z)
-instructions-once {s} {p} (one-more {n = n} {i = i} t r) (one-more {n = m} {i = j} {is = js} t′ r′) =
-    let same = stands-once s p i j n m t t′ in
-    ap₂ _∷_ (same .0) (instructions-once r (subst (λ (x : ℕ). Instructions s (p + x) js) (sym (same .1)) r′))
+instructions-once {v} {s} {p} (one-more {n = n} {i = i} t r) (one-more {n = m} {i = j} {is = js} t′ r′) =
+    let same = stands-once v s p i j n m t t′ in
+    ap₂ _∷_ (same .0) (instructions-once r (subst (λ (x : ℕ). Instructions v s (p + x) js) (sym (same .1)) r′))
 
 pub holds-once : {s : List ℕ} {h h′ : Header} {is js : List Instr} → Consists s h is → Consists s h′ js → (h ≡ h′) × (is ≡ js)
 holds-once {s} {h} {h′} {js = js} a b =
     let same = declares-once s h h′ (a .declares) (b .declares) in
-    (same, instructions-once (a .instructions) (subst (λ (x : Header). Instructions s (length (headerBytes x)) js) (sym same) (b .instructions)))
+    (same, instructions-once (a .instructions) (subst (λ (x : Header). Instructions (x .version) s (length (headerBytes x)) js) (sym same) (b .instructions)))
 
 -- the instructions on the way from one place to another
-abbrev pub between : {s : List ℕ} {h : Header} {p q : ℕ} {κs λs : List Kind} → Onward s h p κs q λs → List Instr
+abbrev pub between : {s : List ℕ} {h : Header} {p q : ℕ} {κs λs : List Frame} → Onward s h p κs q λs → List Instr
 between here = []
 between (next {i = i} r t l o) = i ∷ between o
 
-stand-between : {s : List ℕ} {h : Header} {p q : ℕ} {κs λs : List Kind} {is : List Instr} (o : Onward s h p κs q λs) → Instructions s q is → Instructions s p (between o ++ is)
+stand-between : {s : List ℕ} {h : Header} {p q : ℕ} {κs λs : List Frame} {is : List Instr} (o : Onward s h p κs q λs) → Instructions (h .version) s q is → Instructions (h .version) s p (between o ++ is)
 stand-between here k = k
 stand-between (next r t l o) k = one-more (r .stands) (stand-between o k)
 

@@ -6,13 +6,14 @@ use native.Mathlib.Omega.{arith}
 use lib.ListN.{length, getD}
 use Rattle.card.specs.Card.{DONE, LONG, SHORT, MARK, VERSION, COUNT, KIND}
 use Rattle.opcode.specs.Kind.{Kind, kindByte}
-use Rattle.rules.specs.Header.{Header, Few}
+use Rattle.rules.specs.Header.{Version, Header, Few}
+use Rattle.rules.specs.Typing.{Frame}
 use Rattle.rules.specs.Strip.{Valid}
-use Rattle.rules.specs.Breach.{Sized, front, Refused, Breach, long, stub, unmarked, other-version, parameters, further, results, kind, kinds-short, short, opcode, float, number, lane, align, local, operand, deep, result, trailing, Says, valid, breach}
+use Rattle.rules.specs.Breach.{Sized, preamble, Refused, Breach, long, stub, unmarked, other-version, parameters, further, results, kind, kinds-short, short, block-type, opcode, float, number, lane, align, local, nest, label, operand, deep, result, trailing, Says, valid, breach}
 use Rattle.rules.proofs.Ranks.{Stop, stop-once}
 use Rattle.rules.proofs.Headers.{declares-once}
-use Rattle.rules.proofs.Onward.{declared}
-use Rattle.rules.proofs.Events.{unread, undeclared, missing, too-deep, other-results, followed, ends-well}
+use Rattle.rules.proofs.Onward.{declared, reached-within}
+use Rattle.rules.proofs.Events.{unread, undeclared, too-nested, no-label, missing, too-deep, other-results, followed, ends-well}
 use Rattle.rules.proofs.Ends.{Ended, codeAt, placeAt, ended-once}
 use Rattle.rules.proofs.Heads.{NoKind, none-left, other, kinds-part, HeadAsked, too-long, a-stub, no-mark, no-version, many-parameters, many-further, many-results, bad-kinds, whole-header}
 
@@ -33,12 +34,14 @@ kindPlace s ks (b ∷ t) = 8 + length ks
 
 record KindEnd (s : List ℕ) (code place : ℕ) : Type 0 where
   sized : Sized s
+  v : ℕ
+  is : Version v
   p : ℕ
   l : ℕ
   r : ℕ
   ks : List Kind
   t : List ℕ
-  here : s ≡ front ++ p ∷ l ∷ r ∷ map kindByte ks ++ t
+  here : s ≡ preamble v ++ p ∷ l ∷ r ∷ map kindByte ks ++ t
   few : Few p l r
   no-kind : NoKind t
   missing-some : length ks < p + l + r
@@ -46,7 +49,7 @@ record KindEnd (s : List ℕ) (code place : ℕ) : Type 0 where
   place-is : place ≡ kindPlace s ks t
 
 kind-end-stop : {s : List ℕ} {c l : ℕ} → KindEnd s c l → Stop (HeadAsked s) 7
-kind-end-stop {s} k = bad-kinds s (k .sized) (k .p) (k .l) (k .r) (k .ks) (k .t) (k .here) (k .few) (k .no-kind) (k .missing-some)
+kind-end-stop {s} k = bad-kinds s (k .sized) (k .v) (k .is) (k .p) (k .l) (k .r) (k .ks) (k .t) (k .here) (k .few) (k .no-kind) (k .missing-some)
 
 kind-end-once : {s : List ℕ} {c l c′ l′ : ℕ} → KindEnd s c l → KindEnd s c′ l′ → (c ≡ c′) × (l ≡ l′)
 kind-end-once {s} a b =
@@ -57,9 +60,9 @@ kind-end-once {s} a b =
 data Verdict (s : List ℕ) (c l : ℕ) : Type 0 where
   in-head : (k : ℕ) → k < 7 → Stop (HeadAsked s) k → c ≡ headCode k → l ≡ headPlace s k → Verdict s c l
   in-kinds : KindEnd s c l → Verdict s c l
-  in-body : {h : Header} {p k : ℕ} {κs : List Kind} → Ended s h p κs k → c ≡ codeAt s p k → l ≡ placeAt s p k → Verdict s c l
+  in-body : {h : Header} {p k : ℕ} {κs : List Frame} → Ended s h p κs k → c ≡ codeAt (h .version) s p k → l ≡ placeAt (h .version) s p k → Verdict s c l
 
-body-stop : {s : List ℕ} {h : Header} {p k : ℕ} {κs : List Kind} → Ended s h p κs k → Stop (HeadAsked s) 8
+body-stop : {s : List ℕ} {h : Header} {p k : ℕ} {κs : List Frame} → Ended s h p κs k → Stop (HeadAsked s) 8
 body-stop e = whole-header (declared (e .reached))
 
 verdict-once : {s : List ℕ} {c l c′ l′ : ℕ} → Verdict s c l → Verdict s c′ l′ → (c ≡ c′) × (l ≡ l′)
@@ -72,28 +75,32 @@ verdict-once (in-kinds a) (in-kinds b) = kind-end-once a b
 verdict-once (in-kinds a) (in-body b ck pk) = absurd (let same = stop-once (kind-end-stop a) (body-stop b) in let z : ⊥ = omega arith in z)
 verdict-once (in-body a ca pa) (in-head k lk b ck pk) = absurd (let same = stop-once (body-stop a) b in let z : ⊥ = omega arith in z)
 verdict-once (in-body a ca pa) (in-kinds b) = absurd (let same = stop-once (body-stop a) (kind-end-stop b) in let z : ⊥ = omega arith in z)
-verdict-once {s} (in-body {h = h} a ca pa) (in-body {h = h′} {p = q} {k = k} {κs = λs} b cb pb) =
+verdict-once {s} (in-body {h = h} {p = p} {k = j} a ca pa) (in-body {h = h′} {p = q} {k = k} {κs = λs} b cb pb) =
     let same-header : h′ ≡ h = declares-once s h′ h (declared (b .reached)) (declared (a .reached)) in
     let same = ended-once a (subst (λ (x : Header). Ended s x q λs k) same-header b) in
-    (ca ∙ ap₂ (codeAt s) (same .0) (same .1) ∙ sym cb, pa ∙ ap₂ (placeAt s) (same .0) (same .1) ∙ sym pb)
+    let code : codeAt (h .version) s q k ≡ codeAt (h′ .version) s q k = ap (λ (x : Header). codeAt (x .version) s q k) (sym same-header) in
+    let place : placeAt (h .version) s q k ≡ placeAt (h′ .version) s q k = ap (λ (x : Header). placeAt (x .version) s q k) (sym same-header) in
+    (ca ∙ ap₂ (codeAt (h .version) s) (same .0) (same .1) ∙ code ∙ sym cb, pa ∙ ap₂ (placeAt (h .version) s) (same .0) (same .1) ∙ place ∙ sym pb)
 
 -- ---- each thing that is said is a verdict
 
 refused : {s : List ℕ} {code place : ℕ} → Refused s (suc code) place → Verdict s (suc code) place
 refused {s} f =
-    in-body (record { reached = f .reached; stop = unread s (f .header) (f .at) (f .stack) (f .code-is); last = λ e. omega arith }) (sym (f .code-is)) (sym (f .place-is))
+    in-body (record { reached = f .reached; stop = unread s (f .header) (f .at) (f .frames) (f .code-is); last = λ e. omega arith }) (sym (f .code-is)) (sym (f .place-is))
 
 of-breach : {s : List ℕ} {c l : ℕ} → Breach s c l → Verdict s c l
 of-breach {s} (long g) = in-head 0 (omega arith) (too-long s g) refl refl
 of-breach {s} (stub g) = in-head 1 (omega arith) (a-stub s g) refl refl
 of-breach {s} (unmarked z f) = in-head 2 (omega arith) (no-mark s z f) refl refl
 of-breach {s} (other-version rest z e f) = in-head 3 (omega arith) (no-version s z rest e f) refl refl
-of-breach {s} (parameters p rest z e g) = in-head 4 (omega arith) (many-parameters s z p rest e g) refl refl
-of-breach {s} (further p l rest z e a g) = in-head 5 (omega arith) (many-further s z p l rest e a g) refl refl
-of-breach {s} (results p l r rest z e a b g) = in-head 6 (omega arith) (many-results s z p l r rest e a b g) refl refl
-of-breach {s} (kind p l r b ks rest z e few m f) =
+of-breach {s} (parameters v p rest z w e g) = in-head 4 (omega arith) (many-parameters s z v w p rest e g) refl refl
+of-breach {s} (further v p l rest z w e a g) = in-head 5 (omega arith) (many-further s z v w p l rest e a g) refl refl
+of-breach {s} (results v p l r rest z w e a b g) = in-head 6 (omega arith) (many-results s z v w p l r rest e a b g) refl refl
+of-breach {s} (kind v p l r b ks rest z w e few m f) =
     in-kinds (record {
       sized = z;
+      v = v;
+      is = w;
       p = p;
       l = l;
       r = r;
@@ -106,15 +113,17 @@ of-breach {s} (kind p l r b ks rest z e few m f) =
       code-is = refl;
       place-is = refl;
     })
-of-breach {s} (kinds-short p l r ks z e few m) =
+of-breach {s} (kinds-short v p l r ks z w e few m) =
     in-kinds (record {
       sized = z;
+      v = v;
+      is = w;
       p = p;
       l = l;
       r = r;
       ks = ks;
       t = [];
-      here = e ∙ ap (λ (x : List ℕ). front ++ p ∷ l ∷ r ∷ x) (sym (append-nil (map kindByte ks)));
+      here = e ∙ ap (λ (x : List ℕ). preamble v ++ p ∷ l ∷ r ∷ x) (sym (append-nil (map kindByte ks)));
       few = few;
       no-kind = none-left;
       missing-some = m;
@@ -122,20 +131,24 @@ of-breach {s} (kinds-short p l r ks z e few m) =
       place-is = refl;
     })
 of-breach (short f) = refused f
+of-breach (block-type f) = refused f
 of-breach (opcode f) = refused f
 of-breach (float f) = refused f
 of-breach (number f) = refused f
 of-breach (lane f) = refused f
 of-breach (align f) = refused f
-of-breach {s} (local {h} {p} {κs} a names f) = in-body (record { reached = a .reached; stop = undeclared s h p κs (a .reads) names f; last = λ e. omega arith }) refl refl
-of-breach {s} (operand {h} {p} {κs} a o d f) = in-body (record { reached = a .reached; stop = missing s h p κs (a .reads) o d f; last = λ e. omega arith }) refl refl
-of-breach {s} (deep {h} {p} {κs} a t g) = in-body (record { reached = a .reached; stop = too-deep s h p κs (a .reads) t g; last = λ e. omega arith }) refl refl
-of-breach {s} (result {h} {p} {κs} a f) = in-body (record { reached = a .reached; stop = other-results s h p κs (a .reads) f; last = λ e. omega arith }) refl refl
-of-breach {s} (trailing {h} {p} a g) = in-body (record { reached = a .reached; stop = followed s h p (h .results) (a .reads) refl g; last = λ e. omega arith }) refl refl
+of-breach {s} (local {h} {p} {fs} a names f) = in-body (record { reached = a .reached; stop = undeclared s h p fs (a .reads) names f; last = λ e. omega arith }) refl refl
+of-breach {s} (nest {h} {p} {fs} a o g) = in-body (record { reached = a .reached; stop = too-nested s h p fs (a .reads) o g; last = λ e. omega arith }) refl refl
+of-breach {s} (label {h} {p} {fs} a b f) = in-body (record { reached = a .reached; stop = no-label s h p fs (a .reads) b f; last = λ e. omega arith }) refl refl
+of-breach {s} (operand {h} {p} {fs} a o d l f) = in-body (record { reached = a .reached; stop = missing s h p fs (a .reads) o d l f; last = λ e. omega arith }) refl refl
+of-breach {s} (deep {h} {p} {fs} a t g) =
+    in-body (record { reached = a .reached; stop = too-deep s h p fs (a .reads) t (reached-within (a .reached) .values) g; last = λ e. omega arith }) refl refl
+of-breach {s} (result {h} {p} {fs} a f) = in-body (record { reached = a .reached; stop = other-results s h p fs (a .reads) f; last = λ e. omega arith }) refl refl
+of-breach {s} (trailing {h} {p} {f} a m g) = in-body (record { reached = a .reached; stop = followed s h p (f ∷ []) (a .reads) refl m g; last = λ e. omega arith }) refl refl
 
 verdict : {s : List ℕ} {c l : ℕ} → Says s c l → Verdict s c l
 verdict {s} (valid v) =
-    in-body (record { reached = v .reached; stop = ends-well s (v .header) (v .place) (v .header .results) (v .ends) refl (v .last); last = λ e. omega arith }) refl refl
+    in-body (record { reached = v .reached; stop = ends-well s (v .header) (v .place) (v .strip ∷ []) (v .ends) refl (v .whole) (v .last); last = λ e. omega arith }) refl refl
 verdict (breach b) = of-breach b
 
 -- whatever is said, it is one code at one place
@@ -150,22 +163,25 @@ breach-coded (long g) e = omega arith
 breach-coded (stub g) e = omega arith
 breach-coded (unmarked z f) e = omega arith
 breach-coded (other-version rest z q f) e = omega arith
-breach-coded (parameters p rest z q g) e = omega arith
-breach-coded (further p l rest z q a g) e = omega arith
-breach-coded (results p l r rest z q a b g) e = omega arith
-breach-coded (kind p l r b ks rest z q few m f) e = omega arith
-breach-coded (kinds-short p l r ks z q few m) e = omega arith
+breach-coded (parameters v p rest z w q g) e = omega arith
+breach-coded (further v p l rest z w q a g) e = omega arith
+breach-coded (results v p l r rest z w q a b g) e = omega arith
+breach-coded (kind v p l r b ks rest z w q few m f) e = omega arith
+breach-coded (kinds-short v p l r ks z w q few m) e = omega arith
 breach-coded (short f) e = omega arith
+breach-coded (block-type f) e = omega arith
 breach-coded (opcode f) e = omega arith
 breach-coded (float f) e = omega arith
 breach-coded (number f) e = omega arith
 breach-coded (lane f) e = omega arith
 breach-coded (align f) e = omega arith
 breach-coded (local a names f) e = omega arith
-breach-coded (operand a o d f) e = omega arith
+breach-coded (nest a o g) e = omega arith
+breach-coded (label a b f) e = omega arith
+breach-coded (operand a o d l f) e = omega arith
 breach-coded (deep a t g) e = omega arith
 breach-coded (result a f) e = omega arith
-breach-coded (trailing a g) e = omega arith
+breach-coded (trailing a m g) e = omega arith
 
 pub valid-no-breach : {s : List ℕ} {c l : ℕ} → Valid s → Breach s c l → ⊥
 valid-no-breach v b = breach-coded b (says-once (breach b) (valid v) .0)

@@ -3,3 +3,4 @@ pub mod Typing
 pub mod Strip
 pub mod Consists
 pub mod Breach
+pub mod Core

@@ -1,100 +1,134 @@
 -- The run, instruction after instruction: what is left to do is what the standard's machine has left, with the rest of the budget.
 use Prim.Native.Nat.{ℕ, suc, _+_, _*_, _-_, _≤_, _<_}
 use mathlib.Core.Path.{_≡_, refl, ap, ap₂, sym, _∙_, subst}
-use mathlib.Core.List.{List, reverse}
+use mathlib.Core.Bool.{Bool, true, false}
+use mathlib.Core.List.{List}
 use native.Mathlib.Omega.{arith}
-use native.Mathlib.Nat.{sub-zero}
 use native.Mathlib.Numerals.{add-one}
-use lib.Arith.{lt-of-le-ne}
-use lib.ListN.{length, take, length-map, length-reverse, replicate}
+use lib.ListN.{length}
 use Rattle.card.specs.Card.{DONE, TRAP, BUDGET}
-use Rattle.lane.proofs.Laws.Number.{Bytes}
-use Rattle.limits.specs.Limits.{slot, localCount, stackBytes, localBytes}
-use Rattle.opcode.specs.Table.{Code, carried}
-use Rattle.opcode.specs.Number.{idOf, rowOf, groupOf}
+use Rattle.limits.specs.Limits.{slot, stackLimit, fileLimit}
+use Rattle.opcode.specs.Table.{Code, carried, latest}
+use Rattle.opcode.specs.Number.{idOf, rowOf, groupOf, groupOfCode}
 use Rattle.opcode.specs.Entry.{entryOf, groupIn}
 use Rattle.opcode.proofs.Entries.{group-in}
 use Rattle.instr.specs.declared.Instr.{Instr}
 use Rattle.instr.specs.declared.Decoded.{Decoded}
 use Rattle.instr.specs.declared.Fetched.{Fetched}
-use Rattle.instr.specs.Decode.{decodeAt}
+use Rattle.instr.specs.Decode.{decodeAt, decodeIn}
 use Rattle.instr.specs.Fetch.{fetchOf}
 use Rattle.instr.proofs.Ranges.{stands-inside}
-use Rattle.machine.specs.Value.{kindOf, allBytes}
-use Rattle.machine.specs.Memory.{stored}
-use Rattle.machine.specs.Exec.{State}
+use Rattle.machine.specs.Value.{Value}
+use Rattle.machine.specs.Memory.{part}
 use Rattle.machine.specs.Inner.Fit.{Fits, DidBy, boundsOf}
 use Rattle.machine.specs.Inner.Fit.{Ready as Apt}
 use Rattle.machine.specs.declared.access.Bounds.{Bounds}
 use Rattle.machine.specs.declared.access.Bounds.the-variants.{Clear, Past}
-use Rattle.machine.proofs.Laws.Rep.{Rep}
-use Rattle.rules.specs.Header.{Header, Declares, headerBytes}
-use Rattle.rules.specs.Strip.{Reads}
+use Rattle.rules.specs.Header.{Header}
+use Rattle.rules.specs.Strip.{Reads, Valid}
 use Rattle.rules.proofs.Onward.{declared}
-use Rattle.standard.specs.Standard.{Config, Stage, after, step, begin}
-use Rattle.standard.specs.Safety.{Sound}
-use Rattle.standard.proofs.Begin.{begin-sound}
-use Rattle.standard.proofs.Steps.{step-does, end-done, result-kinds}
+use Rattle.standard.specs.Standard.{Config, Stage, going, ended, trapped, step}
+use Rattle.standard.specs.Safety.{Safe}
+use Rattle.standard.proofs.Turn.{safe-step}
 use Rattle.run.specs.Meter.{Left, leaves, meter, meterBy}
-use Rattle.run.specs.Inner.Steps.{Ready, Drove}
-use Rattle.run.proofs.Start.{args-long, counted, start-holds}
+use Rattle.run.specs.Run.{Slots}
+use Rattle.run.specs.Inner.Carried.{turnsAt, Carries, Stacked, Going, Seen, Led, leads-on, leads-out}
+use Rattle.run.proofs.HeaderBytes.{version-read, result-count}
+use Rattle.run.proofs.Places.{late}
+use Rattle.run.proofs.Leading.{sound-of}
 use Rattle.run.proofs.Turning.{row-is, fits, ready, is-clear, is-past, did}
-use Rattle.run.proofs.Ways.{Way, last, goes-to, traps-at, way, group-end, end-in-group}
-use Rattle.run.proofs.Results.{stack-bytes}
-
--- a budget that is not spent
-pub below : {steps budget : ℕ} → steps ≤ budget → (steps ≡ budget → ⊥) → steps < budget
-below l ne = lt-of-le-ne l ne
+use Rattle.run.proofs.Ways.{Way, turning, goes-to, traps-at, way}
 
 pub not-clear : {b : Bounds} {a : ℕ} → b ≡ Past a → b ≡ Clear → ⊥
 not-clear e f = let z : _≡_ {A = ℕ} 0 1 = cc in omega arith
 
-pub record Drives (s args mem₀ out : List ℕ) (budget : ℕ) (mem results stack : List ℕ) (depth : ℕ) (locals : List ℕ) (at steps : ℕ) : Type 0 where
-  pub ready : Ready s args out
+-- a strip has one number of results
+results-once : {s : List ℕ} (v w : Valid s) (out : List ℕ) → Slots (v .header .results) out → Slots (w .header .results) out
+results-once v w out e = e ∙ ap (λ (n : ℕ). slot * n) (sym (result-count (declared (v .reached))) ∙ result-count (declared (w .reached)))
+
+-- from the configuration c₀ on, with so much of the budget left
+pub record Drives (s : List ℕ) (v : Valid s) (c₀ : Config) (mem₀ out : List ℕ) (budget : ℕ) (mem results stack marks locals : List ℕ) (at depth nest left : ℕ) : Type 0 where
   pub config : Config
-  pub place : config .place ≡ at
-  pub sound : Sound s (ready .valid .header) config
-  pub rep : Rep (config .state) stack depth locals mem
-  pub within : steps ≤ budget
-  pub same : meter s (ready .valid .header) budget 0 (begin (ready .valid .header) (ready .values) mem₀) out ≡ meter s (ready .valid .header) (budget - steps) steps config out
+  pub carries : Carries s (v .header) config at depth nest stack marks locals mem
+  pub slots : Slots (v .header .results) out
+  pub within : left ≤ budget
+  pub same : meter s (v .header) budget 0 c₀ out ≡ meter s (v .header) left (budget - left) config out
   pub untouched : results ≡ out
   pub long : length mem ≡ length mem₀
 
-module _ {s args mem₀ out : List ℕ} {budget : ℕ} {mem results stack : List ℕ} {depth : ℕ} {locals : List ℕ} {at steps : ℕ}
-    (D : Drives s args mem₀ out budget mem results stack depth locals at steps) where
+pub starts : {s : List ℕ} (v : Valid s) (c₀ : Config) (budget : ℕ) {out stack marks locals mem : List ℕ} {at depth nest : ℕ} → Carries s (v .header) c₀ at depth nest stack marks locals mem
+    → Going s out at depth nest stack marks locals mem → Drives s v c₀ mem out budget mem out stack marks locals at depth nest budget
+starts {s} v c₀ budget {out} C g =
+    record {
+      config = c₀;
+      carries = C;
+      slots = results-once (g .held .valid) v out (g .slots);
+      within = omega arith;
+      same = let none : 0 ≡ budget - budget = omega arith in ap (λ (n : ℕ). meter s (v .header) budget n c₀ out) none;
+      untouched = refl;
+      long = refl;
+    }
+
+module _ {s : List ℕ} {v : Valid s} {c₀ : Config} {mem₀ out : List ℕ} {budget : ℕ} {mem results stack marks locals : List ℕ} {at depth nest left : ℕ}
+    (D : Drives s v c₀ mem₀ out budget mem results stack marks locals at depth nest left) where
   abbrev h : Header
-  h = D .ready .valid .header
+  h = v .header
 
-  abbrev σ : State
-  σ = D .config .state
-
-  pub results-fit : length results ≤ length stack
-  results-fit = omega (arith, ap length (D .untouched), D .ready .slots, declared (D .ready .valid .reached) .few .results, D .rep .stack-long)
+  abbrev c : Config
+  c = D .config
 
   -- ---- the meter
 
+  abbrev Is : Left → Type 0
+  Is l = l ≡ meter s h budget 0 c₀ out
+
+  abbrev steps : ℕ
+  steps = budget - left
+
   -- what is left here
-  here : (code : ℕ) → leaves code (D .config .place) steps (σ .memory) out ≡ leaves code at steps mem results
+  here : (code : ℕ) → leaves code (c .place) steps (c .state .memory) out ≡ leaves code at steps mem results
   here code =
-      ap (λ (p : ℕ). leaves code p steps (σ .memory) out) (D .place)
-      ∙ ap₂ (λ (m o : List ℕ). leaves code at steps m o) (D .rep .memory) (sym (D .untouched))
+      ap (λ (p : ℕ). leaves code p steps (c .state .memory) out) (D .carries .place)
+      ∙ ap₂ (λ (m o : List ℕ). leaves code at steps m o) (D .carries .rep .memory) (sym (D .untouched))
 
-  stops : {l : Left} → meter s h (budget - steps) steps (D .config) out ≡ l → Drove s args mem₀ out budget l
-  stops e = record { ready = D .ready; same = sym (D .same ∙ e) }
+  stops : {l : Left} → meter s h left steps c out ≡ l → Is l
+  stops e = sym (D .same ∙ e)
 
-  pub spent : steps ≡ budget → Drove s args mem₀ out budget (leaves BUDGET at steps mem results)
+  pub spent : left ≡ 0 → Is (leaves BUDGET at budget mem results)
   unfolding meter
-  spent e = let none : budget - steps ≡ 0 = omega arith in stops (ap (λ (k : ℕ). meter s h k steps (D .config) out) none ∙ here BUDGET)
+  spent e =
+      let all : steps ≡ budget = omega arith in
+      stops (ap (λ (k : ℕ). meter s h k steps c out) e ∙ here BUDGET ∙ ap (λ (n : ℕ). leaves BUDGET at n mem results) all)
 
-  one : steps < budget → (g : Stage) → step s h (D .config) ≡ g
-      → meter s h (budget - steps) steps (D .config) out ≡ meterBy steps (D .config) out (λ c. meter s h (budget - suc steps) (suc steps) c out) g
+  one : 0 < left → (g : Stage) → step s h c ≡ g → meter s h left steps c out ≡ meterBy steps c out (λ c. meter s h (left - 1) (suc steps) c out) g
   unfolding meter
   one more g e =
-      let next : budget - steps ≡ suc (budget - suc steps) = omega arith in
-      ap (λ (k : ℕ). meter s h k steps (D .config) out) next ∙ ap (meterBy steps (D .config) out (λ c. meter s h (budget - suc steps) (suc steps) c out)) e
+      let next : left ≡ suc (left - 1) = omega arith in
+      ap (λ (k : ℕ). meter s h k steps c out) next ∙ ap (meterBy steps c out (λ c. meter s h (left - 1) (suc steps) c out)) e
+
+  -- one step further
+  goes-on : 0 < left → {d : Config} → step s h c ≡ going d → {mem′ stack′ marks′ locals′ : List ℕ} {at′ depth′ nest′ : ℕ} → Carries s h d at′ depth′ nest′ stack′ marks′ locals′ mem′
+      → length mem′ ≡ length mem → Drives s v c₀ mem₀ out budget mem′ results stack′ marks′ locals′ at′ depth′ nest′ (left - 1)
+  goes-on more {d} e C kept =
+      let further : suc steps ≡ budget - (left - 1) = omega (arith, D .within) in
+      record {
+        config = d;
+        carries = C;
+        slots = D .slots;
+        within = omega (arith, D .within);
+        same = D .same ∙ one more (going d) e ∙ ap (λ (n : ℕ). meter s h (left - 1) n d out) further;
+        untouched = D .untouched;
+        long = kept ∙ D .long;
+      }
+
+  safe : {g : Stage} → step s h c ≡ g → Safe s h (length (c .state .memory)) g
+  safe e = subst (Safe s h (length (c .state .memory))) e (safe-step v c (length (c .state .memory)) (D .carries .sound) refl)
+
+  pub stacked : Stacked s at depth nest stack marks
+  stacked = record { locals = locals; mem = mem; held = record { valid = v; config = c; carries = D .carries } }
 
   -- ---- the instruction that was fetched here
-  module _ (f : Fetched) (fetched : f ≡ fetchOf (decodeAt s at)) where
+  module _ (f : Fetched) (fetched : f ≡ fetchOf (decodeIn latest s at)) where
     abbrev d : Decoded
     d = f .decoded
 
@@ -113,119 +147,135 @@ module _ {s args mem₀ out : List ℕ} {budget : ℕ} {mem results stack : List
     entry-is : f .entry ≡ entryOf (rowOf id)
     entry-is = subst (λ (x : Fetched). x .entry ≡ entryOf (rowOf (x .id))) (sym fetched) refl
 
-    pub stands : Way s h (D .config) (D .sound .kinds) i (d .len)
-    stands = way (D .ready .valid) (D .config) (D .sound) d (ap (λ (x : Fetched). x .decoded) fetched ∙ ap (decodeAt s) (sym (D .place)))
+    stands : Way s h c i (d .len)
+    stands = way v c (D .carries .sound) d (ap (λ (x : Fetched). x .decoded) fetched ∙ ap (decodeAt latest s) (sym (D .carries .place)))
 
-    pub inside : at + d .len ≤ length s
+    pub inside : at + d .len ≤ fileLimit
     inside = by stands
       where
-        by : Way s h (D .config) (D .sound .kinds) i (d .len) → at + d .len ≤ length s
-        by (last r e) = omega (arith, D .place, stands-inside (r .stands))
-        by (goes-to r ne e q) = omega (arith, D .place, stands-inside (r .stands))
-        by (traps-at r ne e) = omega (arith, D .place, stands-inside (r .stands))
+        there : {k : Code} → Reads (h .version) s (c .place) i k (d .len) → at + d .len ≤ fileLimit
+        there r = omega (arith, stands-inside (r .stands), D .carries .place, declared (v .reached) .sized)
 
-    module _ (group : ℕ) (told-group : group ≡ groupIn (f .entry)) where
-      group-is : group ≡ groupOf (rowOf number)
-      group-is = told-group ∙ group-in (rowOf id) entry-is ∙ ap (λ (n : ℕ). groupOf (rowOf n)) id-is
+        by : Way s h c i (d .len) → at + d .len ≤ fileLimit
+        by (turning r e) = there r
+        by (goes-to r e q x) = there r
+        by (traps-at r e q x) = there r
 
-      row : {c : Code} → Reads s (D .config .place) i c (d .len) → rowOf id ≡ carried c
+    module _ (group : ℕ) (grouped : group ≡ groupIn (f .entry)) where
+      group-is : {k : Code} → Reads (h .version) s (c .place) i k (d .len) → group ≡ groupOfCode k
+      group-is r = grouped ∙ group-in (rowOf id) entry-is ∙ ap (λ (n : ℕ). groupOf (rowOf n)) id-is ∙ ap groupOf (row-is r)
+
+      row : {k : Code} → Reads (h .version) s (c .place) i k (d .len) → rowOf id ≡ carried k
       row r = ap rowOf id-is ∙ row-is r
 
-      -- `end`
-      pub finished : steps < budget → group ≡ 0 → {o : List ℕ} → o ≡ take (length results) stack → Drove s args mem₀ out budget (leaves DONE 0 (steps + 1) mem o)
-      finished more e {o} written = by stands
-        where
-          by : Way s h (D .config) (D .sound .kinds) i (d .len) → Drove s args mem₀ out budget (leaves DONE 0 (steps + 1) mem o)
-          by (goes-to r ne f q) = absurd (ne (group-end r group group-is e))
-          by (traps-at r ne f) = absurd (ne (group-end r group group-is e))
-          by (last r κ) =
-              let count = sym (length-map (reverse (σ .stack)) kindOf) ∙ ap length (result-kinds (D .sound .fits) κ) in
-              let long : length results ≡ slot * length (σ .stack) =
-              ap length (D .untouched) ∙ D .ready .slots ∙ ap (λ (n : ℕ). slot * n) (sym count ∙ length-reverse (σ .stack)) in
-              stops
-              (one more _ (step-does h (D .config) r ∙ ap (after (D .config) (d .len)) (end-done (D .sound .fits) κ i))
-              ∙ ap (λ (m : List ℕ). leaves DONE 0 (suc steps) m (allBytes (reverse (σ .stack)))) (D .rep .memory)
-              ∙ ap₂ (λ (n : ℕ) (x : List ℕ). leaves DONE 0 n mem x) (sym (add-one steps))
-              (sym (stack-bytes (σ .stack) stack (D .rep .slots)) ∙ ap (λ (n : ℕ). take n stack) (sym long) ∙ sym written))
+      module _ {t : Bool} (tested : t ≡ turnsAt group) where
+        sort : {k : Code} → Reads (h .version) s (c .place) i k (d .len) → t ≡ turnsAt (groupOfCode k)
+        sort r = tested ∙ ap turnsAt (group-is r)
 
-      -- the others: asked of `bounds`
-      module _ (more : steps < budget) (other : group ≡ 0 → ⊥) where
-        pub bounds-fits : (f .entry ≡ entryOf (rowOf id)) × Fits id stack depth
-        bounds-fits = (entry-is, subst (λ (n : ℕ). Fits n stack depth) (sym id-is) (by stands))
+        both : {A : Type 0} {x : Bool} → x ≡ true → x ≡ false → A
+        both a b = absurd (let y : true ≡ false = sym a ∙ b in let z : _≡_ {A = ℕ} 0 1 = cc (y) in omega arith)
+
+        -- ---- `end`, blocks and branches: asked of `turn`
+
+        pub seen : t ≡ true → Seen s at group (i .index) (i .block) (d .len)
+        seen so = by stands
           where
-            by : Way s h (D .config) (D .sound .kinds) i (d .len) → Fits number stack depth
-            by (last r κ) = absurd (other (end-in-group r group group-is refl))
-            by (goes-to r ne e q) = fits r (h .results) (D .rep) e (λ z. let w : _≡_ {A = ℕ} 0 1 = cc in omega arith)
-            by (traps-at r ne e) = fits r (h .results) (D .rep) e (λ z. let w : _≡_ {A = ℕ} 0 1 = cc in omega arith)
+            by : Way s h c i (d .len) → Seen s at group (i .index) (i .block) (d .len)
+            by (turning {k} r e) =
+                record {
+                  instr = i;
+                  code = k;
+                  reads =
+                      subst (λ (n : ℕ). Reads n s at i k (d .len)) (sym (version-read (declared (v .reached))))
+                      (subst (λ (p : ℕ). Reads (h .version) s p i k (d .len)) (D .carries .place) r);
+                  group-is = group-is r;
+                  index-is = refl;
+                  block-is = refl;
+                  turning = sym tested ∙ so;
+                }
+            by (goes-to r e q x) = both so (sort r ∙ e)
+            by (traps-at r e q x) = both so (sort r ∙ e)
 
-        module _ (b : Bounds) (told : (c : Code) → rowOf id ≡ carried c → b ≡ boundsOf c i stack depth (length mem)) where
-          -- within the memory: asked of `exec`, and what it leaves
-          module _ (clear : b ≡ Clear) where
-            pub exec-apt : (f .entry ≡ entryOf (rowOf id)) × Apt id i stack depth locals mem
-            exec-apt = (entry-is, subst (λ (n : ℕ). Apt n i stack depth locals mem) (sym id-is) (by stands))
-              where
-                by : Way s h (D .config) (D .sound .kinds) i (d .len) → Apt number i stack depth locals mem
-                by (last r κ) = absurd (other (end-in-group r group group-is refl))
-                by (goes-to r ne e q) = ready r (h .results) (D .rep) e
-                by (traps-at r ne e) = absurd (is-past r (h .results) (D .rep) e b (told _ (row r)) clear)
+        -- ---- the others: asked of `bounds`
 
-            pub onward : {depth′ : ℕ} {stack′ locals′ mem′ : List ℕ} → DidBy id i stack depth locals mem depth′ stack′ locals′ mem′ → length mem′ ≡ length mem
-                → Drives s args mem₀ out budget mem′ results stack′ depth′ locals′ (at + d .len) (steps + 1)
-            onward {depth′} {stack′} {locals′} {mem′} by-code kept = by stands
-              where
-                by : Way s h (D .config) (D .sound .kinds) i (d .len) → Drives s args mem₀ out budget mem′ results stack′ depth′ locals′ (at + d .len) (steps + 1)
-                by (last r κ) = absurd (other (end-in-group r group group-is refl))
-                by (traps-at r ne e) = absurd (is-past r (h .results) (D .rep) e b (told _ (row r)) clear)
-                by (goes-to {τ = τ} r ne e q) =
-                    record {
-                      ready = D .ready;
-                      config = record { place = D .config .place + d .len; state = τ };
-                      place = ap (λ (p : ℕ). p + d .len) (D .place);
-                      sound = q;
-                      rep = did r (h .results) (D .rep) e (subst (λ (n : ℕ). DidBy n i stack depth locals mem depth′ stack′ locals′ mem′) id-is by-code);
-                      within = omega arith;
-                      same =
-                          D .same ∙ one more _ (step-does h (D .config) r ∙ ap (after (D .config) (d .len)) e)
-                          ∙ ap (λ (n : ℕ). meter s h (budget - n) n (record { place = D .config .place + d .len; state = τ }) out) (sym (add-one steps));
-                      untouched = D .untouched;
-                      long = kept ∙ D .long;
-                    }
-
-          -- past its end
-          pub strayed : (b ≡ Clear → ⊥) → Drove s args mem₀ out budget (leaves TRAP at steps mem results)
-          strayed past = by stands
+        module _ (ordinary : t ≡ false) where
+          pub bounds-fits : (f .entry ≡ entryOf (rowOf id)) × Fits id stack depth
+          bounds-fits = (entry-is, subst (λ (n : ℕ). Fits n stack depth) (sym id-is) (by stands))
             where
-              by : Way s h (D .config) (D .sound .kinds) i (d .len) → Drove s args mem₀ out budget (leaves TRAP at steps mem results)
-              by (last r κ) = absurd (other (end-in-group r group group-is refl))
-              by (goes-to r ne e q) = absurd (past (told _ (row r) ∙ is-clear r (h .results) (D .rep) e))
-              by (traps-at r ne e) = stops (one more _ (step-does h (D .config) r ∙ ap (after (D .config) (d .len)) e) ∙ here TRAP)
+              by : Way s h c i (d .len) → Fits number stack depth
+              by (turning r e) = both (sort r ∙ e) ordinary
+              by (goes-to r e q x) = fits r (h .results) (D .carries .rep) q (λ z. let w : _≡_ {A = ℕ} 0 1 = cc in omega arith)
+              by (traps-at r e q x) = fits r (h .results) (D .carries .rep) q (λ z. let w : _≡_ {A = ℕ} 0 1 = cc in omega arith)
 
--- ---- the start
+          module _ (b : Bounds) (told : (c : Code) → rowOf id ≡ carried c → b ≡ boundsOf c i stack depth (length mem)) where
+            -- within the memory: asked of `exec`, and what it leaves
+            module _ (clear : b ≡ Clear) where
+              pub exec-apt : (f .entry ≡ entryOf (rowOf id)) × Apt id i stack depth locals mem
+              exec-apt = (entry-is, subst (λ (n : ℕ). Apt n i stack depth locals mem) (sym id-is) (by stands))
+                where
+                  by : Way s h c i (d .len) → Apt number i stack depth locals mem
+                  by (turning r e) = both (sort r ∙ e) ordinary
+                  by (goes-to r e q x) = ready r (h .results) (D .carries .rep) q
+                  by (traps-at r e q x) = absurd (is-past r (h .results) (D .carries .rep) q b (told _ (row r)) clear)
 
-module _ {s args out : List ℕ} (r : Ready s args out) where
-  starts-declared : Declares s (r .valid .header)
-  starts-declared = declared (r .valid .reached)
+              pub onward : 0 < left → {depth′ : ℕ} {stack′ locals′ mem′ : List ℕ} → DidBy id i stack depth locals mem depth′ stack′ locals′ mem′ → length mem′ ≡ length mem
+                  → Drives s v c₀ mem₀ out budget mem′ results stack′ marks locals′ (at + d .len) depth′ nest (left - 1)
+              onward more {depth′} {stack′} {locals′} {mem′} by-code kept = by stands
+                where
+                  by : Way s h c i (d .len) → Drives s v c₀ mem₀ out budget mem′ results stack′ marks locals′ (at + d .len) depth′ nest (left - 1)
+                  by (turning r e) = both (sort r ∙ e) ordinary
+                  by (traps-at r e q x) = absurd (is-past r (h .results) (D .carries .rep) q b (told _ (row r)) clear)
+                  by (goes-to {τ = τ} r e q x) =
+                      goes-on more x
+                      (record {
+                        place = ap (λ (p : ℕ). p + d .len) (D .carries .place);
+                        sound = sound-of (safe x);
+                        rep = did r (h .results) (D .carries .rep) q (subst (λ (n : ℕ). DidBy n i stack depth locals mem depth′ stack′ locals′ mem′) id-is by-code);
+                        many = D .carries .many;
+                        marked = D .carries .marked;
+                        marks-long = D .carries .marks-long;
+                      })
+                      kept
 
-  pub few-locals : length (r .valid .header .parameters) + length (r .valid .header .further) ≤ localCount
-  few-locals = omega (arith, starts-declared .few .parameters, starts-declared .few .further)
+            -- past its end
+            pub strayed : 0 < left → (b ≡ Clear → ⊥) → Is (leaves TRAP at steps mem results)
+            strayed more out-of-reach = by stands
+              where
+                by : Way s h c i (d .len) → Is (leaves TRAP at steps mem results)
+                by (turning r e) = both (sort r ∙ e) ordinary
+                by (goes-to r e q x) = absurd (out-of-reach (told _ (row r) ∙ is-clear r (h .results) (D .carries .rep) q))
+                by (traps-at {a = a} {m = m} r e q x) = stops (one more (trapped a m) x ∙ here TRAP)
 
-  pub args-fit : length args ≤ localBytes
-  args-fit = omega (arith, args-long (r .valid .header) args (r .values) (r .given) few-locals, counted (r .valid .header) args (r .values) (r .given) few-locals, few-locals)
+  -- ---- what `turn` leaves
 
-  pub starts : (budget : ℕ) (mem : List ℕ) → Bytes mem → {locals : List ℕ} → locals ≡ stored (replicate localBytes 0) 0 args → {at : ℕ} → at ≡ length (headerBytes (r .valid .header))
-      → Drives s args mem out budget mem out (replicate stackBytes 0) 0 locals at 0
-  starts budget mem b {locals} f {at} e =
-      let sound = begin-sound (r .valid) (r .values) mem (record { kinds = r .given .kinds; range = r .given .range; bytes = λ k. b k .fits }) in
-      record {
-        ready = r;
-        config = begin (r .valid .header) (r .values) mem;
-        place = sym e;
-        sound = sound;
-        rep =
-            subst (λ (ls : List ℕ). Rep (begin (r .valid .header) (r .values) mem .state) (replicate stackBytes 0) 0 ls mem) (sym f)
-            (start-holds (r .valid .header) args (r .values) (r .given) few-locals mem b sound);
-        within = omega arith;
-        same = ap (λ (n : ℕ). meter s (r .valid .header) n 0 (begin (r .valid .header) (r .values) mem) out) (sym (sub-zero budget));
-        untouched = refl;
-        long = refl;
-      }
+  module _ {at′ depth′ nest′ : ℕ} {stack′ marks′ : List ℕ} (led : Led s h (step s h c) at′ depth′ nest′ stack′ marks′ locals mem) where
+    no-place : {e : Config} → Carries s h e at′ depth′ nest′ stack′ marks′ locals mem → at′ ≡ 0 → ⊥
+    no-place C z = omega (arith, late (C .sound .reached), C .place, z)
+
+    results-long : (vs : List Value) → length vs ≡ length (h .results) → length results ≡ slot * length vs
+    results-long vs n = ap length (D .untouched) ∙ D .slots ∙ ap (λ (k : ℕ). slot * k) (sym n)
+
+    pub results-fit : at′ ≡ 0 → (depth′ ≤ stackLimit) × (slot * depth′ + length results ≤ length stack′)
+    results-fit z = by led
+      where
+        by : Led s h (step s h c) at′ depth′ nest′ stack′ marks′ locals mem → (depth′ ≤ stackLimit) × (slot * depth′ + length results ≤ length stack′)
+        by (leads-on e C) = absurd (no-place C z)
+        by (leads-out {vs} e q n few long bytes) = (omega (arith, few), omega (arith, few, long, results-long vs n))
+
+    pub finished : 0 < left → at′ ≡ 0 → {o : List ℕ} → o ≡ part (length results) (slot * depth′) stack′ → Is (leaves DONE 0 (steps + 1) mem o)
+    finished more z {o} written = by led
+      where
+        by : Led s h (step s h c) at′ depth′ nest′ stack′ marks′ locals mem → Is (leaves DONE 0 (steps + 1) mem o)
+        by (leads-on e C) = absurd (no-place C z)
+        by (leads-out {vs} e q n few long bytes) =
+            stops
+            (one more (ended vs mem) e
+            ∙ ap₂ (λ (k : ℕ) (x : List ℕ). leaves DONE 0 k mem x) (sym (add-one steps))
+            (sym (written ∙ ap (λ (k : ℕ). part k (slot * depth′) stack′) (results-long vs n) ∙ bytes)))
+
+    pub turned : 0 < left → (at′ ≡ 0 → ⊥) → Drives s v c₀ mem₀ out budget mem results stack′ marks′ locals at′ depth′ nest′ (left - 1)
+    turned more ne = by led
+      where
+        by : Led s h (step s h c) at′ depth′ nest′ stack′ marks′ locals mem → Drives s v c₀ mem₀ out budget mem results stack′ marks′ locals at′ depth′ nest′ (left - 1)
+        by (leads-on e C) = goes-on more e C refl
+        by (leads-out e q n few long bytes) = absurd (ne q)

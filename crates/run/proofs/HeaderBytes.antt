@@ -7,9 +7,12 @@ use lib.ListN.{length, getD, length-append, length-map, List·getD-append}
 use lib.Seq.{getD-append-add}
 use Rattle.limits.specs.Limits.{parameterLimit, localLimit, resultLimit}
 use Rattle.opcode.specs.Kind.{Kind, i32, kindByte}
-use Rattle.rules.specs.Header.{Header, Declares, mark, version, counts, headerBytes, locals, kinds}
+use Rattle.rules.specs.Header.{Header, Declares, mark, versionBytes, counts, headerBytes, locals, kinds}
 
 module _ {s : List ℕ} {h : Header} (d : Declares s h) where
+  pub version-read : getD s 3 0 ≡ h .version
+  version-read = ap (λ (x : List ℕ). getD x 3 0) (d .bytes)
+
   pub parameter-count : getD s 5 0 ≡ length (h .parameters)
   parameter-count = ap (λ (x : List ℕ). getD x 5 0) (d .bytes)
 
@@ -32,7 +35,7 @@ module _ {s : List ℕ} {h : Header} (d : Declares s h) where
   -- the kind byte of a parameter
   pub parameter-kind : (j : ℕ) → j < length (h .parameters) → getD s (8 + j) 0 ≡ kindByte (getD (h .parameters) j i32)
   parameter-kind j l =
-      ap (λ (x : List ℕ). getD x (8 + j) 0) (d .bytes) ∙ getD-append-add (mark ++ version ++ counts h) (map kindByte (kinds h) ++ d .body) j 0
+      ap (λ (x : List ℕ). getD x (8 + j) 0) (d .bytes) ∙ getD-append-add (mark ++ versionBytes (h .version) ++ counts h) (map kindByte (kinds h) ++ d .body) j 0
       ∙ List·getD-append (map kindByte (kinds h)) (d .body) 0 j (omega (arith, length-map (kinds h) kindByte, all-kinds)) ∙ first (kinds h) j
       (omega (arith, all-kinds)) ∙ ap kindByte (List·getD-append (locals h) (h .results) i32 j (omega (arith, length-append (h .parameters) (h .further))) ∙ List·getD-append (h .parameters) (h .further) i32 j l)
     where

@@ -5,8 +5,15 @@ pub mod Upto
 pub mod Turning
 pub mod Results
 pub mod Start
+pub mod Marking
+pub mod Places
+pub mod Keeping
+pub mod Leading
+pub mod Blocking
+pub mod Latest
 pub mod Ways
 pub mod Driving
+pub mod Beginning
 pub mod Asking
 pub mod Metered
 pub mod Promises

@@ -70,7 +70,7 @@ module _ {s : List ℕ} (v : Valid s) (b : Config) (out : List ℕ) (budget : �
   tells zero k c e r sound =
       let all : k ≡ budget = omega arith in
       subst (λ (n : ℕ). Told s h b out budget (leaves BUDGET (c .place) n (c .state .memory) out)) (sym all) (told-budget (subst (λ (n : ℕ). runs s h n b ≡ going c) all r))
-  tells (suc j) k c e r sound = go (step s h c) refl (safe-step v (length (c .state .memory)) c sound refl) (λ d f D. tells j (suc k) d (omega arith) (one-more s h k b c r ∙ f) D)
+  tells (suc j) k c e r sound = go (step s h c) refl (safe-step v c (length (c .state .memory)) sound refl) (λ d f D. tells j (suc k) d (omega arith) (one-more s h k b c r ∙ f) D)
     where
       go : (g : Stage) → step s h c ≡ g → Safe s h (length (c .state .memory)) g
           → ((d : Config) → step s h c ≡ going d → Sound s h d → Told s h b out budget (meter s h j (suc k) d out)) → Told s h b out budget (meterBy k c out (λ d. meter s h j (suc k) d out) g)

@@ -5,16 +5,16 @@ use mathlib.Core.List.{List}
 use mathlib.Core.Logic.{inl, inr}
 use native.Mathlib.Omega.{arith}
 use lib.ListN.{length}
-use Rattle.card.specs.Card.{DONE, LONG, TRAILING, ROOM, ARGS, OUT, FORM, SMALL}
+use Rattle.card.specs.Card.{DONE, LONG, LABEL, ROOM, ARGS, OUT, FORM, SMALL}
 use Rattle.limits.specs.Limits.{fileLimit}
 use Rattle.leb128.specs.Bytes.{bytes}
-use Rattle.opcode.specs.Kind.{Kind}
 use Rattle.machine.specs.Value.{Value}
 use Rattle.instr.proofs.Ranges.{stands-inside}
 use Rattle.rules.specs.Header.{Header}
+use Rattle.rules.specs.Typing.{Frame}
 use Rattle.rules.specs.Strip.{Reaches, front, past, Valid}
 use Rattle.rules.proofs.Onward.{declared}
-use Rattle.rules.specs.Breach.{Breach, long, stub, unmarked, other-version, parameters, further, results, kind, kinds-short, short, opcode, float, number, lane, align, local, operand, deep, result, trailing, breach}
+use Rattle.rules.specs.Breach.{Breach, long, stub, unmarked, other-version, parameters, further, results, kind, kinds-short, short, block-type, opcode, float, number, lane, align, local, nest, label, operand, deep, result, trailing, breach}
 use Rattle.checker.proofs.Exact as Exact
 use Rattle.standard.specs.Standard.{Config, going, ended, step, runs, begin}
 use Rattle.standard.specs.Safety.{Given, Sound, Safe, safe-going, safe-ended}
@@ -27,30 +27,33 @@ use Rattle.run.specs.Told.{Told, told-done, told-trap, told-budget, OnCa
 use Rattle.run.proofs.HeaderBytes.{inside}
 use Rattle.run.proofs.Metered.{metered-tells}
 
-breach-range : {s : List ℕ} {c p : ℕ} → Breach s c p → (LONG ≤ c) × (c ≤ TRAILING)
+breach-range : {s : List ℕ} {c p : ℕ} → Breach s c p → (LONG ≤ c) × (c ≤ LABEL)
 breach-range (long g) = (omega arith, omega arith)
 breach-range (stub g) = (omega arith, omega arith)
 breach-range (unmarked z f) = (omega arith, omega arith)
 breach-range (other-version rest z e f) = (omega arith, omega arith)
-breach-range (parameters p rest z e g) = (omega arith, omega arith)
-breach-range (further p l rest z e a g) = (omega arith, omega arith)
-breach-range (results p l r rest z e a b g) = (omega arith, omega arith)
-breach-range (kind p l r b ks rest z e few m f) = (omega arith, omega arith)
-breach-range (kinds-short p l r ks z e few m) = (omega arith, omega arith)
+breach-range (parameters v p rest z k e g) = (omega arith, omega arith)
+breach-range (further v p l rest z k e a g) = (omega arith, omega arith)
+breach-range (results v p l r rest z k e a b g) = (omega arith, omega arith)
+breach-range (kind v p l r b ks rest z k e few m f) = (omega arith, omega arith)
+breach-range (kinds-short v p l r ks z k e few m) = (omega arith, omega arith)
 breach-range (short f) = (omega arith, omega arith)
+breach-range (block-type f) = (omega arith, omega arith)
 breach-range (opcode f) = (omega arith, omega arith)
 breach-range (float f) = (omega arith, omega arith)
 breach-range (number f) = (omega arith, omega arith)
 breach-range (lane f) = (omega arith, omega arith)
 breach-range (align f) = (omega arith, omega arith)
 breach-range (local a names f) = (omega arith, omega arith)
-breach-range (operand a o d f) = (omega arith, omega arith)
+breach-range (nest a o g) = (omega arith, omega arith)
+breach-range (label a o g) = (omega arith, omega arith)
+breach-range (operand a o d l f) = (omega arith, omega arith)
 breach-range (deep a t g) = (omega arith, omega arith)
 breach-range (result a f) = (omega arith, omega arith)
-breach-range (trailing a g) = (omega arith, omega arith)
+breach-range (trailing a e g) = (omega arith, omega arith)
 
 -- a place that is reached is one of the file
-reached-inside : {s : List ℕ} {h : Header} {p : ℕ} {κs : List Kind} → Reaches s h p κs → p ≤ fileLimit
+reached-inside : {s : List ℕ} {h : Header} {p : ℕ} {fs : List Frame} → Reaches s h p fs → p ≤ fileLimit
 reached-inside (front d) = omega (arith, inside d, d .sized)
 reached-inside (past r q t l) = omega (arith, stands-inside (q .stands), declared r .sized)
 

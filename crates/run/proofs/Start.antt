@@ -16,7 +16,8 @@ use Rattle.machine.specs.Value.{Value, I32, kindOf, AllInRange, bytesOf, allByt
 use Rattle.machine.specs.Memory.{part, stored}
 use Rattle.machine.specs.Inner.Flat.{slotAt}
 use Rattle.machine.proofs.Laws.Stored.{length-stored, part-other}
-use Rattle.machine.proofs.Laws.Rep.{Rep, sixteen-bytes}
+use Rattle.machine.specs.Inner.Rep.{Rep}
+use Rattle.machine.proofs.Laws.Rep.{sixteen-bytes}
 use Rattle.rules.specs.Header.{Header}
 use Rattle.standard.specs.Standard.{begin, zeroOf}
 use Rattle.standard.specs.Safety.{Sound}

@@ -8,9 +8,10 @@ use lib.ListN.{length, getD}
 use Rattle.operation.specs.Op.{Op, Load, LoadLane, Store, StoreLane, Const, Shuffle, Splat, ExtractLane, ReplaceLane, Unary, Binary, Bitselect, Test, Shift}
 use Rattle.lane.proofs.Laws.Lane.{lane-byte}
 use Rattle.opcode.specs.Kind.{Kind}
-use Rattle.opcode.specs.Table.{Code, plain, vector, carried}
+use Rattle.opcode.specs.Table.{Code, plain, control, vector, carried}
 use Rattle.opcode.specs.Number.{idOf, rowOf}
 use Rattle.opcode.proofs.Id.{row-of-id}
+use Rattle.opcode.proofs.Versions.{row-latest}
 use Rattle.instr.specs.declared.Instr.{Instr}
 use Rattle.instr.specs.Layout.{Below, Allowed}
 use Rattle.instr.proofs.Ranges.{lane-range, shuffle-range}
@@ -21,7 +22,7 @@ use Rattle.machine.specs.declared.access.Bounds.{Bounds}
 use Rattle.machine.specs.declared.access.Bounds.the-variants.{Clear, Past}
 use Rattle.machine.proofs.Simulates.{simulates}
 use Rattle.machine.proofs.Fits.{slotted, enough, clear, past-end}
-use Rattle.machine.proofs.Laws.Rep.{Rep}
+use Rattle.machine.specs.Inner.Rep.{Rep}
 use Rattle.rules.specs.Strip.{Reads}
 use Rattle.standard.proofs.Steps.{apt}
 
@@ -31,7 +32,7 @@ below-at (x ∷ xs) zero l b = b .0
 below-at (x ∷ xs) (suc k) l b = below-at xs k (omega arith) (b .1)
 
 -- lane indices are as decoding leaves them
-indexed : {s : List ℕ} {p n : ℕ} {i : Instr} (o : Op) → Reads s p i (vector o) n → Indexed o i
+indexed : {v : ℕ} {s : List ℕ} {p n : ℕ} {i : Instr} (o : Op) → Reads v s p i (vector o) n → Indexed o i
 indexed {i = i} o r = by o (subst (λ row. Allowed row i) (r .does) (r .stands .allowed))
   where
     by : (o : Op) → Allowed (carried (vector o)) i → Indexed o i
@@ -52,9 +53,9 @@ indexed {i = i} o r = by o (subst (λ row. Allowed row i) (r .does) (r .stands .
     by (Test f) a = tt
     by (Shift f) a = tt
 
-module _ {s : List ℕ} {p n : ℕ} {i : Instr} {c : Code} (r : Reads s p i c n) where
+module _ {v : ℕ} {s : List ℕ} {p n : ℕ} {i : Instr} {c : Code} (r : Reads v s p i c n) where
   pub row-is : rowOf (idOf (i .first) (i .number)) ≡ carried c
-  row-is = row-of-id (i .first) (i .number) (r .stands .typed .first) ∙ r .does
+  row-is = row-of-id (i .first) (i .number) (r .stands .typed .first) ∙ row-latest v (i .first) (i .number) (r .does)
 
   module _ (rs : List Kind) {σ : State} {st : List ℕ} {d : ℕ} {ls m : List ℕ} (rep : Rep σ st d ls m) where
     fit : {o : Outcome} → exec rs c i σ ≡ o → (o ≡ stuck → ⊥) → Fit c st d
@@ -68,8 +69,9 @@ module _ {s : List ℕ} {p n : ℕ} {i : Instr} {c : Code} (r : Reads s p i c n)
       moves : goes σ′ ≡ stuck → ⊥
       moves q = let z : _≡_ {A = ℕ} 0 1 = cc in omega arith
 
-      named : (c : Code) → exec rs c i σ ≡ goes σ′ → Reads s p i c n → Named c i
+      named : (c : Code) → exec rs c i σ ≡ goes σ′ → Reads v s p i c n → Named c i
       named (plain q) e r = slotted rs i σ st d ls m rep (goes σ′) moves q e
+      named (control k) e r = tt
       named (vector o) e r = indexed o r
 
       after : Rep σ′ (flat c i st d ls m .stack) (flat c i st d ls m .depth) (flat c i st d ls m .locals) (flat c i st d ls m .memory)

@@ -1,4 +1,4 @@
--- What a run answers (01, "Numbers on the inspector's card"): 1 to 16, then 20, 21, 22, 23, then the standard's machine with a budget.
+-- What a run answers (01, "Numbers on the inspector's card"; 02, C-13): 1 to 18, then 20, 21, 22, 23, then the standard's machine with a budget.
 use Prim.Native.Nat.{ℕ, _*_, _≤_, _<_}
 use mathlib.Core.Path.{_≡_}
 use mathlib.Core.List.{List, map}

@@ -4,7 +4,7 @@ use mathlib.Core.Path.{_≡_}
 use mathlib.Core.List.{List}
 use mathlib.Core.Logic.{_⊎_}
 use lib.ListN.{length}
-use Rattle.card.specs.Card.{DONE, LONG, TRAILING, ROOM, FORM, SMALL, TRAP, BUDGET}
+use Rattle.card.specs.Card.{DONE, LONG, LABEL, ROOM, FORM, SMALL, TRAP, BUDGET}
 use Rattle.limits.specs.Limits.{slot}
 use Rattle.machine.specs.Value.{Value, allBytes}
 use Rattle.rules.specs.Header.{Header}
@@ -16,7 +16,7 @@ use Rattle.run.specs.Run.{Holds, Slots}
 -- the machine starts from b; the results' buffer was out
 module _ (s : List ℕ) (h : Header) (b : Config) (out : List ℕ) (budget : ℕ) where
   pub data Told : Left → Type 0 where
-    -- `end` is the last of k + 1 steps, and writes sixteen bytes for each result
+    -- the strip's `end`, or a branch out of it, is the last of k + 1 steps, and writes sixteen bytes for each result
     told-done : (k : ℕ) {c : Config} {vs : List Value} {m : List ℕ} → suc k ≤ budget → runs s h k b ≡ going c → step s h c ≡ ended vs m
         → length (allBytes vs) ≡ slot * length (h .results) → Told (leaves DONE 0 (suc k) m (allBytes vs))
     -- the step after k does not count
@@ -26,7 +26,7 @@ module _ (s : List ℕ) (h : Header) (b : Config) (out : List ℕ) (budget : ℕ
 
 -- a code of the card that a run answers
 abbrev pub OnCard : ℕ → Type 0
-OnCard c = (c ≤ TRAILING) ⊎ ((ROOM ≤ c) × (c ≤ FORM)) ⊎ (c ≡ TRAP) ⊎ (c ≡ BUDGET)
+OnCard c = (c ≤ LABEL) ⊎ ((ROOM ≤ c) × (c ≤ FORM)) ⊎ (c ≡ TRAP) ⊎ (c ≡ BUDGET)
 
 -- turned away with everything as it was; or all was in order, and this is told of the machine
 module _ (s args mem out : List ℕ) (budget : ℕ) where

@@ -1,18 +1,28 @@
 // The instructions, one after the other, until `end`, a trap or the budget.
 ghost use mathlib.Core.Path.{_≡_};
-ghost use Prim.Native.Nat.{_≤_};
-ghost use lib.ListN.{length, take};
+ghost use Prim.Native.Nat.{_+_, _*_, _≤_};
+ghost use lib.ListN.{length};
 ghost use Rattle.run.specs.Inner.Steps.{Ready, Drove};
-ghost use Rattle.run.specs.Meter.{leaves};
+ghost use Rattle.run.specs.Inner.Carried.{openIn, Carries, Going};
+ghost use Rattle.run.specs.Inner.Ends.{Kept};
+ghost use Rattle.run.specs.Meter.{leaves, meter};
+ghost use Rattle.limits.specs.Limits.{slot, stackLimit, stackBytes};
 ghost use Rattle.opcode.specs.Number.{rowOf};
 ghost use Rattle.opcode.specs.Entry.{entryOf};
+ghost use Rattle.machine.specs.Memory.{part};
 ghost use Rattle.machine.specs.Inner.Fit.{Ready as Apt, DidBy};
+ghost use Rattle.rules.specs.Strip.{Valid};
+ghost use Rattle.standard.specs.Standard.{Config};
+use crate::Closings;
+use crate::Labels;
 use crate::Stack;
 use crate::arguments::locals_of;
+use crate::blocks;
 use card::Answer;
 use instr::Instr;
 use machine::Bounds;
 
+// From the first instruction, with the arguments as locals and a zeroed stack.
 pub(crate) fn drive(
     strip: &[u8],
     args: &[u8],
@@ -28,76 +38,110 @@ pub(crate) fn drive(
         bytes: [0u8; limits::STACK_BYTES],
         depth: 0,
     };
+    let mut labels = Labels {
+        marks: [0usize; crate::MARKS],
+    };
+    let mut ends = Closings {
+        words: [0u32; crate::ENDS],
+    };
     let mut locals = locals_of(args, count);
-    let mut at = 8 + count + strip[7] as usize;
-    let mut steps: u32 = 0;
+    let at = 8 + count + strip[7] as usize;
+    go_on(
+        strip,
+        mem,
+        results,
+        budget,
+        at,
+        &mut stack.bytes,
+        0,
+        &mut labels.marks,
+        &mut ends.words,
+        &mut locals.bytes,
+    )
+}
+
+// From any place, with the stack, the open blocks and the locals there.
+pub(crate) fn go_on(
+    strip: &[u8],
+    mem: &mut [u8],
+    results: &mut [u8],
+    budget: u32,
+    place: usize,
+    stack: &mut [u8; limits::STACK_BYTES],
+    values: usize,
+    marks: &mut [usize; crate::MARKS],
+    ends: &mut [u32; crate::ENDS],
+    locals: &mut [u8; limits::LOCAL_BYTES],
+) -> Answer
+    requires { ⌜ Going (now strip) (now results) place values (openIn (now marks)) (now stack) (now marks) (now locals) (now mem) × Kept (now strip) (now ends) ⌝ }
+    ensures { λ r. ⌜ ((v : Valid (now (strip .entry))) (c : Config) → Carries (now (strip .entry)) (v .header) c place values (openIn (now (marks .entry))) (now (stack .entry)) (now (marks .entry)) (now (locals .entry)) (now (mem .entry)) → leaves (r .code) (r .place) (r .steps) (now (mem .exit)) (now (results .exit)) ≡ meter (now (strip .entry)) (v .header) budget 0 c (now (results .entry))) ⌝ }
+{
+    let mut at = place;
+    let mut depth = values;
+    let mut left = budget;
     loop {
-        if steps == budget {
+        if left == 0 {
             return Answer {
                 code: card::BUDGET,
                 place: at,
-                steps,
+                steps: budget,
             };
         }
-        let f = instr::fetch(strip, at);
+        // By the latest version: one that a strip's own version has is the same there, and the check has asked for others.
+        let f = instr::fetch(opcode::LATEST, strip, at);
         let d = f.decoded;
         let i = d.instr;
-        if opcode::group(f.entry) == opcode::GROUP_END {
-            put_results(&stack.bytes, results);
-            return Answer {
-                code: card::DONE,
-                place: 0,
-                steps: steps + 1,
-            };
-        }
-        let depth = stack.depth;
-        match machine::bounds(f.id, f.entry, i, &stack.bytes, depth, mem.len()) {
-            Bounds::Clear => {
-                stack.depth = exec(
-                    f.id,
-                    f.entry,
-                    i,
-                    &mut stack.bytes,
-                    depth,
-                    &mut locals.bytes,
-                    mem,
-                );
-                at += d.len;
-                steps += 1;
+        let group = opcode::group(f.entry);
+        if blocks::turns(group) {
+            let t = blocks::turn(
+                strip,
+                group,
+                i.index,
+                i.block,
+                at,
+                d.len,
+                stack,
+                depth,
+                marks,
+                ends,
+            );
+            if t.at == 0 {
+                put_results(stack, t.depth, results);
+                return Answer {
+                    code: card::DONE,
+                    place: 0,
+                    steps: budget - left + 1,
+                };
             }
-            Bounds::Past(_) => return Answer {
-                code: card::TRAP,
-                place: at,
-                steps,
-            },
+            at = t.at;
+            depth = t.depth;
+            left -= 1;
+        } else {
+            match machine::bounds(f.id, f.entry, i, stack, depth, mem.len()) {
+                Bounds::Clear => {
+                    depth = machine::exec(f.id, f.entry, i, stack, depth, locals, mem);
+                    at += d.len;
+                    left -= 1;
+                }
+                Bounds::Past(_) => return Answer {
+                    code: card::TRAP,
+                    place: at,
+                    steps: budget - left,
+                },
+            }
         }
     }
 }
 
-// The machine's own, lent the two arrays.
-fn exec(
-    id: u32,
-    entry: u64,
-    i: Instr,
-    stack: &mut [u8; limits::STACK_BYTES],
-    depth: usize,
-    locals: &mut [u8; limits::LOCAL_BYTES],
-    mem: &mut [u8],
-) -> usize
-    requires { ⌜ (entry ≡ entryOf (rowOf id)) × Apt id i (now stack) depth (now locals) (now mem) ⌝ }
-    ensures { λ r. ⌜ DidBy id i (now (stack .entry)) depth (now (locals .entry)) (now (mem .entry)) r (now (stack .exit)) (now (locals .exit)) (now (mem .exit)) ⌝ }
+// The values from a slot on, the lowest first.
+fn put_results(stack: &[u8], from: usize, out: &mut [u8])
+    requires { ⌜ (from ≤ stackLimit) × (slot * from + length (now out) ≤ length (now stack)) ⌝ }
+    ensures { λ r. ⌜ now (out .exit) ≡ part (length (now (out .entry))) (slot * from) (now (stack .entry)) ⌝ }
 {
-    machine::exec(id, entry, i, stack, depth, locals, mem)
-}
-
-// The stack's values, the lowest first.
-fn put_results(stack: &[u8], out: &mut [u8])
-    requires { ⌜ length (now out) ≤ length (now stack) ⌝ }
-    ensures { λ r. ⌜ now (out .exit) ≡ take (length (now (out .entry))) (now (stack .entry)) ⌝ }
-{
+    let first = limits::SLOT * from;
     let mut k: usize = 0;
     while k < out.len() {
-        out[k] = stack[k];
+        out[k] = stack[first + k];
         k += 1;
     }
 }

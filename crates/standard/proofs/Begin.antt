@@ -1,6 +1,7 @@
 -- The configuration from which a run begins is sound.
 use Prim.Native.Nat.{ℕ}
 use mathlib.Core.Path.{_≡_, refl, ap, _∙_}
+use mathlib.Core.Bool.{false}
 use mathlib.Core.List.{List, [], _∷_, _++_, map}
 use native.Mathlib.Omega.{arith}
 use Rattle.limits.specs.Limits.{slot}
@@ -8,12 +9,13 @@ use Rattle.opcode.specs.Kind.{Kind, i32, i64, v128}
 use Rattle.machine.specs.Value.{Value, kindOf, InRange, AllInRange}
 use Rattle.machine.proofs.Laws.Ranges.{zero-bytes}
 use Rattle.rules.specs.Header.{Header, Declares}
+use Rattle.rules.specs.Typing.{opened}
 use Rattle.rules.specs.Strip.{front, Valid}
 use Rattle.rules.proofs.Onward.{declared}
 use Rattle.standard.specs.Standard.{zeroOf, begin}
-use Rattle.standard.specs.Safety.{Given, Fits, Sound}
+use Rattle.standard.specs.Safety.{Given, outermost, Fits, Sound}
 
-zero-kinds : (ks : List Kind) → map kindOf (map zeroOf ks) ≡ ks
+pub zero-kinds : (ks : List Kind) → map kindOf (map zeroOf ks) ≡ ks
 zero-kinds [] = refl
 zero-kinds (i32 ∷ ks) = ap (λ l. i32 ∷ l) (zero-kinds ks)
 zero-kinds (i64 ∷ ks) = ap (λ l. i64 ∷ l) (zero-kinds ks)
@@ -28,15 +30,16 @@ all-kinds : (vs : List Value) (ks : List Kind) → map kindOf (vs ++ map zeroOf 
 all-kinds [] ks = zero-kinds ks
 all-kinds (v ∷ vs) ks = ap (λ l. kindOf v ∷ l) (all-kinds vs ks)
 
-all-range : (vs : List Value) (ks : List Kind) → AllInRange vs → AllInRange (vs ++ map zeroOf ks)
+pub all-range : (vs : List Value) (ks : List Kind) → AllInRange vs → AllInRange (vs ++ map zeroOf ks)
 all-range [] [] r = tt
 all-range [] (k ∷ ks) r = (zero-range k, all-range [] ks tt)
 all-range (v ∷ vs) ks r = (r .0, all-range vs ks (r .1))
 
-pub begin-fits : (h : Header) (vs : List Value) (mem : List ℕ) → Given h vs mem → Fits h [] (begin h vs mem .state)
-begin-fits h vs mem g =
+pub begin-fits : (s : List ℕ) (h : Header) (vs : List Value) (mem : List ℕ) → Given h vs mem → Fits s h (opened false (h .results)) [] (begin h vs mem)
+begin-fits s h vs mem g =
     record {
       stacked = refl;
+      nested = outermost refl refl;
       held = all-kinds vs (h .further) ∙ ap (λ (ks : List Kind). ks ++ h .further) (g .kinds);
       stack-range = tt;
       local-range = all-range vs (h .further) (g .range);
@@ -44,7 +47,8 @@ begin-fits h vs mem g =
     }
 
 pub declared-sound : {s : List ℕ} {h : Header} → Declares s h → (vs : List Value) (mem : List ℕ) → Given h vs mem → Sound s h (begin h vs mem)
-declared-sound {h = h} d vs mem g = record { kinds = []; reached = front d; fits = begin-fits h vs mem g }
+declared-sound {s} {h} d vs mem g =
+    record { frame = opened false (h .results); outer = []; reached = front d; live = (refl, tt); fits = begin-fits s h vs mem g }
 
 pub begin-sound : {s : List ℕ} (v : Valid s) (vs : List Value) (mem : List ℕ) → Given (v .header) vs mem → Sound s (v .header) (begin (v .header) vs mem)
 begin-sound v vs mem g = declared-sound (declared (v .reached)) vs mem g

@@ -1,17 +1,26 @@
--- For those who call: where a run begins, steps that compose, a turn of the machine, never stuck, stuck where a rule is broken.
-pub mod Begin
-pub mod Along
-pub mod Turn
-pub mod Never
-pub mod Stuck
--- What these lean on.
-pub mod Scalars
 pub mod ValueKinds
+pub mod Scalars
 pub mod Fine
 pub mod Typeds
-pub mod Next
-pub mod Steps
 pub mod Operands
 pub mod Untyped
+pub mod Along
+pub mod Steps
+pub mod Closings
+pub mod Nestings
+pub mod Unwinding
+pub mod Labels
+pub mod Tops
+pub mod Branching
+pub mod Turn
+pub mod Begin
+pub mod Never
 pub mod Full
-pub mod Arrives
+pub mod Sticking
+pub mod Stuck
+pub mod Inhabited
+pub mod Straight
+pub mod Examples
+pub mod Over
+pub mod Outcomes
+pub mod One

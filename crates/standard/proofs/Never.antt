@@ -13,7 +13,7 @@ use Rattle.standard.proofs.Turn.{safe-step}
 use Rattle.standard.proofs.Begin.{begin-sound}
 
 safe-onward : {s : List ℕ} (v : Valid s) {m : ℕ} {g : Stage} → Safe s (v .header) m g → Safe s (v .header) m (onward s (v .header) g)
-safe-onward v {m} (safe-going {c} sound long) = safe-step v m c sound long
+safe-onward v {m} (safe-going {c} sound long) = safe-step v c m sound long
 safe-onward v (safe-ended kinds range long) = safe-ended kinds range long
 safe-onward v (safe-trapped past) = safe-trapped past
 

@@ -50,6 +50,9 @@ or-scalar w32 vs f next = or-i32 vs f next
 or-scalar w64 vs f next = or-i64 vs f next
 or-scalar w128 vs f next = halts refl
 
+pub or-number : (vs : List Value) (f : ℕ → List Value → Outcome) → Or (i32 ∷ []) vs (popI32 vs f)
+or-number vs f = or-i32 vs _ (λ a st. all)
+
 pub or-numbers : (vs : List Value) (f : ℕ → ℕ → List Value → Outcome) → Or (i32 ∷ i32 ∷ []) vs (popI32 vs (λ b st. popI32 st (λ a st. f a b st)))
 or-numbers vs f = or-i32 vs _ (λ b st. or-i32 st _ (λ a st. all))
 

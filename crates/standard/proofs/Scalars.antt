@@ -2,14 +2,14 @@
 use Prim.Native.Nat.{ℕ, _<_}
 use mathlib.Core.Path.{_≡_, sym, subst}
 use mathlib.Core.Bool.{Bool, true, false, cond}
-use mathlib.Core.List.{List, [], _∷_}
+use mathlib.Core.Logic.{⊎-elim}
 use lib.Dec.{T, eqb}
 use mir.Syntax.{Width, w8, w16, w32, w64, w128}
 use Rattle.operation.specs.Op.{Op, Load, LoadLane, Store, StoreLane, Const, Shuffle, Splat, ExtractLane, ReplaceLane, Unary, Binary, Bitselect, Test, Shift}
-use Rattle.opcode.specs.Table.{Plain, plain, vector, Row, carried, float, unassigned, vectors, vectorAt, plains, lookUp, plainAt}
-use Rattle.opcode.proofs.Every.{below}
+use Rattle.opcode.specs.Table.{plain, control, vector, Row, carried, float, unassigned, vectors, vectorAt, plainAt, PREFIX}
+use Rattle.opcode.proofs.Every.{below, below-or-past}
 use Rattle.opcode.proofs.Rows.{vector-beyond}
-use Rattle.opcode.proofs.Id.{Way, byte, number, beyond, way}
+use Rattle.opcode.proofs.Versions.{every-plain}
 use Rattle.instr.specs.declared.Instr.{Instr}
 use Rattle.instr.specs.Layout.{rowIn}
 
@@ -39,33 +39,27 @@ scalars (Shift o) = true
 
 abbrev inRow : Row → Bool
 inRow (carried (plain p)) = true
+inRow (carried (control k)) = true
 inRow (carried (vector o)) = scalars o
 inRow float = true
 inRow unassigned = true
 
-looked-up : (b : ℕ) (ps : List (ℕ × Plain)) → T (inRow (lookUp b ps))
-looked-up b [] = tt
-looked-up b ((n, p) ∷ ps) = at (eqb b n) (looked-up b ps)
-  where
-    at : (t : Bool) → T (inRow (lookUp b ps)) → T (inRow (cond t (carried (plain p)) (lookUp b ps)))
-    at true rest = tt
-    at false rest = rest
+in-plains : (ver b : ℕ) → T (inRow (plainAt ver b))
+in-plains = every-plain inRow tt tt
 
-in-plains : (b : ℕ) → T (inRow (plainAt b))
-unfolding plainAt
-in-plains b = looked-up b plains
-
-in-vectors : (n : ℕ) → n < 256 → T (inRow (vectorAt n))
+in-small : (n : ℕ) → n < 256 → T (inRow (vectorAt n))
 unfolding vectorAt vectors
-in-vectors n l = below (λ (k : ℕ). inRow (vectorAt k)) 256 tt n l
+in-small n l = below (λ (k : ℕ). inRow (vectorAt k)) 256 tt n l
 
-every-row : (i : Instr) → T (inRow (rowIn i))
-every-row i = by (way (i .first) (i .number))
+in-vectors : (n : ℕ) → T (inRow (vectorAt n))
+in-vectors n = ⊎-elim (in-small n) (λ l. subst (λ (x : Row). T (inRow x)) (sym (vector-beyond n l)) tt) (below-or-past 256 n)
+
+every-row : (ver : ℕ) (i : Instr) → T (inRow (rowIn ver i))
+every-row ver i = at (eqb (i .first) PREFIX)
   where
-    by : Way (i .first) (i .number) → T (inRow (rowIn i))
-    by (byte d f r) = subst (λ (x : Row). T (inRow x)) (sym r) (in-plains (i .first))
-    by (number f l g r) = subst (λ (x : Row). T (inRow x)) (sym r) (in-vectors (i .number) l)
-    by (beyond f l g r) = subst (λ (x : Row). T (inRow x)) (sym r) (subst (λ (x : Row). T (inRow x)) (sym (vector-beyond (i .number) l)) tt)
+    at : (t : Bool) → T (inRow (cond t (vectorAt (i .number)) (plainAt ver (i .first))))
+    at true = in-vectors (i .number)
+    at false = in-plains ver (i .first)
 
-pub narrow-scalars : (i : Instr) (o : Op) → rowIn i ≡ carried (vector o) → T (scalars o)
-narrow-scalars i o e = subst (λ (x : Row). T (inRow x)) e (every-row i)
+pub narrow-scalars : (ver : ℕ) (i : Instr) (o : Op) → rowIn ver i ≡ carried (vector o) → T (scalars o)
+narrow-scalars ver i o e = subst (λ (x : Row). T (inRow x)) e (every-row ver i)

@@ -1,86 +1,185 @@
--- A strip that keeps the rules: in a sound state the next instruction is read and done, and the machine is not stuck.
-use Prim.Native.Nat.{ℕ, _+_}
-use mathlib.Core.Path.{_≡_, refl, ap, sym, _∙_, subst}
-use mathlib.Core.List.{List, reverse}
+-- A strip that keeps the rules: in a sound state the next instruction is read and done, the machine is not stuck, and what it leaves is sound.
+use Prim.Native.Nat.{ℕ, _+_, _≤_}
+use mathlib.Core.Path.{_≡_, refl, ap, ap₂, sym, _∙_, subst}
+use mathlib.Core.Bool.{Bool, true, false, cond}
+use mathlib.Core.List.{List, [], _∷_, _++_, map, reverse, reverse-append, reverse-reverse, append-assoc}
 use native.Mathlib.Omega.{arith}
-use lib.ListN.{length}
-use Rattle.opcode.specs.Kind.{Kind}
-use Rattle.opcode.specs.Table.{Code}
+use lib.Dec.{eqb}
+use lib.ListN.{length, length-map, length-append, length-reverse}
+use borrow.Author.Tests.{le-ltb, lt-ltb}
+use Rattle.limits.specs.Limits.{stackLimit, nestLimit}
+use Rattle.opcode.specs.Kind.{Kind, i32}
+use Rattle.opcode.specs.BlockType.{blockResults}
+use Rattle.opcode.specs.Table.{End, Code}
 use Rattle.instr.specs.declared.Instr.{Instr}
-use Rattle.instr.specs.Layout.{found}
-use Rattle.instr.specs.Decode.{decodeAt}
-use Rattle.machine.specs.Exec.{State, Outcome, stuck, exec}
-use Rattle.rules.specs.Header.{Header}
-use Rattle.rules.specs.Strip.{Reads, Reaches, past, Valid}
-use Rattle.standard.specs.Standard.{Config, after, step}
-use Rattle.standard.specs.Safety.{Fits, Sound, Safe, safe-going, safe-ended, safe-trapped}
+use Rattle.machine.specs.Value.{Value, I32, I64, V128, kindOf, AllInRange}
+use Rattle.machine.specs.Exec.{State, Outcome, goes, done, stuck, exec}
+use Rattle.rules.specs.Header.{Header, locals}
+use Rattle.rules.specs.Typing.{Frame, opened, holding, branchKinds, allValues, Target, Typed, Types, ordinary, branches, may-branch, opens-block, opens-loop, closes, Ends, ends}
+use Rattle.rules.specs.Strip.{Reads, Within, Reaches, past, Valid}
+use Rattle.rules.proofs.Typings.{end-untyped, control-untyped}
+use Rattle.standard.specs.Standard.{Label, Config, Stage, going, halted, withStack, countUnder, after, enter, branch, branchIf, stepPlain, stepCode, step}
+use Rattle.standard.specs.Safety.{Live, Nested, outermost, inside, Fits, Sound, Safe, safe-going, safe-ended, safe-trapped}
+use Rattle.standard.proofs.ValueKinds.{reverse-kinds, reverse-range, kinds-fit}
 use Rattle.standard.proofs.Fine.{Kept, Fine, on, past as trapped-past}
-use Rattle.standard.proofs.Next.{Next, ends, goes-on, what-next}
-use Rattle.standard.proofs.Steps.{reads-decoded, step-does, types-fine, end-done, result-kinds, result-range}
+use Rattle.standard.proofs.Typeds.{Ranged, typed-fine}
+use Rattle.standard.proofs.Steps.{step-does, does-ordinary, apt}
+use Rattle.standard.proofs.Nestings.{nested-many, nested-under, nested-same, live-has}
+use Rattle.standard.proofs.Unwinding.{Next, last, goes-on, what-next}
+use Rattle.standard.proofs.Tops.{kinds-append, range-append}
+use Rattle.standard.proofs.Branching.{rest-of, fits-with, branch-safe}
 
-pub record Turn (s : List ℕ) (h : Header) (c : Config) : Type 0 where
-  pub size : ℕ
-  pub instr : Instr
-  pub code : Code
-  pub decoded : decodeAt s (c .place) ≡ found size instr
-  pub reads : Reads s (c .place) instr code size
-  pub outcome : Outcome
-  pub does : exec (h .results) code instr (c .state) ≡ outcome
-  pub unstuck : outcome ≡ stuck → ⊥
-  pub steps : step s h c ≡ after c size outcome
+pub ranged : {s : List ℕ} {h : Header} {f : Frame} {fs : List Frame} {c : Config} → Fits s h f fs c → Ranged (c .state)
+ranged t = record { stack = t .stack-range; locals = t .local-range; memory = λ k. record { fits = t .memory-range k } }
 
--- ---- what is done is not stuck
+-- ---- an ordinary instruction
 
-pub fine-unstuck : {σ : State} {κs : List Kind} {o : Outcome} → Fine σ κs o → o ≡ stuck → ⊥
-fine-unstuck (on k) e = let z : _≡_ {A = ℕ} 0 1 = cc in omega arith
-fine-unstuck (trapped-past l) e = let z : _≡_ {A = ℕ} 0 1 = cc in omega arith
+module _ {s : List ℕ} {h : Header} {f : Frame} {fs : List Frame} (c : Config) (fits : Fits s h f fs c) where
+  -- typed by the rules
+  pub typed-runs : {p n : ℕ} {i : Instr} {k : Code} {ins outs : List Kind} (below : List Kind) → Reads (h .version) s p i k n → Typed (locals h) (i .index) k ins outs → f .values ≡ below ++ ins
+      → length (below ++ outs) ≤ stackLimit → Fine (c .state) (reverse (below ++ outs)) (exec (h .results) k i (c .state))
+  typed-runs {i = i} {k} {ins} {outs} below r t e room =
+      let left = reverse-append below outs in
+      subst (λ (ks : List Kind). Fine (c .state) ks (exec (h .results) k i (c .state))) (sym left)
+      (typed-fine (h .results) i (apt (r .stands .typed)) (c .state) (ranged fits) (h .version) (r .does)
+      (subst (λ (ls : List Kind). Typed ls (i .index) k ins outs) (sym (fits .held)) t)
+      (reverse below) (fits .stacked ∙ ap reverse e ∙ reverse-append below ins) (omega (arith, room, ap length left, length-reverse (below ++ outs))))
 
-turned : {s : List ℕ} (h : Header) (c : Config) {n : ℕ} {i : Instr} {k : Code} → Reads s (c .place) i k n → (exec (h .results) k i (c .state) ≡ stuck → ⊥) → Turn s h c
-turned h c {n} {i} {k} r unstuck =
-    record {
-      size = n;
-      instr = i;
-      code = k;
-      decoded = reads-decoded r;
-      reads = r;
-      outcome = exec (h .results) k i (c .state);
-      does = refl;
-      unstuck = unstuck;
-      steps = step-does h c r;
-    }
+  pub kept-fits : {ks : List Kind} {τ : State} (p : ℕ) → Kept (c .state) (reverse ks) τ → Fits s h (holding f ks) fs (record { place = p; state = τ; labels = c .labels })
+  kept-fits {ks} p k =
+      record {
+        stacked = k .stack .kinds;
+        nested = nested-same ks (fits .nested);
+        held = k .locals .kinds ∙ fits .held;
+        stack-range = k .stack .range;
+        local-range = k .locals .range;
+        memory-range = λ j. k .memory j .fits;
+      }
 
-pub turn : {s : List ℕ} (v : Valid s) (c : Config) → Sound s (v .header) c → Turn s (v .header) c
-turn {s} v c sound = by (what-next v (sound .reached))
-  where
-    by : Next s (v .header) (c .place) (sound .kinds) → Turn s (v .header) c
-    by (ends {i} r e) = turned (v .header) c r (λ q. let z : _≡_ {A = ℕ} 0 1 = cc (end-done (sound .fits) e i) in omega arith)
-    by (goes-on r t l) = turned (v .header) c r (fine-unstuck (types-fine (sound .fits) r t l))
+  -- the stack is not full
+  pub goes-after : {ks : List Kind} {τ : State} (n : ℕ) → Within (holding f ks ∷ fs) → Kept (c .state) (reverse ks) τ
+      → after c n (goes τ) ≡ going (record { place = c .place + n; state = τ; labels = c .labels })
+  goes-after {ks} {τ} n w k =
+      ap (λ (t : Bool). cond t halted (going (record { place = c .place + n; state = τ; labels = c .labels })))
+      (le-ltb stackLimit (length (τ .stack) + countUnder (c .labels))
+      (omega (
+        arith,
+        w .values,
+        length-append (allValues fs) ks,
+        nested-under (fits .nested),
+        length-map (τ .stack) kindOf,
+        ap length (k .stack .kinds),
+        length-reverse ks,
+      )))
 
--- ---- and what it leaves is sound
+  pub fine-safe : {ks : List Kind} {o : Outcome} (n : ℕ) → Live (f ∷ fs) → Within (holding f ks ∷ fs) → Reaches s h (c .place + n) (holding f ks ∷ fs) → Fine (c .state) (reverse ks) o
+      → Safe s h (length (c .state .memory)) (after c n o)
+  fine-safe {ks} n live w reached (on {τ} k) =
+      subst (Safe s h (length (c .state .memory))) (sym (goes-after n w k))
+      (safe-going (record { frame = holding f ks; outer = fs; reached = reached; live = live; fits = kept-fits (c .place + n) k }) (k .long))
+  fine-safe n live w reached (trapped-past l) = safe-trapped l
 
--- an instruction that is fine keeps the kinds of the locals
-pub kept-fits : {h : Header} {κs κs′ : List Kind} {σ τ : State} → Fits h κs σ → Kept σ (reverse κs′) τ → Fits h κs′ τ
-kept-fits f k =
-    record {
-      stacked = k .stack .kinds;
-      held = k .locals .kinds ∙ f .held;
-      stack-range = k .stack .range;
-      local-range = k .locals .range;
-      memory-range = λ j. k .memory j .fits;
-    }
+module _ {s : List ℕ} (v : Valid s) (c : Config) where
+  abbrev h : Header
+  h = v .header
 
-fine-safe : {s : List ℕ} {h : Header} {κs κs′ : List Kind} (c : Config) (n : ℕ) {o : Outcome} → Fits h κs (c .state) → Reaches s h (c .place + n) κs′ → Fine (c .state) (reverse κs′) o
-    → Safe s h (length (c .state .memory)) (after c n o)
-fine-safe {κs′ = κs′} c n f reached (on k) = safe-going (record { kinds = κs′; reached = reached; fits = kept-fits f k }) (k .long)
-fine-safe c n f reached (trapped-past l) = safe-trapped l
+  abbrev Good : Stage → Type 0
+  Good g = Safe s h (length (c .state .memory)) g
 
-pub safe-step : {s : List ℕ} (v : Valid s) (m : ℕ) (c : Config) → Sound s (v .header) c → length (c .state .memory) ≡ m → Safe s (v .header) m (step s (v .header) c)
-safe-step {s} v m c sound long = subst (λ (n : ℕ). Safe s (v .header) n (step s (v .header) c)) long (by (what-next v (sound .reached)))
-  where
-    by : Next s (v .header) (c .place) (sound .kinds) → Safe s (v .header) (length (c .state .memory)) (step s (v .header) c)
-    by (ends {i} r e) =
-        subst (Safe s (v .header) (length (c .state .memory))) (sym (step-does (v .header) c r ∙ ap (after c 1) (end-done (sound .fits) e i)))
-        (safe-ended (result-kinds (sound .fits) e) (result-range (sound .fits) e) refl)
-    by (goes-on {n} r t l) =
-        subst (Safe s (v .header) (length (c .state .memory))) (sym (step-does (v .header) c r))
-        (fine-safe c n (sound .fits) (past (sound .reached) r t l) (types-fine (sound .fits) r t l))
+  -- ---- blocks
+
+  entered : (b : Bool) (i : Instr) (n : ℕ) {f : Frame} {fs : List Frame} → Fits s h f fs c → Live (f ∷ fs) → Within (opened b (blockResults (i .block)) ∷ f ∷ fs)
+      → Reaches s h (c .place + n) (opened b (blockResults (i .block)) ∷ f ∷ fs) → Good (enter b i n c)
+  entered b i n {f} {fs} fits live w reached =
+      let l : Label = record { loop = b; results = blockResults (i .block); under = c .state .stack; body = c .place + n } in
+      let next : Config = record { place = c .place + n; state = withStack (c .state) []; labels = l ∷ c .labels } in
+      subst Good
+      (sym (ap (λ (t : Bool). cond t (going next) halted) (lt-ltb (length (c .labels)) nestLimit (omega (arith, w .blocks, nested-many (fits .nested))))))
+      (safe-going (record {
+        frame = opened b (blockResults (i .block));
+        outer = f ∷ fs;
+        reached = reached;
+        live = (refl, live);
+        fits = fits-with (c .place + n) [] (l ∷ c .labels) (rest-of fits) refl tt (inside refl refl (fits .stacked) (fits .stack-range) reached (fits .nested));
+      }) refl)
+
+  left : (n : ℕ) (i : Instr) {f g : Frame} {fs : List Frame} → Fits s h f (g ∷ fs) c → Live (g ∷ fs) → f .values ≡ f .results
+      → Reaches s h (c .place + n) (holding g (g .values ++ f .results) ∷ fs) → Good (stepPlain h c n i End (c .labels))
+  left n i {f} {g} {fs} fits live e reached = by (c .labels) (fits .nested)
+    where
+      by : (ls : List Label) → Nested s h (f ∷ g ∷ fs) ls → Good (stepPlain h c n i End ls)
+      by ls (inside {l = l} {ls = ls′} a b k d q nested) =
+          let kinds : map kindOf (c .state .stack) ≡ reverse (l .results) = fits .stacked ∙ ap reverse (e ∙ sym b) in
+          let next : Config = record { place = c .place + n; state = withStack (c .state) (c .state .stack ++ l .under); labels = ls′ } in
+          subst Good (sym (ap (λ (t : Bool). cond t (going next) halted) (kinds-fit (c .state .stack) (reverse (l .results)) kinds)))
+          (safe-going (record {
+            frame = holding g (g .values ++ f .results);
+            outer = fs;
+            reached = reached;
+            live = live;
+            fits =
+                fits-with (c .place + n) (c .state .stack ++ l .under) ls′ (rest-of fits)
+                (kinds-append (c .state .stack) (l .under) ∙ ap₂ (λ (x y : List Kind). x ++ y) (kinds ∙ ap reverse b) k ∙ sym (reverse-append (g .values) (f .results)))
+                (range-append (c .state .stack) (l .under) (fits .stack-range) d) (nested-same (g .values ++ f .results) nested);
+          }) refl)
+
+  -- ---- br_if
+
+  module _ {f g : Frame} {fs : List Frame} (fits : Fits s h f fs c) (live : Live (f ∷ fs)) (x n : ℕ) (below : List Kind) (target : Target (f ∷ fs) x g)
+      (has : f .values ≡ below ++ (branchKinds g ++ i32 ∷ [])) (reached : Reaches s h (c .place + n) (holding f (below ++ branchKinds g) ∷ fs)) where
+    on-top : reverse (f .values) ≡ i32 ∷ reverse (below ++ branchKinds g)
+    on-top = ap reverse (has ∙ sym (append-assoc below (branchKinds g) (i32 ∷ []))) ∙ reverse-append (below ++ branchKinds g) (i32 ∷ [])
+
+    under : (k : Kind) (ks : List Kind) → k ∷ ks ≡ reverse (f .values) → (k ≡ i32) × (ks ≡ reverse (below ++ branchKinds g))
+    under k ks e = let all : k ∷ ks ≡ i32 ∷ reverse (below ++ branchKinds g) = e ∙ on-top in (cc (all), cc (all))
+
+    pub decided : (vs : List Value) → map kindOf vs ≡ reverse (f .values) → AllInRange vs → Good (branchIf s h c n x vs)
+    decided [] e r = absurd (let z : _≡_ {A = ℕ} 0 1 = cc (e, on-top) in omega arith)
+    decided (I32 a ∷ st) e r = by (eqb a 0)
+      where
+        by : (t : Bool) → Good (cond t (going (record { place = c .place + n; state = withStack (c .state) st; labels = c .labels })) (branch s h (withStack (c .state) st) x (c .labels)))
+        by true =
+            safe-going (record {
+              frame = holding f (below ++ branchKinds g);
+              outer = fs;
+              reached = reached;
+              live = live;
+              fits = fits-with (c .place + n) st (c .labels) (rest-of fits) (under i32 (map kindOf st) e .1) (r .1) (nested-same (below ++ branchKinds g) (fits .nested));
+            }) refl
+        by false = branch-safe v (withStack (c .state) st) (record { held = fits .held; local-range = fits .local-range; memory-range = fits .memory-range }) (r .1) below target (fits .nested) live (under i32 (map kindOf st) e .1)
+    decided (I64 a ∷ st) e r = absurd (let same = under _ (map kindOf st) e .0 in let z : _≡_ {A = ℕ} 0 1 = cc (same) in omega arith)
+    decided (V128 a ∷ st) e r = absurd (let same = under _ (map kindOf st) e .0 in let z : _≡_ {A = ℕ} 0 1 = cc (same) in omega arith)
+
+  -- ---- each instruction
+
+  typed-safe : {f : Frame} {fs fs′ : List Frame} {n : ℕ} {i : Instr} {k : Code} → Fits s h f fs c → Live (f ∷ fs) → Reaches s h (c .place) (f ∷ fs) → Reads (h .version) s (c .place) i k n
+      → Types (locals h) i k (f ∷ fs) fs′ → Within fs′ → Good (stepCode s h c n i k)
+  typed-safe {fs = fs} {n = n} {i} {k} fits live reached r (ordinary {outs = outs} {below = below} {f = f} t x) w =
+      subst Good (sym (does-ordinary s h c n i k (end-untyped t) (λ y. control-untyped t)))
+      (fine-safe c fits n live w (past reached r (ordinary t x) w)
+      (typed-runs c fits below r t (live-has (live .0) x) (omega (arith, w .values, length-append (allValues fs) (below ++ outs)))))
+  typed-safe {fs = fs} fits live reached r (branches {below = below} {f = f} {g = g} l x) w =
+      branch-safe v (c .state) (rest-of fits) (fits .stack-range) below l (fits .nested) live (fits .stacked ∙ ap reverse (live-has (live .0) x))
+  typed-safe {fs = fs} {n = n} {i} fits live reached r (may-branch {below = below} {f = f} {g = g} l x) w =
+      decided fits live (i .index) n below l (live-has (live .0) x) (past reached r (may-branch l x) w) (c .state .stack) (fits .stacked) (fits .stack-range)
+  typed-safe {n = n} {i} fits live reached r opens-block w = entered false i n fits live w (past reached r opens-block w)
+  typed-safe {n = n} {i} fits live reached r opens-loop w = entered true i n fits live w (past reached r opens-loop w)
+  typed-safe {n = n} {i} fits live reached r (closes (ends x)) w = left n i fits (live .1) (live-has (live .0) x) (past reached r (closes (ends x)) w)
+
+  -- the strip's `end`
+  ended-safe : (n : ℕ) (i : Instr) {f : Frame} → Fits s h f [] c → Live (f ∷ []) → Ends (f ∷ []) → Good (stepPlain h c n i End (c .labels))
+  ended-safe n i {f} fits live (ends x) = by (c .labels) (fits .nested)
+    where
+      by : (ls : List Label) → Nested s h (f ∷ []) ls → Good (stepPlain h c n i End ls)
+      by ls (outermost a b) =
+          let kinds : map kindOf (c .state .stack) ≡ reverse (h .results) = fits .stacked ∙ ap reverse (live-has (live .0) x ∙ b) in
+          subst Good (sym (ap (λ (t : Bool). after c n (cond t (done (reverse (c .state .stack))) stuck)) (kinds-fit (c .state .stack) (reverse (h .results)) kinds)))
+          (safe-ended (reverse-kinds (c .state .stack) ∙ ap reverse kinds ∙ reverse-reverse (h .results)) (reverse-range (c .state .stack) (fits .stack-range)) refl)
+
+  next-safe : {f : Frame} {fs : List Frame} → Fits s h f fs c → Live (f ∷ fs) → Reaches s h (c .place) (f ∷ fs) → Next s h (c .place) (f ∷ fs) → Good (step s h c)
+  next-safe fits live reached (last {i = i} r e) = subst Good (sym (step-does h c r)) (ended-safe 1 i fits live e)
+  next-safe fits live reached (goes-on r t w) = subst Good (sym (step-does h c r)) (typed-safe fits live reached r t w)
+
+  pub safe-step : (m : ℕ) → Sound s h c → length (c .state .memory) ≡ m → Safe s h m (step s h c)
+  safe-step m sound long =
+      subst (λ (n : ℕ). Safe s h n (step s h c)) long (next-safe (sound .fits) (sound .live) (sound .reached) (what-next v (sound .reached)))

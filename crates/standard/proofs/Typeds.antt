@@ -4,7 +4,8 @@ use mathlib.Core.Path.{_≡_, refl, ap, ap₂, sym, _∙_, subst}
 use mathlib.Core.List.{List, [], _∷_, _++_, map, reverse}
 use mathlib.Core.Option.{Option, none, some}
 use native.Mathlib.Omega.{arith}
-use lib.Dec.{T}
+use mathlib.Core.Bool.{Bool, true, false, cond}
+use lib.Dec.{T, eqb, ltb}
 use lib.IntN.{pos, _+ℤ_, _-ℤ_}
 use lib.ListN.{length, getD, take, set, length-map}
 use lib.Seq.{map-set-same, length-take-le}
@@ -17,7 +18,7 @@ use Rattle.lane.proofs.Laws.Number.{Bytes, bytes-take}
 use Rattle.lane.proofs.Laws.Vectors.{test-lt, extracted-lt, sixteen-unary, sixteen-binary, sixteen-bitselect, sixteen-shift, sixteen-splat, sixteen-replaced, sixteen-shuffled, sixteen-loaded, sixteen-laneIn, sixteen-laneOut}
 use Rattle.limits.specs.Limits.{stackLimit}
 use Rattle.opcode.specs.Kind.{Kind, i32, i64, v128}
-use Rattle.opcode.specs.Table.{Plain, End, Drop, LocalGet, LocalSet, LocalTee, I32Const, I64Const, I32Add, I32Sub, Code, plain, vector, carried}
+use Rattle.opcode.specs.Table.{Plain, End, Drop, LocalGet, LocalSet, LocalTee, I32Const, I64Const, I32Add, I32Sub, I32Eqz, I32LtU, Code, plain, control, vector, carried}
 use Rattle.opcode.specs.Effect.{Signature, _⇒_, scalar, signature, effect}
 use Rattle.opcode.specs.Immediate.{moved}
 use Rattle.opcode.proofs.Classes.{moved-small}
@@ -37,6 +38,10 @@ use Rattle.standard.proofs.Fine.{Under, Fine, pop-i32, pop-v128, pop-an
 difference-lt : (a b : ℕ) → isub w32 a b < 2 ^ 32
 unfolding isub
 difference-lt a b = wrap-lt w32 (pos a -ℤ pos b)
+
+flag-lt : (t : Bool) → cond t 1 0 < 2 ^ 32
+flag-lt true = omega arith
+flag-lt false = omega arith
 
 -- the bytes that a lane takes in memory
 lane-long : (w : Width) (v : List ℕ) (i : ℕ) → length (take (moved (StoreLane w)) (laneOut w v i)) ≡ moved (StoreLane w)
@@ -72,6 +77,9 @@ module _ (rs : List Kind) (i : Instr) (apt : Apt i) (σ : State) (ok : Ranged σ
   two-numbers : (f : ℕ → ℕ → ℕ) → ((a b : ℕ) → f a b < 2 ^ 32) → From (i32 ∷ i32 ∷ []) (i32 ∷ []) (popI32 (σ .stack) (λ b st. popI32 st (λ a st. push σ st (I32 (f a b)))))
   two-numbers f small rest e room =
       pop-i32 (σ .stack) _ (all-stack e) (λ b st l u. pop-i32 st _ u (λ a st l u. pushes (I32 (f a b)) st (small a b) u room))
+
+  one-number : (f : ℕ → ℕ) → ((a : ℕ) → f a < 2 ^ 32) → From (i32 ∷ []) (i32 ∷ []) (popI32 (σ .stack) (λ a st. push σ st (I32 (f a))))
+  one-number f small rest e room = pop-i32 (σ .stack) _ (all-stack e) (λ a st l u. pushes (I32 (f a)) st (small a) u room)
 
   -- ---- vectors
 
@@ -122,6 +130,8 @@ module _ (rs : List Kind) (i : Instr) (apt : Apt i) (σ : State) (ok : Ranged σ
   signed-plain I64Const = constant (I64 (i .long)) (apt .long)
   signed-plain I32Add = two-numbers (iadd w32) (λ a b. wrap-lt w32 (pos a +ℤ pos b))
   signed-plain I32Sub = two-numbers (isub w32) difference-lt
+  signed-plain I32Eqz = one-number (λ a. cond (eqb a 0) 1 0) (λ a. flag-lt (eqb a 0))
+  signed-plain I32LtU = two-numbers (λ a b. cond (ltb a b) 1 0) (λ a b. flag-lt (ltb a b))
 
   signed-vector : (o : Op) → T (scalars o) → By (some (signature o)) (execVector o i σ)
   signed-vector (Load l) t = λ rest e room.
@@ -149,9 +159,10 @@ module _ (rs : List Kind) (i : Instr) (apt : Apt i) (σ : State) (ok : Ranged σ
   signed-vector (Shift o) t = λ rest e room.
       pop-i32 (σ .stack) _ (all-stack e) (λ n st l u. pop-v128 st _ u (λ a st x u. pushes (V128 (shift o a n)) st (sixteen-shift o a n) u room))
 
-  signed : (c : Code) → rowIn i ≡ carried c → By (effect c) (exec rs c i σ)
-  signed (plain p) row = signed-plain p
-  signed (vector o) row = signed-vector o (narrow-scalars i o row)
+  signed : (ver : ℕ) (c : Code) → rowIn ver i ≡ carried c → By (effect c) (exec rs c i σ)
+  signed ver (plain p) row = signed-plain p
+  signed ver (control k) row = tt
+  signed ver (vector o) row = signed-vector o (narrow-scalars ver i o row)
 
   -- ---- by the kind of a local
 
@@ -165,19 +176,19 @@ module _ (rs : List Kind) (i : Instr) (apt : Apt i) (σ : State) (ok : Ranged σ
   sets : (v : Value) → kindOf v ≡ kindOf named-value → InRange v → Under (map kindOf (σ .locals)) (set (σ .locals) (i .index) v)
   sets v e g = record { kinds = map-set-same kindOf (σ .locals) (i .index) v (I32 0) e; range = range-set (σ .locals) (i .index) v (ok .locals) g }
 
-  pub typed-fine : {c : Code} {ins outs : List Kind} → rowIn i ≡ carried c → Typed (map kindOf (σ .locals)) (i .index) c ins outs → From ins outs (exec rs c i σ)
-  typed-fine {c} row (by-signature p) = subst (λ (s : Option Signature). By s (exec rs c i σ)) p (signed c row)
-  typed-fine row dropped = λ rest e room.
+  pub typed-fine : (ver : ℕ) {c : Code} {ins outs : List Kind} → rowIn ver i ≡ carried c → Typed (map kindOf (σ .locals)) (i .index) c ins outs → From ins outs (exec rs c i σ)
+  typed-fine ver {c} row (by-signature p) = subst (λ (s : Option Signature). By s (exec rs c i σ)) p (signed ver c row)
+  typed-fine ver row dropped = λ rest e room.
       pop-any (σ .stack) _ (all-stack e) (λ v st k g u. goes-on st (σ .locals) (σ .memory) room u all-locals (ok .memory) refl)
-  typed-fine row (got {k} l) = λ rest e room.
+  typed-fine ver row (got {k} l) = λ rest e room.
       named (i .index) _ (inside l)
       (subst (λ (j : Kind). Fine σ (j ∷ rest) (push σ (σ .stack) named-value)) (local-kind (σ .locals) l)
       (pushes named-value (σ .stack) (range-at (σ .locals) (i .index) (ok .locals) (inside l)) (all-stack e) room))
-  typed-fine row (was-set {k} l) = λ rest e room.
+  typed-fine ver row (was-set {k} l) = λ rest e room.
       pop-any (σ .stack) _ (all-stack e) (λ v st f g u.
       let same = f ∙ sym (local-kind (σ .locals) l) in
       named (i .index) _ (inside l) (same-kind v named-value _ same (goes-on st _ (σ .memory) room u (sets v same g) (ok .memory) refl)))
-  typed-fine row (teed {k} l) = λ rest e room.
+  typed-fine ver row (teed {k} l) = λ rest e room.
       pop-any (σ .stack) _ (all-stack e) (λ v st f g u.
       let same = f ∙ sym (local-kind (σ .locals) l) in
       named (i .index) _ (inside l) (same-kind v named-value _ same

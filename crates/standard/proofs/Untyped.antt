@@ -9,15 +9,15 @@ use lib.Dec.{eqb, ltb}
 use lib.ListN.{length, getD}
 use borrow.Author.Tests.{ltb-true, eqb-true}
 use Rattle.opcode.specs.Kind.{Kind, i32, i64, kindByte}
-use Rattle.opcode.specs.Table.{End, Drop, LocalGet, LocalSet, LocalTee, I32Const, I64Const, I32Add, I32Sub, Code, plain, vector}
+use Rattle.opcode.specs.Table.{End, Drop, LocalGet, LocalSet, LocalTee, I32Const, I64Const, I32Add, I32Sub, I32Eqz, I32LtU, Code, plain, control, vector}
 use Rattle.opcode.specs.Effect.{Signature, _⇒_, takes, leaves, signature, effect}
 use Rattle.opcode.proofs.Effects.{kind-once}
 use Rattle.instr.specs.declared.Instr.{Instr}
 use Rattle.machine.specs.Value.{Value, I32, kindOf}
 use Rattle.machine.specs.Exec.{State, Outcome, done, stuck, popAny, local, alike, ofKinds, exec}
-use Rattle.rules.specs.Typing.{Local, Typed, by-signature, dropped, got, set, teed, Types, Names, get-names, set-names, tee-names}
+use Rattle.rules.specs.Typing.{Local, Typed, by-signature, dropped, got, set, teed, Names, get-names, set-names, tee-names}
 use Rattle.standard.proofs.ValueKinds.{kind-at, fit-kinds}
-use Rattle.standard.proofs.Operands.{Or, has, halts, all, or-numbers, or-vector}
+use Rattle.standard.proofs.Operands.{Or, has, halts, all, or-number, or-numbers, or-vector}
 
 signed-by : (s : Signature) → s ≡ takes s ⇒ leaves s
 signed-by (ks ⇒ ls) = refl
@@ -61,23 +61,19 @@ module _ (rs : List Kind) (i : Instr) (σ : State) (ls : List Kind) (held : map 
 
   -- ---- 13: an operand is missing or of another kind
 
-  abbrev Untyped : Code → Type 0
-  Untyped c = (κs′ : List Kind) → Types ls (i .index) c κs κs′ → ⊥
+  abbrev pub Untyped : Code → Type 0
+  Untyped c = (below ins outs : List Kind) → Typed ls (i .index) c ins outs → κs ≡ below ++ ins → ⊥
 
-  -- with these kinds on top it is typed
-  types : {c : Code} (ins outs rest : List Kind) → Typed ls (i .index) c ins outs → map kindOf (σ .stack) ≡ reverse ins ++ rest → Types ls (i .index) c κs (reverse rest ++ outs)
-  types ins outs rest t e =
-      record {
-        below = reverse rest;
-        ins = ins;
-        outs = outs;
-        typed = t;
-        had = sym (reverse-reverse κs) ∙ ap reverse (sym stacked ∙ e) ∙ reverse-append (reverse ins) rest ∙ ap (λ (x : List Kind). reverse rest ++ x) (reverse-reverse ins);
-        has = refl;
-      }
+  -- with these kinds on top they are there by the rules
+  had : (ins rest : List Kind) → map kindOf (σ .stack) ≡ reverse ins ++ rest → κs ≡ reverse rest ++ ins
+  had ins rest e =
+      sym (reverse-reverse κs) ∙ ap reverse (sym stacked ∙ e) ∙ reverse-append (reverse ins) rest ∙ ap (λ (x : List Kind). reverse rest ++ x) (reverse-reverse ins)
+
+  no-types : {c : Code} (ins outs rest : List Kind) → Untyped c → Typed ls (i .index) c ins outs → map kindOf (σ .stack) ≡ reverse ins ++ rest → ⊥
+  no-types ins outs rest never t e = never (reverse rest) ins outs t (had ins rest e)
 
   or-stuck : {c : Code} {o : Outcome} (ins outs : List Kind) → effect c ≡ some (ins ⇒ outs) → Untyped c → Or (reverse ins) (σ .stack) o → o ≡ stuck
-  or-stuck ins outs e never (has rest f) = absurd (never _ (types ins outs rest (by-signature e) f))
+  or-stuck ins outs e never (has rest f) = absurd (no-types ins outs rest never (by-signature e) f)
   or-stuck ins outs e never (halts f) = f
 
   -- the top value is of the local's kind
@@ -87,19 +83,22 @@ module _ (rs : List Kind) (i : Instr) (σ : State) (ls : List Kind) (held : map 
   pub untyped-stuck : (c : Code) → (c ≡ plain End → ⊥) → (Names c → (k : Kind) × Local ls (i .index) k) → Untyped c → exec rs c i σ ≡ stuck
   untyped-stuck (plain End) other declared never = absurd (other refl)
   untyped-stuck (plain Drop) other declared never =
-      any-stuck (σ .stack) _ (λ v st e. absurd (never _ (types (kindOf v ∷ []) [] (map kindOf st) dropped (ap (map kindOf) e))))
+      any-stuck (σ .stack) _ (λ v st e. absurd (no-types (kindOf v ∷ []) [] (map kindOf st) never dropped (ap (map kindOf) e)))
   untyped-stuck (plain LocalGet) other declared never =
-      let l = declared get-names in absurd (never _ (types [] (l .0 ∷ []) (map kindOf (σ .stack)) (got (l .1)) refl))
+      let l = declared get-names in absurd (no-types [] (l .0 ∷ []) (map kindOf (σ .stack)) never (got (l .1)) refl)
   untyped-stuck (plain LocalSet) other declared never =
       any-stuck (σ .stack) _ (λ v st e. local-stuck σ (i .index) _ (λ l. alike-stuck v named-value _ (λ same.
-      never _ (types (kindOf named-value ∷ []) [] (map kindOf st) (set (kind-of l)) (top-kind v st e same)))))
+      no-types (kindOf named-value ∷ []) [] (map kindOf st) never (set (kind-of l)) (top-kind v st e same))))
   untyped-stuck (plain LocalTee) other declared never =
       any-stuck (σ .stack) _ (λ v st e. local-stuck σ (i .index) _ (λ l. alike-stuck v named-value _ (λ same.
-      never _ (types (kindOf named-value ∷ []) (kindOf named-value ∷ []) (map kindOf st) (teed (kind-of l)) (top-kind v st e same)))))
+      no-types (kindOf named-value ∷ []) (kindOf named-value ∷ []) (map kindOf st) never (teed (kind-of l)) (top-kind v st e same))))
   untyped-stuck (plain I32Const) other declared never = or-stuck [] (i32 ∷ []) refl never all
   untyped-stuck (plain I64Const) other declared never = or-stuck [] (i64 ∷ []) refl never all
   untyped-stuck (plain I32Add) other declared never = or-stuck (i32 ∷ i32 ∷ []) (i32 ∷ []) refl never (or-numbers (σ .stack) _)
   untyped-stuck (plain I32Sub) other declared never = or-stuck (i32 ∷ i32 ∷ []) (i32 ∷ []) refl never (or-numbers (σ .stack) _)
+  untyped-stuck (plain I32Eqz) other declared never = or-stuck (i32 ∷ []) (i32 ∷ []) refl never (or-number (σ .stack) _)
+  untyped-stuck (plain I32LtU) other declared never = or-stuck (i32 ∷ i32 ∷ []) (i32 ∷ []) refl never (or-numbers (σ .stack) _)
+  untyped-stuck (control k) other declared never = refl
   untyped-stuck (vector o) other declared never = or-stuck (takes (signature o)) (leaves (signature o)) (ap some (signed-by (signature o))) never (or-vector i σ o)
 
   -- ---- 15: the stack is not the results

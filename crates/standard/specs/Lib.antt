@@ -1,2 +1,4 @@
+pub mod Closing
 pub mod Standard
 pub mod Safety
+pub mod Inner

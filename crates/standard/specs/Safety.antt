@@ -1,28 +1,45 @@
--- What demand 3 says of the standard's machine: a strip that keeps the rules never gets it stuck, and one that breaks 12 to 15 gets it stuck there.
+-- What demand 3 says of the standard's machine: a strip that keeps the rules never gets it stuck, and one that breaks 12 to 15, 17 or 18 gets it stuck there.
 use Prim.Native.Nat.{ℕ, _+_, _^_, _<_}
 use mathlib.Core.Path.{_≡_}
-use mathlib.Core.List.{List, reverse, map}
+use mathlib.Core.Bool.{false}
+use mathlib.Core.List.{List, [], _∷_, reverse, map}
 use lib.ListN.{length, getD}
-use Rattle.opcode.specs.Kind.{Kind}
-use Rattle.machine.specs.Value.{Value, kindOf, AllInRange}
-use Rattle.machine.specs.Exec.{State}
+use Rattle.opcode.specs.Table.{BrIf, control}
+use Rattle.instr.specs.declared.Instr.{Instr}
+use Rattle.machine.specs.Value.{Value, I32, kindOf, AllInRange}
 use Rattle.rules.specs.Header.{Header, locals}
-use Rattle.rules.specs.Strip.{Reaches}
-use Rattle.standard.specs.Standard.{Config, Stage, going, ended, trapped, halted, step, runs}
+use Rattle.rules.specs.Typing.{Frame, opened}
+use Rattle.rules.specs.Strip.{Reads, Reaches}
+use Rattle.standard.specs.Standard.{Label, Config, Stage, going, ended, trapped, halted, step, runs}
 
--- kinds on the stack, the last on top, kinds of the locals, and all values in range
-pub record Fits (h : Header) (kinds : List Kind) (σ : State) : Type 0 where
-  pub stacked : map kindOf (σ .stack) ≡ reverse kinds
-  pub held : map kindOf (σ .locals) ≡ locals h
-  pub stack-range : AllInRange (σ .stack)
-  pub local-range : AllInRange (σ .locals)
-  pub memory-range : (k : ℕ) → getD (σ .memory) k 0 < 2 ^ 8
+-- no code here is dead
+abbrev pub Live : List Frame → Type 0
+Live [] = Unit {0}
+Live (f ∷ fs) = (f .dead ≡ false) × Live fs
+
+-- each label is that of a block, and under it stand the values of the block around it; its body is where the block begins by the rules
+pub data Nested (s : List ℕ) (h : Header) : List Frame → List Label → Type 0 where
+  outermost : {f : Frame} → f .loop ≡ false → f .results ≡ h .results → Nested s h (f ∷ []) []
+  inside : {f g : Frame} {fs : List Frame} {l : Label} {ls : List Label} → l .loop ≡ f .loop → l .results ≡ f .results
+      → map kindOf (l .under) ≡ reverse (g .values) → AllInRange (l .under) → Reaches s h (l .body) (opened (f .loop) (f .results) ∷ g ∷ fs)
+      → Nested s h (g ∷ fs) ls → Nested s h (f ∷ g ∷ fs) (l ∷ ls)
+
+-- kinds on the stack, the last on top, labels, kinds of the locals, and all values in range
+pub record Fits (s : List ℕ) (h : Header) (f : Frame) (fs : List Frame) (c : Config) : Type 0 where
+  pub stacked : map kindOf (c .state .stack) ≡ reverse (f .values)
+  pub nested : Nested s h (f ∷ fs) (c .labels)
+  pub held : map kindOf (c .state .locals) ≡ locals h
+  pub stack-range : AllInRange (c .state .stack)
+  pub local-range : AllInRange (c .state .locals)
+  pub memory-range : (k : ℕ) → getD (c .state .memory) k 0 < 2 ^ 8
 
 -- a state that the strip reaches by its kinds
 pub record Sound (s : List ℕ) (h : Header) (c : Config) : Type 0 where
-  pub kinds : List Kind
-  pub reached : Reaches s h (c .place) kinds
-  pub fits : Fits h kinds (c .state)
+  pub frame : Frame
+  pub outer : List Frame
+  pub reached : Reaches s h (c .place) (frame ∷ outer)
+  pub live : Live (frame ∷ outer)
+  pub fits : Fits s h frame outer c
 
 -- a run may begin with these: arguments of the parameters' kinds and in range, and a memory of bytes
 pub record Given (h : Header) (vs : List Value) (m : List ℕ) : Type 0 where
@@ -36,7 +53,12 @@ pub data Safe (s : List ℕ) (h : Header) (m : ℕ) : Stage → Type 0 where
   safe-ended : {vs : List Value} {mem : List ℕ} → map kindOf vs ≡ h .results → AllInRange vs → length mem ≡ m → Safe s h m (ended vs mem)
   safe-trapped : {a n : ℕ} → m < a + n → Safe s h m (trapped a n)
 
--- from b it traps before the place p, or is stuck at it
+-- stuck where it is; or at a br_if over 0, which by Core pops it and asks no more
+pub data StuckHere (s : List ℕ) (h : Header) (c : Config) : Type 0 where
+  stuck-here : step s h c ≡ halted → StuckHere s h c
+  not-taken : {i : Instr} {n : ℕ} (st : List Value) → Reads (h .version) s (c .place) i (control BrIf) n → c .state .stack ≡ I32 0 ∷ st → StuckHere s h c
+
+-- from b it traps before the place p, or is stuck at it: a strip without blocks
 pub data StuckAt (s : List ℕ) (h : Header) (b : Config) (p : ℕ) : Type 0 where
   traps-before : (k a n : ℕ) (c : Config) → runs s h k b ≡ going c → c .place < p → step s h c ≡ trapped a n → length (c .state .memory) < a + n → StuckAt s h b p
   stuck-there : (k : ℕ) (c : Config) → runs s h k b ≡ going c → c .place ≡ p → step s h c ≡ halted → StuckAt s h b p

@@ -24,7 +24,7 @@ fn main() {
         os::fail(path);
         return;
     }
-    let mut text = [0u8; 65536];
+    let mut text = [0u8; 131072];
     let n = io::read_full(fd, &mut text);
     libc::close(fd);
     cases(&text[..n]);

@@ -1,7 +1,7 @@
--- The header, then the instructions.
-use borrow.Author.Needs.{needs}
+-- The header, and then the instructions.
 use native.Mathlib.Omega.{arith}
-use Rattle.checker.proofs.Goings.{counts-inside, headed-opens, headed-checked}
+use Rattle.checker.proofs.Counted.{counts-inside, headed-opens, headed-checked}
+use borrow.Author.Needs.{needs}
 use Rattle.checker.proofs.check.Statement.{statement}
 use Rattle.checker.proofs.check.Tie as tie
 
@@ -32,14 +32,20 @@ shared-slice-read-results c = omega (arith, counts-inside (headed-opens (c .befo
 cast-results : tie.Need-cast-results
 cast-results c = omega (arith, c .shared-slice-known4 .given 7)
 
+shared-slice-read-version : tie.Need-shared-slice-read-version
+shared-slice-read-version c = omega (arith, counts-inside (headed-opens (c .before .before .before .before .before .before .header .ensures) (c .before .before .before .before .if1 .left) .counts))
+
+cast-version : tie.Need-cast-version
+cast-version c = omega (arith, c .shared-slice-known5 .given 3)
+
 add-body : tie.Need-add-body
-add-body c = omega (arith, c .shared-slice-known4 .given 5, c .shared-slice-known4 .given 6)
+add-body c = omega (arith, c .shared-slice-known5 .given 5, c .shared-slice-known5 .given 6)
 
 add-body-2 : tie.Need-add-body-2
-add-body-2 c = omega (arith, c .shared-slice-known4 .given 5, c .shared-slice-known4 .given 6, c .shared-slice-known4 .given 7)
+add-body-2 c = omega (arith, c .shared-slice-known5 .given 5, c .shared-slice-known5 .given 6, c .shared-slice-known5 .given 7)
 
 body-requires : tie.Need-body-requires
-body-requires c κs = headed-opens (c .before .before .before .before .before .header .ensures) (c .before .before .before .if1 .left)
+body-requires c κs = headed-opens (c .before .before .before .before .before .before .header .ensures) (c .before .before .before .before .if1 .left)
 
 returns-2 : tie.Need-returns-2
 returns-2 c = search needs
@@ -57,6 +63,8 @@ check-spec =
     add-locals
     shared-slice-read-results
     cast-results
+    shared-slice-read-version
+    cast-version
     add-body
     add-body-2
     body-requires

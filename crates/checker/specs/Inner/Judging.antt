@@ -1,38 +1,80 @@
--- Inner: what one instruction takes and leaves, in a number, and that put to the kinds on the stack.
-use Prim.Native.Nat.{ℕ, _≤_, _<_}
+-- Inner: one instruction inside these frames, a constructor for each line of the card that may be its answer.
+use Prim.Native.Nat.{ℕ, _+_, _≤_, _<_, _^_}
 use mathlib.Core.Path.{_≡_}
+use mathlib.Core.Bool.{Bool, true, cond}
 use mathlib.Core.List.{List, _++_}
 use mathlib.Core.Option.{some}
-use lib.ListN.{length}
-use Rattle.card.specs.Card.{DONE, OPERAND, DEEP}
-use Rattle.limits.specs.Limits.{stackLimit}
+use lib.ListN.{length, drop}
+use Rattle.card.specs.Card.{DONE, LOCAL, OPERAND, DEEP, RESULT, NEST, LABEL}
+use Rattle.limits.specs.Limits.{stackLimit, nestLimit, resultLimit}
 use Rattle.opcode.specs.Kind.{Kind}
-use Rattle.opcode.specs.Table.{Code}
+use Rattle.opcode.specs.BlockType.{isBlockType}
+use Rattle.opcode.specs.Table.{End, Control, Block, Loop, Br, BrIf, Code, plain, control, carried}
 use Rattle.opcode.specs.Effect.{_⇒_}
 use Rattle.opcode.specs.Number.{packed}
-use Rattle.rules.specs.Typing.{Local, Typed, Names}
-use Rattle.checker.specs.Walk.{Becomes}
+use Rattle.opcode.specs.Entry.{entryOf, groupIn}
+use Rattle.instr.specs.declared.Instr.{Instr}
+use Rattle.rules.specs.Typing.{Frame, allValues, Target, Local, Typed, Has, Types, Names, Opens, Branches, Ends}
+use Rattle.checker.specs.Walk.{Holds, Framed}
+use Rattle.checker.specs.Inner.Stack.{Small}
+use Rattle.checker.specs.Inner.Blocks.{topFirst}
 
--- how many values lie under the operands; more than the stack holds where they are not there
-pub data Under (κs ins : List Kind) : ℕ → Type 0 where
-  under : (below : List Kind) → κs ≡ below ++ ins → Under κs ins (length below)
-  missing : {n : ℕ} → stackLimit < n → ((below : List Kind) → κs ≡ below ++ ins → ⊥) → Under κs ins n
+abbrev pub opener : Bool → Control
+opener loop = cond loop Loop Block
 
--- a signature whose number holds each kind in a byte of its own
-pub record Small (ins outs : List Kind) : Type 0 where
-  pub few : length ins ≤ 3
-  pub one : length outs ≤ 1
-  pub known : 0 < packed (some (ins ⇒ outs))
+abbrev pub brancher : Bool → Control
+brancher maybe = cond maybe BrIf Br
 
--- operands taken and a result left: a code, the stack's depth then, and the bytes
-pub data Applies (κs ins outs : List Kind) (kinds : List ℕ) : ℕ → ℕ → List ℕ → Type 0 where
-  lacks : ((below : List Kind) → κs ≡ below ++ ins → ⊥) → Applies κs ins outs kinds OPERAND 0 kinds
-  over : (below : List Kind) → κs ≡ below ++ ins → stackLimit < length (below ++ outs) → Applies κs ins outs kinds DEEP 0 kinds
-  fits : {d : ℕ} {kinds′ : List ℕ} (below : List Kind) → κs ≡ below ++ ins → length (below ++ outs) ≤ stackLimit → Becomes kinds kinds′ d (below ++ outs)
-      → Applies κs ins outs kinds DONE d kinds′
+-- neither `end` nor one that goes by blocks
+pub record Ordinary (c : Code) : Type 0 where
+  pub not-end : c ≡ plain End → ⊥
+  pub not-control : (k : Control) → c ≡ control k → ⊥
 
 -- the number of what the instruction takes and leaves here; 0 where its local is not declared
-pub data Effected (ls : List Kind) (n : ℕ) (c : Code) (κs : List Kind) : ℕ → Type 0 where
-  undeclared : Names c → ((k : Kind) → Local ls n k → ⊥) → Effected ls n c κs 0
+pub data Effected (ls : List Kind) (n : ℕ) (c : Code) (f : Frame) : ℕ → Type 0 where
+  undeclared : Names c → ((k : Kind) → Local ls n k → ⊥) → Effected ls n c f 0
   typed-by : {ins outs : List Kind} → Typed ls n c ins outs → Small ins outs
-      → ((ins′ outs′ below : List Kind) → Typed ls n c ins′ outs′ → κs ≡ below ++ ins′ → ins′ ≡ ins) → Effected ls n c κs (packed (some (ins ⇒ outs)))
+      → ((ins′ outs′ below : List Kind) → Typed ls n c ins′ outs′ → Has f below ins′ → Has f below ins) → Effected ls n c f (packed (some (ins ⇒ outs)))
+
+-- an ordinary instruction: a code, and the stack's depth then
+pub data Gives (ls : List Kind) (n : ℕ) (c : Code) (outer : List Kind) (f : Frame) (kinds : List ℕ) : ℕ → ℕ → Type 0 where
+  undeclared-local : {d : ℕ} → Names c → ((k : Kind) → Local ls n k → ⊥) → Gives ls n c outer f kinds LOCAL d
+  lacking : {d : ℕ} {ins outs : List Kind} → Typed ls n c ins outs → ((ins outs below : List Kind) → Typed ls n c ins outs → Has f below ins → ⊥)
+      → Gives ls n c outer f kinds OPERAND d
+  overfull : {d : ℕ} {ins outs : List Kind} (below : List Kind) → Typed ls n c ins outs → Has f below ins → stackLimit < length (outer ++ (below ++ outs))
+      → Gives ls n c outer f kinds DEEP d
+  does : {d : ℕ} {ins outs : List Kind} (below : List Kind) → Typed ls n c ins outs → Has f below ins → length (outer ++ (below ++ outs)) ≤ stackLimit
+      → Holds kinds d (outer ++ (below ++ outs)) → Gives ls n c outer f kinds DONE d
+
+-- any instruction: a code, and the state then
+pub data Judges (ls rs : List Kind) (i : Instr) (c : Code) (fs : List Frame) (kinds blocks : List ℕ) (depth nest floor : ℕ) (dead : Bool) : ℕ → Type 0 where
+  no-local : Names c → ((k : Kind) → Local ls (i .index) k → ⊥) → Judges ls rs i c fs kinds blocks depth nest floor dead LOCAL
+  too-nested : Opens c → nestLimit < length fs → Judges ls rs i c fs kinds blocks depth nest floor dead NEST
+  no-label : Branches c → ((g : Frame) → Target fs (i .index) g → ⊥) → Judges ls rs i c fs kinds blocks depth nest floor dead LABEL
+  untyped : (c ≡ plain End → ⊥) → (Names c → (k : Kind) × Local ls (i .index) k) → (Branches c → (g : Frame) × Target fs (i .index) g)
+      → ((fs′ : List Frame) → Types ls i c fs fs′ → ⊥) → Judges ls rs i c fs kinds blocks depth nest floor dead OPERAND
+  no-results : c ≡ plain End → (Ends fs → ⊥) → Judges ls rs i c fs kinds blocks depth nest floor dead RESULT
+  too-deep : {fs′ : List Frame} → Types ls i c fs fs′ → stackLimit < length (allValues fs′) → Judges ls rs i c fs kinds blocks depth nest floor dead DEEP
+  typed : {fs′ : List Frame} → Types ls i c fs fs′ → Framed rs kinds blocks depth nest floor dead fs′ → Judges ls rs i c fs kinds blocks depth nest floor dead DONE
+
+-- an instruction that was read, over these frames
+pub record Faces (s : List ℕ) (locals results entry index : ℕ) (kinds blocks : List ℕ) (depth nest floor : ℕ) (dead : Bool) (c : Code) (i : Instr) (ls rs : List Kind) (fs : List Frame) : Type 0 where
+  pub row : entry ≡ entryOf (carried c)
+  pub names : (Opens c → ⊥) → index ≡ i .index
+  pub types : Opens c → (index ≡ i .block) × (isBlockType (i .block) ≡ true)
+  pub locals-are : Holds (drop 8 s) locals ls
+  pub results-are : topFirst rs ≡ results
+  pub few : length rs ≤ resultLimit
+  pub framed : Framed rs kinds blocks depth nest floor dead fs
+
+-- what the code must know to be safe
+pub record Ready (s : List ℕ) (locals results entry index : ℕ) (kinds blocks : List ℕ) (depth nest floor : ℕ) : Type 0 where
+  pub inside : 8 + locals ≤ length s
+  pub small : results < 2 ^ 32
+  pub type-in : 25 ≤ groupIn entry → groupIn entry < 27 → index < 256
+  pub end-inner : groupIn entry ≡ 0 → 0 < nest
+  pub floor-in : floor ≤ depth
+  pub depth-in : depth ≤ stackLimit
+  pub nest-in : nest ≤ nestLimit
+  pub kinds-long : length kinds ≡ stackLimit
+  pub blocks-long : length blocks ≡ nestLimit

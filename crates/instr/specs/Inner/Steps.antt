@@ -6,10 +6,19 @@ use mathlib.Core.Logic.{_⊎_}
 use mathlib.Core.Path.{_≡_}
 use lib.ListN.{length, getD}
 use lib.Seq.{sets}
+use Rattle.opcode.specs.Table.{Row, rowAt}
+use Rattle.opcode.specs.Entry.{entryOf}
 use Rattle.opcode.specs.Immediate.{Immediates, memory, memoryLane}
 use Rattle.instr.specs.Layout.{Head, zeros, instr}
-use Rattle.instr.specs.Decode.{andThen, done, laneAt, lanesAt}
+use Rattle.instr.specs.Decode.{Item, got, no, andThen, done, laneAt, lanesAt}
 use Rattle.instr.specs.declared.Decoded.{Decoded}
+use Rattle.instr.specs.declared.number.Read.{Read}
+use Rattle.instr.specs.declared.number.Read.the-variants.{Got, No}
+
+-- the code's answer as an item
+abbrev pub item : Read → Item
+item (Got v next) = got v next
+item (No c p) = no c p
 
 -- with a lane index after the offset, or without
 abbrev pub memoryClass : Bool → Immediates
@@ -31,3 +40,9 @@ pub record GoodUpTo (s : List ℕ) (at k : ℕ) : Type 0 where
 pub record Put (out : List ℕ) (at : ℕ) (bs : List ℕ) (r : ℕ) (out′ : List ℕ) : Type 0 where
   pub to : r ≡ at + length bs
   pub bytes : out′ ≡ sets out at bs
+
+-- e is the entry of what the table has of an instruction in this version
+pub record Tabled (ver first n e : ℕ) : Type 0 where
+  pub row : Row
+  pub entry : e ≡ entryOf row
+  pub in-version : row ≡ rowAt ver first n

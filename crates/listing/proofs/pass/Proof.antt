@@ -1,27 +1,29 @@
 -- A turn makes one line, which is written where there is room for all.
-use Rattle.listing.proofs.Following.{follow-walks, line-fits, onward}
-use Rattle.listing.proofs.Passing.{Passing, begins, passes, adds, goes-on}
-use mathlib.Core.Path.{sym}
-use lib.Seq.{length-take-le}
 use Prim.Native.Nat.{_-_}
-use mathlib.Core.Path.{refl}
+use mathlib.Core.Path.{refl, sym}
 use borrow.Author.Needs.{needs}
 use native.Mathlib.Omega.{arith}
 use lib.ListN.{length}
+use lib.Seq.{length-take-le}
+use Rattle.listing.proofs.Following.{follow-walks, line-fits, onward}
+use Rattle.listing.proofs.Passing.{Passing, begins, passes, adds, goes-on}
 use Rattle.listing.proofs.pass.Statement.{statement}
 use Rattle.listing.proofs.pass.Tie as tie
 
 abbrev Inv-loop : tie.InvT-loop
-Inv-loop strip out₀ kinds₀ text₀ depth₀ at₀ to₀ out kinds text depth at to = Passing strip out₀ out kinds text depth at to
+Inv-loop strip out₀ kinds₀ blocks₀ text₀ state₀ at₀ to₀ out kinds blocks text state at to = Passing strip out₀ out kinds blocks text state at to
 
 abbrev μ-loop : tie.MeasureT-loop
-μ-loop strip out₀ kinds₀ text₀ depth₀ at₀ to₀ out kinds text depth at to = length strip - at
+μ-loop strip out₀ kinds₀ blocks₀ text₀ state₀ at₀ to₀ out kinds blocks text state at to = length strip - at
+
+outset-requires : tie.Need-outset-requires Inv-loop μ-loop
+outset-requires c κs = search needs
 
 start-requires : tie.Need-start-requires Inv-loop μ-loop
 start-requires c κs = search needs
 
 loop-holds : tie.Need-loop-holds Inv-loop μ-loop
-loop-holds c = begins (c .before .before .before .pre) _ _ _ (c .start .ensures) refl refl
+loop-holds c = begins (c .before .before .before .before .pre) _ _ _ _ (c .start .ensures) (c .before .outset .ensures) refl refl refl
 
 slice-aggregate-next-line : tie.Need-slice-aggregate-next-line Inv-loop μ-loop
 slice-aggregate-next-line c = let f = c .before .before .loop .inv .follows in search needs
@@ -29,26 +31,29 @@ slice-aggregate-next-line c = let f = c .before .before .loop .inv .follows in s
 slice-aggregate-next-line-2 : tie.Need-slice-aggregate-next-line-2 Inv-loop μ-loop
 slice-aggregate-next-line-2 c = let f = c .before .before .before .loop .inv .follows in search needs
 
+slice-aggregate-next-line-3 : tie.Need-slice-aggregate-next-line-3 Inv-loop μ-loop
+slice-aggregate-next-line-3 c = let f = c .before .before .before .before .loop .inv .follows in search needs
+
 next-line-requires : tie.Need-next-line-requires Inv-loop μ-loop
-next-line-requires c κs = let p = c .before .before .before .loop .inv .follows in (follow-walks p (c .before .before .loop-test .taken), omega (arith, p .room))
+next-line-requires c κs = let p = c .before .before .before .before .loop .inv .follows in (follow-walks p (c .before .before .before .loop-test .taken), omega (arith, p .room))
 
 array-share-prefix-text : tie.Need-array-share-prefix-text Inv-loop μ-loop
-array-share-prefix-text c = let w = c .before .before .next-line in line-fits (c .before .before .before .before .before .before .loop .inv .follows) (c .before .before .before .before .before .loop-test .taken) (w .ensures) (w .kept .1 .1 .1 .1 .0)
+array-share-prefix-text c = let w = c .before .before .before .next-line in line-fits (c .before .before .before .before .before .before .before .before .loop .inv .follows) (c .before .before .before .before .before .before .before .loop-test .taken) (w .ensures) (w .kept .1 .1 .1 .1 .1 .0)
 
 slice-aggregate-put : tie.Need-slice-aggregate-put Inv-loop μ-loop
-slice-aggregate-put c = let w = c .before .before .before .next-line in sym (length-take-le _ _ (line-fits (c .before .before .before .before .before .before .before .loop .inv .follows) (c .before .before .before .before .before .before .loop-test .taken) (w .ensures) (w .kept .1 .1 .1 .1 .0)))
+slice-aggregate-put c = let w = c .before .before .before .before .next-line in sym (length-take-le _ _ (line-fits (c .before .before .before .before .before .before .before .before .before .loop .inv .follows) (c .before .before .before .before .before .before .before .before .loop-test .taken) (w .ensures) (w .kept .1 .1 .1 .1 .1 .0)))
 
 put-requires : tie.Need-put-requires Inv-loop μ-loop
 put-requires c κs = search needs
 
 add-to : tie.Need-add-to Inv-loop μ-loop
-add-to c = let p = c .before .before .before .before .before .before .before .before .before .before .before .loop .inv in let w = c .before .before .before .before .before .before .before .next-line in omega (arith, adds p (c .before .before .before .before .before .before .before .before .before .before .loop-test .taken) (w .ensures) (w .kept .1 .1 .1 .1 .0))
+add-to c = let w = c .before .before .before .before .before .before .before .before .next-line in omega (arith, adds (c .before .before .before .before .before .before .before .before .before .before .before .before .before .loop .inv) (c .before .before .before .before .before .before .before .before .before .before .before .before .loop-test .taken) (w .ensures) (w .kept .1 .1 .1 .1 .1 .0))
 
 loop-less : tie.Need-loop-less Inv-loop μ-loop
-loop-less c = let w = c .before .before .before .before .before .before .before .next-line in omega (arith, onward (c .before .before .before .before .before .before .before .before .before .before .before .loop .inv .follows) (c .before .before .before .before .before .before .before .before .before .before .loop-test .taken) (w .ensures) (w .kept .1 .1 .1 .1 .0), c .before .before .before .before .before .before .before .before .before .before .loop-test .taken)
+loop-less c = let w = c .before .before .before .before .before .before .before .before .before .next-line in omega (arith, onward (c .before .before .before .before .before .before .before .before .before .before .before .before .before .before .loop .inv .follows) (c .before .before .before .before .before .before .before .before .before .before .before .before .before .loop-test .taken) (w .ensures) (w .kept .1 .1 .1 .1 .1 .0), c .before .before .before .before .before .before .before .before .before .before .before .before .before .loop-test .taken)
 
 loop-again : tie.Need-loop-again Inv-loop μ-loop
-loop-again c = let w = c .before .before .before .before .before .before .before .next-line in goes-on (c .before .before .before .before .before .before .before .before .before .before .before .loop .inv) (c .before .before .before .before .before .before .before .before .before .before .loop-test .taken) (w .ensures) (w .kept .1 .1 .1 .1 .0) (w .kept .1 .1 .0) (c .before .before .put .ensures)
+loop-again c = let w = c .before .before .before .before .before .before .before .before .before .next-line in goes-on (c .before .before .before .before .before .before .before .before .before .before .before .before .before .before .loop .inv) (c .before .before .before .before .before .before .before .before .before .before .before .before .before .loop-test .taken) (w .ensures) (w .kept .1 .1 .1 .1 .1 .0) (w .kept .1 .1 .0) (w .kept .1 .1 .1 .0) (c .before .before .before .put .ensures)
 
 same-length : tie.Need-same-length Inv-loop μ-loop
 same-length c = c .before .loop .inv .long
@@ -62,10 +67,12 @@ pass-spec =
     (tie.spec
     Inv-loop
     μ-loop
+    outset-requires
     start-requires
     loop-holds
     slice-aggregate-next-line
     slice-aggregate-next-line-2
+    slice-aggregate-next-line-3
     next-line-requires
     array-share-prefix-text
     slice-aggregate-put

@@ -9,7 +9,7 @@ use Rattle.limits.specs.Limits.{stackLimit}
 use Rattle.text.specs.Words.{blank}
 use Rattle.text.specs.Append.{Appends}
 use Rattle.opcode.specs.Kind.{Kind, i32, i64, v128, kindByte, kindName}
-use Rattle.opcode.specs.Table.{Code, carried}
+use Rattle.opcode.specs.Table.{Code, latest, carried}
 use Rattle.opcode.specs.Number.{idOf}
 use Rattle.opcode.specs.Entry.{entryOf}
 use Rattle.instr.specs.declared.Instr.{Instr}
@@ -48,7 +48,7 @@ pub record Shows (kinds : List ℕ) (depth id entry : ℕ) (i : Instr) (room : �
   pub most : depth ≤ stackLimit
   pub typed : Typed i
   pub code : Code
-  pub row : rowIn i ≡ carried code
+  pub row : rowIn latest i ≡ carried code
   pub id-is : id ≡ idOf (i .first) (i .number)
   pub entry-is : entry ≡ entryOf (carried code)
   pub enough : longest ≤ room

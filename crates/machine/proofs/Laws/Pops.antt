@@ -13,7 +13,8 @@ use Rattle.opcode.specs.Kind.{kindByte}
 use Rattle.machine.specs.Value.{Value, I32, I64, V128, kindOf, InRange, AllInRange, bytesOf}
 use Rattle.machine.specs.Exec.{State, Outcome, goes, trap, stuck, popI32, popI64, popV128, popAny, popScalar, goOn, local, alike, access}
 use Rattle.machine.specs.Inner.Flat.{slotAt}
-use Rattle.machine.proofs.Laws.Rep.{Slots, state}
+use Rattle.machine.specs.Inner.Rep.{Slots}
+use Rattle.machine.proofs.Laws.Rep.{state}
 
 pub record Holds (bs : List ℕ) (vs : List Value) : Type 0 where
   pub slots : Slots vs bs

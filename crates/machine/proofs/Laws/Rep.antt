@@ -1,4 +1,4 @@
--- How the code holds a state of the standard's machine: slots of sixteen bytes for the operand stack and the locals, and the memory as it is.
+-- Slots and values: what a store leaves, and a state with a value more or some fewer.
 use Prim.Native.Nat.{ℕ, suc, _+_, _*_, _-_, _^_, _%_, _/_, _≤_, _<_}
 use mathlib.Core.Path.{_≡_, refl, ap, sym, _∙_, subst}
 use mathlib.Core.List.{List, [], _∷_}
@@ -10,16 +10,17 @@ use lib.Arith.{lt-of-le-ne}
 use lib.Dec.{T, ltb, leb, leb→le}
 use lib.Pow.{pow-mono}
 use borrow.Author.Tests.{ltb-true, ltb-false}
-use lib.ListN.{length, getD}
+use lib.ListN.{length}
 use mir.Syntax.{Width, w32, w64}
 use mir.Val.{bits}
 use Rattle.operation.specs.Vector.{number, le, lane, Sixteen}
-use Rattle.lane.proofs.Laws.Number.{Bytes, number-le}
+use Rattle.lane.proofs.Laws.Number.{number-le}
 use Rattle.lane.proofs.Laws.Vectors.{sixteen-le}
-use Rattle.limits.specs.Limits.{slot, stackLimit, parameterLimit, localLimit}
+use Rattle.limits.specs.Limits.{slot, stackLimit}
 use Rattle.machine.specs.Value.{Value, I32, I64, V128, InRange, AllInRange, bytesOf}
 use Rattle.machine.specs.Exec.{State}
 use Rattle.machine.specs.Inner.Flat.{slotAt, putSlot, low32, low64}
+use Rattle.machine.specs.Inner.Rep.{Slots, Rep}
 use Rattle.machine.proofs.Laws.Stored.{length-stored, part-same, part-other}
 
 -- ---- one value
@@ -46,11 +47,6 @@ low-i64 n h = low w64 n h tt
 
 -- ---- slots
 
--- the top value lies highest
-abbrev pub Slots : List Value → List ℕ → Type 0
-Slots [] bs = Unit {0}
-Slots (v ∷ vs) bs = (slotAt bs (length vs) ≡ bytesOf v) × Slots vs bs
-
 module _ (bs : List ℕ) (n : ℕ) (x : List ℕ) (long : length x ≡ slot) (room : slot * n + slot ≤ length bs) where
   fit : slot * n + length x ≤ length bs
   fit = omega (arith, long)
@@ -76,19 +72,6 @@ module _ (bs : List ℕ) (n : ℕ) (x : List ℕ) (long : length x ≡ slot) (ro
   slots-kept (v ∷ vs) h s = (slot-other (length vs) (λ e. omega arith) ∙ s .0, slots-kept vs (omega arith) (s .1))
 
 -- ---- the state
-
-pub record Rep (σ : State) (st : List ℕ) (d : ℕ) (ls m : List ℕ) : Type 0 where
-  pub stack-long : length st ≡ slot * stackLimit
-  pub locals-long : length ls ≡ slot * (parameterLimit + localLimit)
-  pub depth : length (σ .stack) ≡ d
-  pub deep : d ≤ stackLimit
-  pub slots : Slots (σ .stack) st
-  pub stack-range : AllInRange (σ .stack)
-  pub few : length (σ .locals) ≤ parameterLimit + localLimit
-  pub held : (k : ℕ) → k < length (σ .locals) → slotAt ls k ≡ bytesOf (getD (σ .locals) k (I32 0))
-  pub local-range : AllInRange (σ .locals)
-  pub memory : σ .memory ≡ m
-  pub memory-bytes : Bytes m
 
 abbrev pub state : List Value → List Value → List ℕ → State
 state vs ws m = record { stack = vs; locals = ws; memory = m }

@@ -13,7 +13,8 @@ use Rattle.limits.specs.Limits.{slot, stackLimit, parameterLimit, localLimit}
 use Rattle.machine.specs.Value.{Value, I32, InRange, bytesOf}
 use Rattle.machine.specs.Exec.{State, goes, goOn}
 use Rattle.machine.specs.Inner.Flat.{slotAt, putSlot}
-use Rattle.machine.proofs.Laws.Rep.{Rep, state, sixteen-bytes, length-put, slot-same, slot-other, rep-push, rep-pop}
+use Rattle.machine.specs.Inner.Rep.{Rep}
+use Rattle.machine.proofs.Laws.Rep.{state, sixteen-bytes, length-put, slot-same, slot-other, rep-push, rep-pop}
 use Rattle.machine.proofs.Laws.Pops.{Holds, going}
 use Rattle.machine.proofs.Laws.Ranges.{range-set}
 

@@ -10,7 +10,7 @@ use Rattle.operation.specs.Vector.{lane}
 use Rattle.operation.specs.Shape.{i8x16}
 use Rattle.operation.specs.Op.{Op, Load, LoadLane, Store, StoreLane, Const, Shuffle, Splat, ExtractLane, ReplaceLane, Unary, Binary, Bitselect, Test, Shift}
 use Rattle.limits.specs.Limits.{stackLimit, stackBytes, localCount, localBytes}
-use Rattle.opcode.specs.Table.{Plain, End, Drop, LocalGet, LocalSet, LocalTee, I32Const, I64Const, I32Add, I32Sub, Code, plain, vector, carried}
+use Rattle.opcode.specs.Table.{Plain, End, Drop, LocalGet, LocalSet, LocalTee, I32Const, I64Const, I32Add, I32Sub, I32Eqz, I32LtU, Code, plain, control, vector, carried}
 use Rattle.opcode.specs.Number.{rowOf}
 use Rattle.opcode.specs.Immediate.{moved}
 use Rattle.instr.specs.declared.Instr.{Instr}
@@ -29,6 +29,8 @@ takenByPlain I32Const = 0
 takenByPlain I64Const = 0
 takenByPlain I32Add = 2
 takenByPlain I32Sub = 2
+takenByPlain I32Eqz = 1
+takenByPlain I32LtU = 2
 
 abbrev pub takenByOp : Op → ℕ
 takenByOp (Load l) = 1
@@ -48,6 +50,7 @@ takenByOp (Shift o) = 2
 
 abbrev pub takenBy : Code → ℕ
 takenBy (plain p) = takenByPlain p
+takenBy (control k) = 0
 takenBy (vector o) = takenByOp o
 
 -- the local that is named has a slot
@@ -61,6 +64,8 @@ Slotted I32Const i = Unit {0}
 Slotted I64Const i = Unit {0}
 Slotted I32Add i = Unit {0}
 Slotted I32Sub i = Unit {0}
+Slotted I32Eqz i = Unit {0}
+Slotted I32LtU i = Unit {0}
 
 -- lane indices are as decoding leaves them
 abbrev pub Indexed : Op → Instr → Type 0
@@ -81,6 +86,7 @@ Indexed (Shift o) i = Unit {0}
 
 abbrev pub Named : Code → Instr → Type 0
 Named (plain p) i = Slotted p i
+Named (control k) i = Unit {0}
 Named (vector o) i = Indexed o i
 
 pub record Fit (c : Code) (st : List ℕ) (d : ℕ) : Type 0 where
@@ -116,6 +122,7 @@ boundsOp (Shift o) i st d len = Clear
 
 abbrev pub boundsOf : Code → Instr → List ℕ → ℕ → ℕ → Bounds
 boundsOf (plain p) i st d len = Clear
+boundsOf (control k) i st d len = Clear
 boundsOf (vector o) i st d len = boundsOp o i st d len
 
 -- what is asked before an instruction is done

@@ -1,7 +1,9 @@
 -- Inner: the state as the code holds it, and one instruction over that. The operand stack and the locals are slots of sixteen bytes.
 use Prim.Native.Nat.{ℕ, _+_, _*_, _-_, _≤_}
 use mathlib.Core.Path.{_≡_}
+use mathlib.Core.Bool.{cond}
 use mathlib.Core.List.{List}
+use lib.Dec.{eqb, ltb}
 use lib.ListN.{length, take}
 use mir.Syntax.{Width, w8, w16, w32, w64, w128}
 use Rattle.scalar.specs.Scalar.{iadd, isub}
@@ -9,7 +11,7 @@ use Rattle.operation.specs.Shape.{i32x4, i64x2}
 use Rattle.operation.specs.Vector.{lane, le}
 use Rattle.operation.specs.Op.{Op, Load, LoadLane, Store, StoreLane, Const, Shuffle, Splat, ExtractLane, ReplaceLane, Unary, Binary, Bitselect, Test, Shift, unary, binary, bitselect, test, shift, splat, extracted, replaced, shuffled, loaded, laneIn, laneOut}
 use Rattle.limits.specs.Limits.{slot, stackLimit, stackBytes}
-use Rattle.opcode.specs.Table.{End, Drop, LocalGet, LocalSet, LocalTee, I32Const, I64Const, I32Add, I32Sub, Plain, Code, plain, vector}
+use Rattle.opcode.specs.Table.{End, Drop, LocalGet, LocalSet, LocalTee, I32Const, I64Const, I32Add, I32Sub, I32Eqz, I32LtU, Plain, Code, plain, control, vector}
 use Rattle.opcode.specs.Immediate.{moved}
 use Rattle.instr.specs.declared.Instr.{Instr}
 use Rattle.machine.specs.Memory.{part, padded, stored}
@@ -61,6 +63,8 @@ flatPlain I32Const i st d ls m = flatOf (d + 1) (putSlot st d (le slot (i .word)
 flatPlain I64Const i st d ls m = flatOf (d + 1) (putSlot st d (le slot (i .long))) ls m
 flatPlain I32Add i st d ls m = flatOf (d - 1) (putSlot st (d - 2) (le slot (iadd w32 (low32 (topOf st d 2)) (low32 (topOf st d 1))))) ls m
 flatPlain I32Sub i st d ls m = flatOf (d - 1) (putSlot st (d - 2) (le slot (isub w32 (low32 (topOf st d 2)) (low32 (topOf st d 1))))) ls m
+flatPlain I32Eqz i st d ls m = flatOf d (putSlot st (d - 1) (le slot (cond (eqb (low32 (topOf st d 1)) 0) 1 0))) ls m
+flatPlain I32LtU i st d ls m = flatOf (d - 1) (putSlot st (d - 2) (le slot (cond (ltb (low32 (topOf st d 2)) (low32 (topOf st d 1))) 1 0))) ls m
 
 -- the address in a slot, and the offset
 abbrev pub reach : Instr → List ℕ → ℕ
@@ -86,4 +90,5 @@ flatVector (Shift o) i st d ls m = flatOf (d - 1) (putSlot st (d - 2) (shift o (
 
 abbrev pub flat : Code → Instr → List ℕ → ℕ → List ℕ → List ℕ → Flat
 flat (plain p) i st d ls m = flatPlain p i st d ls m
+flat (control k) i st d ls m = flatOf d st ls m
 flat (vector o) i st d ls m = flatVector o i st d ls m

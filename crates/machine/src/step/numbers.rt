@@ -1,6 +1,8 @@
 // Numbers and locals.
 ghost use mathlib.Core.Path.{_≡_};
 ghost use Prim.Native.Nat.{_-_, _≤_, _<_};
+ghost use mathlib.Core.Bool.{cond};
+ghost use lib.Dec.{eqb, ltb};
 ghost use lib.ListN.{length};
 ghost use mir.Syntax.{w32};
 ghost use Rattle.limits.specs.Limits.{stackLimit, stackBytes, localBytes, localCount};
@@ -41,6 +43,35 @@ pub(crate) fn sub(stack: &mut [u8], depth: usize)
         depth - 2,
         slot::of_number((a + (4294967296 - b)) % 4294967296),
     );
+}
+
+pub(crate) fn eqz(stack: &mut [u8], depth: usize)
+    requires { ⌜ Holds 1 (now stack) depth ⌝ }
+    ensures { λ r. ⌜ now (stack .exit) ≡ putSlot (now (stack .entry)) (depth - 1) (le 16 (cond (eqb (low32 (topOf (now (stack .entry)) depth 1)) 0) 1 0)) ⌝ }
+{
+    let a = slot::word(slot::top(stack, depth, 1));
+    slot::put(stack, depth - 1, slot::of_number(is_zero(a)));
+}
+
+fn is_zero(a: u32) -> u64
+    ensures { λ r. ⌜ r ≡ cond (eqb a 0) 1 0 ⌝ }
+{
+    if a == 0 { 1 } else { 0 }
+}
+
+pub(crate) fn lt_u(stack: &mut [u8], depth: usize)
+    requires { ⌜ Holds 2 (now stack) depth ⌝ }
+    ensures { λ r. ⌜ now (stack .exit) ≡ putSlot (now (stack .entry)) (depth - 2) (le 16 (cond (ltb (low32 (topOf (now (stack .entry)) depth 2)) (low32 (topOf (now (stack .entry)) depth 1))) 1 0)) ⌝ }
+{
+    let b = slot::word(slot::top(stack, depth, 1));
+    let a = slot::word(slot::top(stack, depth, 2));
+    slot::put(stack, depth - 2, slot::of_number(is_less(a, b)));
+}
+
+fn is_less(a: u32, b: u32) -> u64
+    ensures { λ r. ⌜ r ≡ cond (ltb a b) 1 0 ⌝ }
+{
+    if a < b { 1 } else { 0 }
 }
 
 pub(crate) fn get_local(index: u32, locals: &[u8], stack: &mut [u8], depth: usize)

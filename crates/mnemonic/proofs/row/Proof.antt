@@ -11,15 +11,15 @@ use Rattle.mnemonic.proofs.row.Tie as tie
 abbrev body : Body
 body = function .body
 
-nowhere : tie.Need-returns-10
+nowhere : tie.Need-returns-16
 unfolding rowOfName
 nowhere c = past-arms rowOfName body 256 tt (λ h. absurd (omega arith)) (c .before .match .rest)
 
-number : tie.Need-returns-11
+number : tie.Need-returns-17
 unfolding rowOfName
 number c = simp (le-ltb _ 256 (c .before .if1 .left), lt-ltb _ 512 (c .if2 .taken))
 
-beyond : tie.Need-returns-12
+beyond : tie.Need-returns-18
 unfolding rowOfName
 beyond c = simp (le-ltb _ 256 (c .before .if1 .left), le-ltb _ 512 (c .if2 .left))
 
@@ -31,4 +31,6 @@ row-spec =
     (λ c. in-arm rowOfName body 0 tt (c .match .keys1)) (λ c. in-arm rowOfName body 1 tt (c .match .keys2)) (λ c. in-arm rowOfName body 2 tt (c .match .keys3))
     (λ c. in-arm rowOfName body 3 tt (c .match .keys4)) (λ c. in-arm rowOfName body 4 tt (c .match .keys5)) (λ c. in-arm rowOfName body 5 tt (c .match .keys6))
     (λ c. in-arm rowOfName body 6 tt (c .match .keys7)) (λ c. in-arm rowOfName body 7 tt (c .match .keys8)) (λ c. in-arm rowOfName body 8 tt (c .match .keys9))
+    (λ c. in-arm rowOfName body 9 tt (c .match .keys10)) (λ c. in-arm rowOfName body 10 tt (c .match .keys11)) (λ c. in-arm rowOfName body 11 tt (c .match .keys12))
+    (λ c. in-arm rowOfName body 12 tt (c .match .keys13)) (λ c. in-arm rowOfName body 13 tt (c .match .keys14)) (λ c. in-arm rowOfName body 14 tt (c .match .keys15))
     nowhere number beyond)

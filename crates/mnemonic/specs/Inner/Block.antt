@@ -1,4 +1,4 @@
--- The names in rows of 32 bytes, filled with blanks, sixteen rows a block: FD's numbers in their order, then the nine plain ones.
+-- The names in rows of 32 bytes, filled with blanks, sixteen rows a block: FD's numbers in their order, then those outside the prefix.
 use Prim.Native.Nat.{ℕ, _+_, _*_, _<_}
 use Prim.Native.String.{String}
 use mathlib.Core.Path.{_≡_}

@@ -8,10 +8,10 @@ use Rattle.rewrite.proofs.pass.Statement.{statement}
 use Rattle.rewrite.proofs.pass.Tie as tie
 
 abbrev Inv-loop : tie.InvT-loop
-Inv-loop strip start out₀ writing at₀ to₀ out at to = Passing strip start writing out₀ out at to
+Inv-loop version strip start out₀ writing at₀ to₀ out at to = Passing version strip start writing out₀ out at to
 
 abbrev μ-loop : tie.MeasureT-loop
-μ-loop strip start out₀ writing at₀ to₀ out at to = length strip - at
+μ-loop version strip start out₀ writing at₀ to₀ out at to = length strip - at
 
 loop-holds : tie.Need-loop-holds Inv-loop μ-loop
 loop-holds c = begins (c .before .before .pre)
@@ -52,7 +52,7 @@ add-to c =
     let p = d .before .before .loop .inv in
     let t = d .before .loop-test .taken in
     let e = c .before .before .before in
-    omega (arith, adds p t (d .decode .ensures) (adds-len p t (d .decode .ensures) (e .before .before .if1 .taken) (e .encode .ensures .0) (e .encode .ensures .1)))
+    omega (arith, d .before .before .before .before .before .good .1 .0 .0, adds p t (d .decode .ensures) (adds-len p t (d .decode .ensures) (e .before .before .if1 .taken) (e .encode .ensures .0) (e .encode .ensures .1)))
 
 loop-less : tie.Need-loop-less Inv-loop μ-loop
 loop-less c =

@@ -1,9 +1,15 @@
--- By the bytes of the number.
-use borrow.Author.Needs.{needs}
+-- Operands missing, none left, no room, or one left.
+use Prim.Native.Nat.{_/_, _^_}
+use mathlib.Core.Path.{refl}
 use native.Mathlib.Omega.{arith}
+use Rattle.checker.proofs.Held.{one-set}
 use Rattle.checker.proofs.Applied.{low-bytes, applies-lacks, applies-none, applies-over, applies-one}
+use borrow.Author.Needs.{needs}
 use Rattle.checker.proofs.stack.apply.Statement.{statement}
 use Rattle.checker.proofs.stack.apply.Tie as tie
+
+cast-under : tie.Need-cast-under
+cast-under c = search needs
 
 under-requires : tie.Need-under-requires
 under-requires c κs = search needs
@@ -12,8 +18,7 @@ same-length : tie.Need-same-length
 same-length c = search needs
 
 returns : tie.Need-returns
-returns c κs ins outs h small is =
-    applies-lacks small is h (c .before .before .before .before .pre .0) (c .before .under .ensures κs ins h (low-bytes small is)) (c .if1 .taken)
+returns c = ((λ outer ins outs f t small is. applies-lacks small is t (c .before .before .before .before .pre .1) (c .before .under .ensures outer ins f t (low-bytes small is)) (c .if1 .taken)), λ z. refl)
 
 cast-result : tie.Need-cast-result
 cast-result c = search needs
@@ -22,34 +27,31 @@ same-length-2 : tie.Need-same-length-2
 same-length-2 c = search needs
 
 returns-2 : tie.Need-returns-2
-returns-2 c κs ins outs h small is =
-    applies-none small is h (c .before .before .before .before .before .pre .0) (c .before .before .under .ensures κs ins h (low-bytes small is)) (c .before .if1 .left) (c .if2 .taken)
+returns-2 c = ((λ outer ins outs f t small is. applies-none small is t (c .before .before .before .before .before .pre .1) (c .before .before .under .ensures outer ins f t (low-bytes small is)) (c .before .if1 .left) (c .if2 .taken)), λ z. refl)
 
 same-length-3 : tie.Need-same-length-3
 same-length-3 c = search needs
 
 returns-3 : tie.Need-returns-3
-returns-3 c κs ins outs h small is =
-    applies-over small is h (c .before .before .before .before .before .before .pre .0) (c .before .before .before .under .ensures κs ins h (low-bytes small is)) (c .before .before .if1 .left) (c .before .if2 .left) (omega (arith, c .if3 .taken))
+returns-3 c = ((λ outer ins outs f t small is. applies-over small is t (c .before .before .before .before .before .before .pre .1) (c .before .before .before .under .ensures outer ins f t (low-bytes small is)) (c .before .if2 .left) (omega (arith, c .if3 .taken))), λ z. refl)
 
 slice-write-kinds : tie.Need-slice-write-kinds
 slice-write-kinds c = search needs
 
-add-t11 : tie.Need-add-t11
-add-t11 c = search needs
+add-t14 : tie.Need-add-t14
+add-t14 c = search needs
 
 same-length-4 : tie.Need-same-length-4
 same-length-4 c = search needs
 
 returns-4 : tie.Need-returns-4
-returns-4 c κs ins outs h small is =
-    let start = c .before .before .before .before .before .before in
-    applies-one small is h (start .pre .0) (c .before .before .before .under .ensures κs ins h (low-bytes small is)) (c .before .before .if1 .left) (c .before .if2 .left) (start .pre .1) (omega arith)
+returns-4 c = ((λ outer ins outs f t small is. applies-one small is t (c .before .before .before .before .before .before .pre .1) (c .before .before .before .under .ensures outer ins f t (low-bytes small is)) (c .before .if2 .left) (c .before .before .before .before .before .before .pre .2) (omega (arith, c .before .before .if1 .left, c .if3 .left))), λ z. let start = c .before .before .before .before .before .before in one-set (start .args .kinds .now) (c .before .before .before .under .result) (start .args .effect / 2 ^ 24))
 
 pub apply-spec : {M : Type 1} → statement M
 apply-spec =
     tie.close
     (tie.spec
+    cast-under
     under-requires
     same-length
     returns
@@ -59,6 +61,6 @@ apply-spec =
     same-length-3
     returns-3
     slice-write-kinds
-    add-t11
+    add-t14
     same-length-4
     returns-4)

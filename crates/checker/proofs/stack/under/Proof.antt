@@ -1,52 +1,54 @@
--- The operands that are popped.
+-- A turn passes one operand.
 use borrow.Author.Needs.{needs}
 use native.Mathlib.Omega.{arith}
-use Rattle.checker.proofs.Operands.{Popping, pops, pops-on, none-there, other-there, all-popped}
+use Rattle.checker.proofs.Operands.{Popping, pops, pops-on, any-there, none-there, other-there, all-popped}
 use Rattle.checker.proofs.stack.under.Statement.{statement}
 use Rattle.checker.proofs.stack.under.Tie as tie
 
 abbrev Inv-loop : tie.InvT-loop
-Inv-loop operands kinds depth left₀ base₀ left base = Popping operands kinds depth left base
+Inv-loop operands kinds depth floor dead left₀ base₀ left base = Popping operands kinds depth floor dead left base
 
 abbrev μ-loop : tie.MeasureT-loop
-μ-loop operands kinds depth left₀ base₀ left base = base
+μ-loop operands kinds depth floor dead left₀ base₀ left base = base
 
 loop-holds : tie.Need-loop-holds Inv-loop μ-loop
-loop-holds c = pops (c .args .operands) (c .args .kinds .now) (c .args .depth)
+loop-holds c = let a = c .args in pops (a .operands) (a .kinds .now) (a .depth) (a .floor) (a .dead) (c .pre .0)
+
+returns : tie.Need-returns Inv-loop μ-loop
+returns c = λ outer ins f t e. any-there (c .before .before .before .loop .inv) outer ins f t e (c .before .before .loop-test .taken) (c .before .if1 .taken) (c .if2 .taken)
 
 add-result : tie.Need-add-result Inv-loop μ-loop
 add-result c = search needs
 
-returns : tie.Need-returns Inv-loop μ-loop
-returns c κs ins h e = none-there (c .before .before .loop .inv) κs ins h e (c .before .loop-test .taken) (c .if1 .taken) 65 (omega arith)
+returns-2 : tie.Need-returns-2 Inv-loop μ-loop
+returns-2 c = λ outer ins f t e. none-there (c .before .before .before .loop .inv) outer ins f t e (c .before .before .loop-test .taken) (c .before .if1 .taken) (c .if2 .left) 65 (omega arith)
 
-sub-if2 : tie.Need-sub-if2 Inv-loop μ-loop
-sub-if2 c = search needs
+sub-if3 : tie.Need-sub-if3 Inv-loop μ-loop
+sub-if3 c = omega (arith, c .before .before .loop .inv .least, c .if1 .left)
 
-shared-slice-read-if2 : tie.Need-shared-slice-read-if2 Inv-loop μ-loop
-shared-slice-read-if2 c = omega (arith, c .before .before .before .loop .inv .some)
+shared-slice-read-if3 : tie.Need-shared-slice-read-if3 Inv-loop μ-loop
+shared-slice-read-if3 c = omega (arith, c .before .before .before .loop .inv .least, c .before .before .before .loop .inv .most, c .before .if1 .left, c .before .before .before .before .pre .1)
 
-cast-if2 : tie.Need-cast-if2 Inv-loop μ-loop
-cast-if2 c = search needs
+cast-if3 : tie.Need-cast-if3 Inv-loop μ-loop
+cast-if3 c = search needs
 
 add-result-2 : tie.Need-add-result-2 Inv-loop μ-loop
 add-result-2 c = search needs
 
-returns-2 : tie.Need-returns-2 Inv-loop μ-loop
-returns-2 c κs ins h e =
-    other-there (c .before .before .before .before .loop .inv) κs ins h e (c .before .before .before .loop-test .taken) (c .before .before .if1 .left) (c .if2 .taken) 65 (omega arith)
+returns-3 : tie.Need-returns-3 Inv-loop μ-loop
+returns-3 c = λ outer ins f t e. other-there (c .before .before .before .before .loop .inv) outer ins f t e (c .before .before .before .loop-test .taken) (c .before .before .if1 .left) (c .if3 .taken) 65 (omega arith)
 
 sub-base : tie.Need-sub-base Inv-loop μ-loop
-sub-base c = search needs
+sub-base c = omega (arith, c .before .before .before .before .loop .inv .least, c .before .before .if1 .left)
 
 loop-less : tie.Need-loop-less Inv-loop μ-loop
-loop-less c = search needs
+loop-less c = omega (arith, c .before .before .before .before .loop .inv .least, c .before .before .if1 .left)
 
 loop-again : tie.Need-loop-again Inv-loop μ-loop
-loop-again c = pops-on (c .before .before .before .before .loop .inv) (c .before .before .before .loop-test .taken) (c .before .before .if1 .left) (c .if2 .left)
+loop-again c = pops-on (c .before .before .before .before .loop .inv) (c .before .before .before .loop-test .taken) (c .before .before .if1 .left) (c .if3 .left)
 
-returns-3 : tie.Need-returns-3 Inv-loop μ-loop
-returns-3 c κs ins h e = all-popped (c .before .loop .inv) κs ins h e (c .loop-test .left)
+returns-4 : tie.Need-returns-4 Inv-loop μ-loop
+returns-4 c = λ outer ins f t e. all-popped (c .before .loop .inv) outer ins f t e (c .loop-test .left)
 
 pub under-spec : {M : Type 1} → statement M
 under-spec =
@@ -55,14 +57,15 @@ under-spec =
     Inv-loop
     μ-loop
     loop-holds
-    add-result
     returns
-    sub-if2
-    shared-slice-read-if2
-    cast-if2
-    add-result-2
+    add-result
     returns-2
+    sub-if3
+    shared-slice-read-if3
+    cast-if3
+    add-result-2
+    returns-3
     sub-base
     loop-less
     loop-again
-    returns-3)
+    returns-4)

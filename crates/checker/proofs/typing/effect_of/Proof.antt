@@ -1,11 +1,11 @@
--- By the signature, by the value's kind, or by the local's.
-use borrow.Author.Needs.{needs}
+-- By the signature, by the value on top, or by the local.
 use Prim.Native.Nat.{_+_, _-_}
 use mathlib.Core.Path.{refl, sym, _∙_}
 use native.Mathlib.Omega.{arith}
 use Rattle.opcode.specs.Table.{carried}
 use Rattle.opcode.proofs.Entries.{group-in, effect-in}
 use Rattle.checker.proofs.Effects.{effected-signature, effected-none, effected-drop, names-local, effected-undeclared, effected-get, effected-set, effected-tee}
+use borrow.Author.Needs.{needs}
 use Rattle.checker.proofs.typing.effect_of.Statement.{statement}
 use Rattle.checker.proofs.typing.effect_of.Tie as tie
 
@@ -13,7 +13,7 @@ effect-requires : tie.Need-effect-requires
 effect-requires c κs = search needs
 
 returns : tie.Need-returns
-returns c v ls κs row other h g = effected-signature ls (c .before .before .before .before .args .index) v κs _ (c .before .effect .ensures ∙ effect-in (carried v) row) (c .if1 .taken)
+returns c = λ v ls outer f row o h t. effected-signature ls (c .before .before .before .before .args .index) v f _ (c .before .effect .ensures ∙ effect-in (carried v) row) (c .if1 .taken)
 
 group-requires : tie.Need-group-requires
 group-requires c κs = search needs
@@ -22,9 +22,7 @@ cast-result : tie.Need-cast-result
 cast-result c = search needs
 
 returns-2 : tie.Need-returns-2
-returns-2 c v ls κs row other h g =
-    let a = c .before .before .before .before .before .before .before .args in
-    effected-none ls (a .index) κs _ g v _ (c .before .before .group .ensures ∙ group-in (carried v) row) (c .before .if2 .taken) (c .if3 .taken) refl
+returns-2 c = λ v ls outer f row o h t. effected-none ls (c .before .before .before .before .before .before .before .args .index) f _ t v _ (c .before .before .group .ensures ∙ group-in (carried v) row) (c .before .if2 .taken) (c .if3 .taken) refl
 
 sub-result : tie.Need-sub-result
 sub-result c = search needs
@@ -33,18 +31,15 @@ shared-slice-read-result : tie.Need-shared-slice-read-result
 shared-slice-read-result c = search needs
 
 cast-result-2 : tie.Need-cast-result-2
-cast-result-2 c = let a = c .before .before .before .before .before .before .before .before .args in omega (arith, c .shared-slice-known3 .given (a .depth - 1))
+cast-result-2 c = omega (arith, c .shared-slice-known3 .given (c .before .before .before .before .before .before .before .before .args .depth - 1))
 
 returns-3 : tie.Need-returns-3
-returns-3 c v ls κs row other h g =
-    let a = c .before .before .before .before .before .before .before .before .args in
-    effected-drop ls (a .index) κs _ g v _ (c .before .before .before .group .ensures ∙ group-in (carried v) row) (c .before .before .if2 .taken) (c .before .if3 .left) refl
+returns-3 c = λ v ls outer f row o h t. effected-drop ls (c .before .before .before .before .before .before .before .before .args .index) f _ t v _ (c .before .before .before .group .ensures ∙ group-in (carried v) row) (c .before .before .if2 .taken) (c .before .before .before .before .before .before .before .before .pre .1) (c .before .if3 .left) refl
 
 returns-4 : tie.Need-returns-4
-returns-4 c v ls κs row other h g =
-    let a = c .before .before .before .before .before .before .before .args in
-    let names = names-local v _ _ other (c .before .before .before .before .effect .ensures ∙ effect-in (carried v) row) (c .before .before .before .if1 .left) (c .before .before .group .ensures ∙ group-in (carried v) row) (c .before .if2 .left) in
-    effected-undeclared ls (a .index) κs _ (a .strip .now) h v names (c .if4 .taken) refl
+returns-4 c = λ v ls outer f row o h t.
+    let names = names-local v _ _ o (c .before .before .before .before .effect .ensures ∙ effect-in (carried v) row) (c .before .before .before .if1 .left) (c .before .before .group .ensures ∙ group-in (carried v) row) (c .before .if2 .left) in
+    effected-undeclared ls (c .before .before .before .before .before .before .before .args .index) f _ (c .before .before .before .before .before .before .before .args .strip .now) h v names (c .if4 .taken) refl
 
 add-k : tie.Need-add-k
 add-k c = search needs
@@ -53,35 +48,34 @@ shared-slice-read-k : tie.Need-shared-slice-read-k
 shared-slice-read-k c = search needs
 
 cast-k : tie.Need-cast-k
-cast-k c = let a = c .before .before .before .before .before .before .before .before .args in omega (arith, c .shared-slice-known4 .given (8 + a .index))
+cast-k c = omega (arith, c .shared-slice-known4 .given (8 + c .before .before .before .before .before .before .before .before .args .index))
 
 mul-result : tie.Need-mul-result
-mul-result c = let a = c .before .before .before .before .before .before .before .before .before .args in omega (arith, c .before .shared-slice-known4 .given (8 + a .index))
+mul-result c = omega (arith, c .before .shared-slice-known4 .given (8 + c .before .before .before .before .before .before .before .before .before .args .index))
 
 mul-result-2 : tie.Need-mul-result-2
-mul-result-2 c = let a = c .before .before .before .before .before .before .before .before .before .args in omega (arith, c .before .shared-slice-known4 .given (8 + a .index))
+mul-result-2 c = omega (arith, c .before .shared-slice-known4 .given (8 + c .before .before .before .before .before .before .before .before .before .args .index))
 
 add-result : tie.Need-add-result
-add-result c = let a = c .before .before .before .before .before .before .before .before .before .args in omega (arith, c .before .shared-slice-known4 .given (8 + a .index))
+add-result c = omega (arith, c .before .shared-slice-known4 .given (8 + c .before .before .before .before .before .before .before .before .before .args .index))
 
 returns-5 : tie.Need-returns-5
-returns-5 c v ls κs row other h g =
-    let a = c .before .before .before .before .before .before .before .before .before .args in
-    let names = names-local v _ _ other (c .before .before .before .before .before .before .effect .ensures ∙ effect-in (carried v) row) (c .before .before .before .before .before .if1 .left) (c .before .before .before .before .group .ensures ∙ group-in (carried v) row) (c .before .before .before .if2 .left) in
-    effected-get ls (a .index) κs _ (a .strip .now) h v names (c .before .before .if4 .left) _ refl (sym (c .before .before .before .before .group .ensures ∙ group-in (carried v) row) ∙ c .match .keys1) refl
+returns-5 c = λ v ls outer f row o h t.
+    let group = c .before .before .before .before .group .ensures ∙ group-in (carried v) row in
+    let names = names-local v _ _ o (c .before .before .before .before .before .before .effect .ensures ∙ effect-in (carried v) row) (c .before .before .before .before .before .if1 .left) group (c .before .before .before .if2 .left) in
+    effected-get ls (c .before .before .before .before .before .before .before .before .before .args .index) f _ (c .before .before .before .before .before .before .before .before .before .args .strip .now) h v names (c .before .before .if4 .left) _ refl (sym group ∙ c .match .keys1) refl
 
 returns-6 : tie.Need-returns-6
-returns-6 c v ls κs row other h g =
-    let a = c .before .before .before .before .before .before .before .before .before .args in
-    let names = names-local v _ _ other (c .before .before .before .before .before .before .effect .ensures ∙ effect-in (carried v) row) (c .before .before .before .before .before .if1 .left) (c .before .before .before .before .group .ensures ∙ group-in (carried v) row) (c .before .before .before .if2 .left) in
-    effected-set ls (a .index) κs _ (a .strip .now) h v names (c .before .before .if4 .left) _ refl (sym (c .before .before .before .before .group .ensures ∙ group-in (carried v) row) ∙ c .match .keys2) refl
+returns-6 c = λ v ls outer f row o h t.
+    let group = c .before .before .before .before .group .ensures ∙ group-in (carried v) row in
+    let names = names-local v _ _ o (c .before .before .before .before .before .before .effect .ensures ∙ effect-in (carried v) row) (c .before .before .before .before .before .if1 .left) group (c .before .before .before .if2 .left) in
+    effected-set ls (c .before .before .before .before .before .before .before .before .before .args .index) f _ (c .before .before .before .before .before .before .before .before .before .args .strip .now) h v names (c .before .before .if4 .left) _ refl (sym group ∙ c .match .keys2) refl
 
 returns-7 : tie.Need-returns-7
-returns-7 c v ls κs row other h g =
-    let a = c .before .before .before .before .before .before .before .before .before .args in
-    let names = names-local v _ _ other (c .before .before .before .before .before .before .effect .ensures ∙ effect-in (carried v) row) (c .before .before .before .before .before .if1 .left) (c .before .before .before .before .group .ensures ∙ group-in (carried v) row) (c .before .before .before .if2 .left) in
+returns-7 c = λ v ls outer f row o h t.
     let group = c .before .before .before .before .group .ensures ∙ group-in (carried v) row in
-    effected-tee ls (a .index) κs _ (a .strip .now) h v names (c .before .before .if4 .left) _ refl (λ is. c .match .rest .0 .1 (group ∙ is)) (λ is. c .match .rest .1 (group ∙ is)) refl
+    let names = names-local v _ _ o (c .before .before .before .before .before .before .effect .ensures ∙ effect-in (carried v) row) (c .before .before .before .before .before .if1 .left) group (c .before .before .before .if2 .left) in
+    effected-tee ls (c .before .before .before .before .before .before .before .before .before .args .index) f _ (c .before .before .before .before .before .before .before .before .before .args .strip .now) h v names (c .before .before .if4 .left) _ refl (λ is. c .match .rest .0 .1 (group ∙ is)) (λ is. c .match .rest .1 (group ∙ is)) refl
 
 pub effect-of-spec : {M : Type 1} → statement M
 effect-of-spec =

@@ -1,6 +1,7 @@
--- From the effect.
+-- An undeclared local, or by what the instruction takes and leaves.
+use mathlib.Core.Path.{refl}
+use Rattle.checker.proofs.Effects.{same-dead, gives-local, gives-applies}
 use borrow.Author.Needs.{needs}
-use Rattle.checker.proofs.Effects.{judges-local, judges-applies}
 use Rattle.checker.proofs.typing.judge.Statement.{statement}
 use Rattle.checker.proofs.typing.judge.Tie as tie
 
@@ -11,7 +12,7 @@ same-length : tie.Need-same-length
 same-length c = search needs
 
 returns : tie.Need-returns
-returns c v ls κs row other h g = judges-local (c .before .effect-of .ensures v ls κs row other h g) (c .if1 .taken)
+returns c = ((λ v ls outer f row o h t. gives-local (c .before .effect-of .ensures v ls outer f row o h (same-dead t)) (c .if1 .taken)), λ z. refl)
 
 apply-requires : tie.Need-apply-requires
 apply-requires c κs = search needs
@@ -20,8 +21,11 @@ same-length-2 : tie.Need-same-length-2
 same-length-2 c = search needs
 
 returns-2 : tie.Need-returns-2
-returns-2 c v ls κs row other h g =
-    judges-applies (c .before .before .before .before .before .effect-of .ensures v ls κs row other h g) (c .before .before .before .before .if1 .left) (λ ins outs small is. c .before .before .apply .ensures κs ins outs g small is)
+returns-2 c = (
+  (λ v ls outer f row o h t.
+      gives-applies (c .before .before .before .before .before .effect-of .ensures v ls outer f row o h (same-dead t)) (c .before .before .before .before .if1 .left) (λ ins outs small is. c .before .before .apply .ensures .0 outer ins outs f t small is)),
+  c .before .before .apply .ensures .1,
+)
 
 pub judge-spec : {M : Type 1} → statement M
 judge-spec =

@@ -6,7 +6,7 @@ use native.Mathlib.Omega.{arith}
 use Rattle.opcode.specs.Number.{rowOf}
 use Rattle.opcode.proofs.Classes.{row-moved-small}
 use Rattle.opcode.proofs.Entries.{class-in, moved-in, lanes-in}
-use Rattle.instr.proofs.Classes.{fault-memory, fault-memory-lane, fault-lane-memory, no-fault-lane, fault-lane, fault-lanes, fault-float, fault-unassigned, AllBut, judged, fault-other}
+use Rattle.instr.proofs.Classes.{fault-memory, fault-memory-lane, fault-lane-memory, no-fault-lane, fault-lane, fault-block, fault-lanes, fault-float, fault-unassigned, AllBut, judged, fault-other}
 use Rattle.instr.proofs.encoding.fault_of.Statement.{statement}
 use Rattle.instr.proofs.encoding.fault_of.Tie as tie
 
@@ -46,6 +46,9 @@ lanes-requires-2 c κs = search needs
 
 all-lanes-requires : tie.Need-all-lanes-requires
 all-lanes-requires c κs = search needs
+
+is-block-type-requires : tie.Need-is-block-type-requires
+is-block-type-requires c κs = search needs
 
 returns : tie.Need-returns
 returns c =
@@ -92,16 +95,28 @@ returns-7 c =
 
 returns-8 : tie.Need-returns-8
 returns-8 c =
-    let r = rowOf (c .before .before .before .args .id) in
-    sym (fault-float r (sym (c .before .immediates .ensures ∙ class-in r (c .before .before .entry .ensures)) ∙ c .match .keys5) (c .before .before .before .args .i))
+    let r = rowOf (c .before .before .before .before .before .args .id) in
+    let class = sym (c .before .before .before .immediates .ensures ∙ class-in r (c .before .before .before .before .entry .ensures)) in
+    fault-block r (c .before .before .before .before .before .args .i) true (sym (c .if4 .taken) ∙ c .before .is-block-type .ensures) (class ∙ c .before .before .match .keys5)
 
 returns-9 : tie.Need-returns-9
 returns-9 c =
-    let r = rowOf (c .before .before .before .args .id) in
-    sym (fault-unassigned r (sym (c .before .immediates .ensures ∙ class-in r (c .before .before .entry .ensures)) ∙ c .match .keys6) (c .before .before .before .args .i))
+    let r = rowOf (c .before .before .before .before .before .args .id) in
+    let class = sym (c .before .before .before .immediates .ensures ∙ class-in r (c .before .before .before .before .entry .ensures)) in
+    fault-block r (c .before .before .before .before .before .args .i) false (sym (c .if4 .left) ∙ c .before .is-block-type .ensures) (class ∙ c .before .before .match .keys5)
 
 returns-10 : tie.Need-returns-10
 returns-10 c =
+    let r = rowOf (c .before .before .before .args .id) in
+    sym (fault-float r (sym (c .before .immediates .ensures ∙ class-in r (c .before .before .entry .ensures)) ∙ c .match .keys6) (c .before .before .before .args .i))
+
+returns-11 : tie.Need-returns-11
+returns-11 c =
+    let r = rowOf (c .before .before .before .args .id) in
+    sym (fault-unassigned r (sym (c .before .immediates .ensures ∙ class-in r (c .before .before .entry .ensures)) ∙ c .match .keys7) (c .before .before .before .args .i))
+
+returns-12 : tie.Need-returns-12
+returns-12 c =
     let r = rowOf (c .before .before .before .args .id) in
     sym (fault-other r (subst (AllBut judged) (c .before .immediates .ensures ∙ class-in r (c .before .before .entry .ensures)) (c .match .rest)) (c .before .before .before .args .i))
 
@@ -120,6 +135,7 @@ fault-of-spec =
     wide-requires-2
     lanes-requires-2
     all-lanes-requires
+    is-block-type-requires
     returns
     returns-2
     returns-3
@@ -129,4 +145,6 @@ fault-of-spec =
     returns-7
     returns-8
     returns-9
-    returns-10)
+    returns-10
+    returns-11
+    returns-12)

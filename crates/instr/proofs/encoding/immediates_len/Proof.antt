@@ -8,10 +8,11 @@ use native.Mathlib.Omega.{arith}
 use lib.ListN.{length, length-append}
 use Rattle.leb128.specs.Shortest.{bytesOf}
 use Rattle.leb128.proofs.Bounds.{form-32, form-64}
+use Rattle.opcode.specs.Table.{latest}
 use Rattle.instr.specs.Layout.{Field, rowIn}
 use Rattle.instr.specs.Encode.{written}
 use Rattle.instr.proofs.Classes.{AllBut, carrying, fields-other}
-use Rattle.instr.proofs.Forms.{bytes-index, bytes-word, bytes-long, bytes-memory, bytes-memory-lane, bytes-lane, bytes-sixteen}
+use Rattle.instr.proofs.Forms.{bytes-index, bytes-word, bytes-long, bytes-memory, bytes-memory-lane, bytes-lane, bytes-block, bytes-sixteen}
 use Rattle.instr.proofs.encoding.immediates_len.Statement.{statement}
 use Rattle.instr.proofs.encoding.immediates_len.Tie as tie
 
@@ -75,21 +76,21 @@ add-result-3 c =
 returns : tie.Need-returns
 returns c =
     let start = c .before .before in (
-      omega (arith, ap length (bytes-index (rowIn (start .args .i)) (start .args .i) (sym (start .pre) ∙ c .before .match .keys1)), c .len-u32 .ensures .answer),
+      omega (arith, ap length (bytes-index (rowIn latest (start .args .i)) (start .args .i) (sym (start .pre) ∙ c .before .match .keys1)), c .len-u32 .ensures .answer),
       omega (arith, c .len-u32 .ensures .answer, form-32 false (start .args .i .index) (search needs)),
     )
 
 returns-2 : tie.Need-returns-2
 returns-2 c =
     let start = c .before .before in (
-      omega (arith, ap length (bytes-word (rowIn (start .args .i)) (start .args .i) (sym (start .pre) ∙ c .before .match .keys2)), c .len-s32 .ensures .answer),
+      omega (arith, ap length (bytes-word (rowIn latest (start .args .i)) (start .args .i) (sym (start .pre) ∙ c .before .match .keys2)), c .len-s32 .ensures .answer),
       omega (arith, c .len-s32 .ensures .answer, form-32 true (start .args .i .word) (search needs)),
     )
 
 returns-3 : tie.Need-returns-3
 returns-3 c =
     let start = c .before .before in (
-      omega (arith, ap length (bytes-long (rowIn (start .args .i)) (start .args .i) (sym (start .pre) ∙ c .before .match .keys3)), c .len-s64 .ensures .answer),
+      omega (arith, ap length (bytes-long (rowIn latest (start .args .i)) (start .args .i) (sym (start .pre) ∙ c .before .match .keys3)), c .len-s64 .ensures .answer),
       omega (arith, c .len-s64 .ensures .answer, form-64 true (start .args .i .long) (search needs)),
     )
 
@@ -98,7 +99,7 @@ returns-4 c =
     let start = c .before .before .before in (
       omega (
         arith,
-        ap length (bytes-memory (rowIn (start .args .i)) (start .args .i) (sym (start .pre) ∙ c .before .before .match .keys4)),
+        ap length (bytes-memory (rowIn latest (start .args .i)) (start .args .i) (sym (start .pre) ∙ c .before .before .match .keys4)),
         length-append
             (bytesOf false 32 (start .args .i .align)) (bytesOf false 32 (start .args .i .offset)),
         c .before .len-u322 .ensures .answer,
@@ -119,7 +120,7 @@ returns-5 c =
     let start = c .before .before .before in (
       omega (
         arith,
-        simp length-append at (ap length (bytes-memory-lane (rowIn (start .args .i)) (start .args .i)
+        simp length-append at (ap length (bytes-memory-lane (rowIn latest (start .args .i)) (start .args .i)
             (sym (start .pre) ∙ c .before .before .match .keys5))),
         c .before .len-u324 .ensures .answer,
         c .len-u325 .ensures .answer,
@@ -135,20 +136,23 @@ returns-5 c =
     )
 
 returns-6 : tie.Need-returns-6
-returns-6 c = (omega (arith, ap length (bytes-lane (rowIn (c .before .args .i)) (c .before .args .i) (sym (c .before .pre) ∙ c .match .keys6))), omega arith)
+returns-6 c = (omega (arith, ap length (bytes-lane (rowIn latest (c .before .args .i)) (c .before .args .i) (sym (c .before .pre) ∙ c .match .keys6))), omega arith)
 
 returns-7 : tie.Need-returns-7
 returns-7 c = let l : length (c .before .args .i .bytes) ≡ 16 = search needs in
-    (omega (arith, ap length (bytes-sixteen (rowIn (c .before .args .i)) (c .before .args .i) (inl (sym (c .before .pre) ∙ c .match .keys7))), l), omega arith)
+    (omega (arith, ap length (bytes-sixteen (rowIn latest (c .before .args .i)) (c .before .args .i) (inl (sym (c .before .pre) ∙ c .match .keys7))), l), omega arith)
 
 returns-8 : tie.Need-returns-8
 returns-8 c = let l : length (c .before .args .i .bytes) ≡ 16 = search needs in
-    (omega (arith, ap length (bytes-sixteen (rowIn (c .before .args .i)) (c .before .args .i) (inr (sym (c .before .pre) ∙ c .match .keys8))), l), omega arith)
+    (omega (arith, ap length (bytes-sixteen (rowIn latest (c .before .args .i)) (c .before .args .i) (inr (sym (c .before .pre) ∙ c .match .keys8))), l), omega arith)
 
 returns-9 : tie.Need-returns-9
-returns-9 c = (
+returns-9 c = (omega (arith, ap length (bytes-block (rowIn latest (c .before .args .i)) (c .before .args .i) (sym (c .before .pre) ∙ c .match .keys9))), omega arith)
+
+returns-10 : tie.Need-returns-10
+returns-10 c = (
   sym (ap (λ (fs : List Field). length (written fs))
-      (fields-other (rowIn (c .before .args .i)) (subst (AllBut carrying) (c .before .pre) (c .match .rest)) (c .before .args .i))),
+      (fields-other (rowIn latest (c .before .args .i)) (subst (AllBut carrying) (c .before .pre) (c .match .rest)) (c .before .args .i))),
   omega arith,
 )
 
@@ -174,4 +178,5 @@ immediates-len-spec =
     returns-6
     returns-7
     returns-8
-    returns-9)
+    returns-9
+    returns-10)

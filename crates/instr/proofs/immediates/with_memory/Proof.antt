@@ -3,7 +3,7 @@ use borrow.Author.Needs.{needs}
 use mathlib.Core.Path.{sym, ap, _∙_}
 use native.Mathlib.Omega.{arith}
 use borrow.Author.Tests.{not-true, not-false}
-use Rattle.instr.specs.Inner.Version.{item}
+use Rattle.instr.specs.Inner.Steps.{item}
 use Rattle.instr.proofs.Numbers.{number-32, exponent-good, exponent-bad, exponent-none}
 use Rattle.instr.proofs.Memory.{no-exponent, no-offset, no-lane, a-lane}
 use Rattle.instr.proofs.immediates.with_memory.Statement.{statement}
@@ -21,7 +21,7 @@ cast-align c =
     let at-u32-at = c .before .before .before in
     omega (
       arith,
-      number-32 _ _ _ _ (λ j. at-shared-slice-known .shared-slice-known .given j .fits) _ _ (sym (at-u32-at .u32-at .ensures) ∙ ap item (c .before .a .given .1)),
+      number-32 _ _ _ (λ j. at-shared-slice-known .shared-slice-known .given j .fits) _ _ (sym (at-u32-at .u32-at .ensures) ∙ ap item (c .before .a .given .1)),
     )
 
 exponent-fits-requires : tie.Need-exponent-fits-requires
@@ -35,8 +35,8 @@ returns c =
     let start = c .before .before .before .before .before .before .before .before in
     let at-u32-at = c .before .before .before .before .before .before in
     let at-a = c .before .before .before .before in
-    c .refused .ensures ∙ sym (no-exponent _ _ _ _ _ _ _ (start .args .laned) _ _
-    (exponent-bad _ _ _ _ _ _ (sym (at-u32-at .u32-at .ensures) ∙ ap item (at-a .a .given .1))
+    c .refused .ensures ∙ sym (no-exponent _ _ _ _ _ _ (start .args .laned) _ _
+    (exponent-bad _ _ _ _ _ (sym (at-u32-at .u32-at .ensures) ∙ ap item (at-a .a .given .1))
     (sym (c .before .before .exponent-fits .ensures) ∙ not-true (c .before .before .exponent-fits .result) (c .before .if1 .taken))))
 
 u32-at-requires-2 : tie.Need-u32-at-requires-2
@@ -51,7 +51,7 @@ cast-offset c =
     let at-u32-at2 = c .before .before .before in
     omega (
       arith,
-      number-32 _ _ _ _ (λ j. at-shared-slice-known .shared-slice-known .given j .fits) _ _ (sym (at-u32-at2 .u32-at2 .ensures) ∙ ap item (c .before .o .given .1)),
+      number-32 _ _ _ (λ j. at-shared-slice-known .shared-slice-known .given j .fits) _ _ (sym (at-u32-at2 .u32-at2 .ensures) ∙ ap item (c .before .o .given .1)),
     )
 
 with-lane-requires : tie.Need-with-lane-requires
@@ -64,8 +64,8 @@ with-lane-requires c κs =
     omega (
       arith,
       start .pre .0,
-      number-32 _ _ _ _ (λ j. at-shared-slice-known .shared-slice-known .given j .fits) _ _ (sym (at-u32-at .u32-at .ensures) ∙ ap item (at-a .a .given .1)),
-      number-32 _ _ _ _ (λ j. at-shared-slice-known .shared-slice-known .given j .fits) _ _ (sym (at-u32-at2 .u32-at2 .ensures) ∙ ap item (c .before .before .o .given .1)),
+      number-32 _ _ _ (λ j. at-shared-slice-known .shared-slice-known .given j .fits) _ _ (sym (at-u32-at .u32-at .ensures) ∙ ap item (at-a .a .given .1)),
+      number-32 _ _ _ (λ j. at-shared-slice-known .shared-slice-known .given j .fits) _ _ (sym (at-u32-at2 .u32-at2 .ensures) ∙ ap item (c .before .before .o .given .1)),
     )
 
 whole-requires : tie.Need-whole-requires
@@ -78,8 +78,8 @@ whole-requires c κs =
     omega (
       arith,
       start .pre .0,
-      number-32 _ _ _ _ (λ j. at-shared-slice-known .shared-slice-known .given j .fits) _ _ (sym (at-u32-at .u32-at .ensures) ∙ ap item (at-a .a .given .1)),
-      number-32 _ _ _ _ (λ j. at-shared-slice-known .shared-slice-known .given j .fits) _ _ (sym (at-u32-at2 .u32-at2 .ensures) ∙ ap item (c .before .before .o .given .1)),
+      number-32 _ _ _ (λ j. at-shared-slice-known .shared-slice-known .given j .fits) _ _ (sym (at-u32-at .u32-at .ensures) ∙ ap item (at-a .a .given .1)),
+      number-32 _ _ _ (λ j. at-shared-slice-known .shared-slice-known .given j .fits) _ _ (sym (at-u32-at2 .u32-at2 .ensures) ∙ ap item (c .before .before .o .given .1)),
     )
 
 enum-known-code : tie.Need-enum-known-code
@@ -103,8 +103,8 @@ returns-2 c =
     let at-if1 = c .before .before .before .before .before .before in
     let at-u32-at2 = c .before .before .before .before .before in
     let at-o = c .before .before .before in
-    c .with-lane .ensures ∙ sym (a-lane _ _ _ _ _ _ _ _ _
-    (exponent-good _ _ _ _ _ _ (sym (at-u32-at .u32-at .ensures) ∙ ap item (at-a .a .given .1))
+    c .with-lane .ensures ∙ sym (a-lane _ _ _ _ _ _ _ _
+    (exponent-good _ _ _ _ _ (sym (at-u32-at .u32-at .ensures) ∙ ap item (at-a .a .given .1))
     (sym (at-exponent-fits .exponent-fits .ensures) ∙ not-false (at-exponent-fits .exponent-fits .result) (at-if1 .if1 .left))) _ _
     (sym (at-u32-at2 .u32-at2 .ensures) ∙ ap item (at-o .o .given .1)) (start .args .laned) (c .before .if2 .taken))
 
@@ -117,8 +117,8 @@ returns-3 c =
     let at-if1 = c .before .before .before .before .before .before in
     let at-u32-at2 = c .before .before .before .before .before in
     let at-o = c .before .before .before in
-    c .whole .ensures ∙ sym (no-lane _ _ (start .args .lanes) _ _ _ _ _ _
-    (exponent-good _ _ _ _ _ _ (sym (at-u32-at .u32-at .ensures) ∙ ap item (at-a .a .given .1))
+    c .whole .ensures ∙ sym (no-lane _ (start .args .lanes) _ _ _ _ _ _
+    (exponent-good _ _ _ _ _ (sym (at-u32-at .u32-at .ensures) ∙ ap item (at-a .a .given .1))
     (sym (at-exponent-fits .exponent-fits .ensures) ∙ not-false (at-exponent-fits .exponent-fits .result) (at-if1 .if1 .left))) _ _
     (sym (at-u32-at2 .u32-at2 .ensures) ∙ ap item (at-o .o .given .1)) (start .args .laned) (c .before .if2 .left))
 
@@ -130,8 +130,8 @@ returns-4 c =
     let at-exponent-fits = c .before .before .before .before .before .before in
     let at-if1 = c .before .before .before .before .before in
     let at-u32-at2 = c .before .before .before .before in
-    c .refused2 .ensures ∙ sym (no-offset _ _ _ _ _ _ _ _ _
-    (exponent-good _ _ _ _ _ _ (sym (at-u32-at .u32-at .ensures) ∙ ap item (at-a .a .given .1))
+    c .refused2 .ensures ∙ sym (no-offset _ _ _ _ _ _ _ _
+    (exponent-good _ _ _ _ _ (sym (at-u32-at .u32-at .ensures) ∙ ap item (at-a .a .given .1))
     (sym (at-exponent-fits .exponent-fits .ensures) ∙ not-false (at-exponent-fits .exponent-fits .result) (at-if1 .if1 .left))) (start .args .laned) _ _
     (sym (at-u32-at2 .u32-at2 .ensures) ∙ ap item (c .before .before .code .given .1)))
 
@@ -139,8 +139,8 @@ returns-5 : tie.Need-returns-5
 returns-5 c =
     let start = c .before .before .before .before .before .before in
     let at-u32-at = c .before .before .before .before in
-    c .refused3 .ensures ∙ sym (no-exponent _ _ _ _ _ _ _ (start .args .laned) _ _
-    (exponent-none _ _ _ _ _ _ (sym (at-u32-at .u32-at .ensures) ∙ ap item (c .before .before .code2 .given .1))))
+    c .refused3 .ensures ∙ sym (no-exponent _ _ _ _ _ _ (start .args .laned) _ _
+    (exponent-none _ _ _ _ _ (sym (at-u32-at .u32-at .ensures) ∙ ap item (c .before .before .code2 .given .1))))
 
 pub with-memory-spec : {M : Type 1} → statement M
 with-memory-spec =

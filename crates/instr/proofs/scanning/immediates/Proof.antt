@@ -1,7 +1,7 @@
 -- Each class has its function; the class is the row's.
 use borrow.Author.Needs.{needs}
 use mathlib.Core.Path.{sym, ap, _∙_}
-use Rattle.opcode.specs.Immediate.{nothing, index, word, long, laneIndex, sixteenBytes, sixteenLanes}
+use Rattle.opcode.specs.Immediate.{nothing, index, blockType, word, long, laneIndex, sixteenBytes, sixteenLanes}
 use Rattle.opcode.proofs.Entries.{class-in, moved-in, lanes-in}
 use Rattle.instr.specs.Inner.Over.{over, overClass}
 use Rattle.instr.proofs.Over.{over-class, over-float, over-none, over-memory}
@@ -38,6 +38,9 @@ bytes-requires c κs = search needs
 lanes-requires-2 : tie.Need-lanes-requires-2
 lanes-requires-2 c κs = search needs
 
+block-requires : tie.Need-block-requires
+block-requires c κs = search needs
+
 moved-requires : tie.Need-moved-requires
 moved-requires c κs = search needs
 
@@ -49,42 +52,46 @@ memory-requires c κs = search needs
 
 returns : tie.Need-returns
 unfolding overClass
-returns c row is = sym (over-class _ _ _ _ _ nothing (sym (c .before .immediates .ensures ∙ class-in row is) ∙ c .match .keys1))
+returns c row is = sym (over-class _ _ _ _ nothing (sym (c .before .immediates .ensures ∙ class-in row is) ∙ c .match .keys1))
 
 returns-2 : tie.Need-returns-2
 unfolding overClass
-returns-2 c row is = c .u32-at .ensures ∙ sym (over-class _ _ _ _ _ index (sym (c .before .before .immediates .ensures ∙ class-in row is) ∙ c .before .match .keys2))
+returns-2 c row is = c .u32-at .ensures ∙ sym (over-class _ _ _ _ index (sym (c .before .before .immediates .ensures ∙ class-in row is) ∙ c .before .match .keys2))
 
 returns-3 : tie.Need-returns-3
 unfolding overClass
-returns-3 c row is = c .past .ensures ∙ ap over (c .before .s32-at .ensures) ∙ sym (over-class _ _ _ _ _ word (sym (c .before .before .before .immediates .ensures ∙ class-in row is) ∙ c .before .before .match .keys3))
+returns-3 c row is = c .past .ensures ∙ ap over (c .before .s32-at .ensures) ∙ sym (over-class _ _ _ _ word (sym (c .before .before .before .immediates .ensures ∙ class-in row is) ∙ c .before .before .match .keys3))
 
 returns-4 : tie.Need-returns-4
 unfolding overClass
-returns-4 c row is = c .past2 .ensures ∙ ap over (c .before .s64-at .ensures) ∙ sym (over-class _ _ _ _ _ long (sym (c .before .before .before .immediates .ensures ∙ class-in row is) ∙ c .before .before .match .keys4))
+returns-4 c row is = c .past2 .ensures ∙ ap over (c .before .s64-at .ensures) ∙ sym (over-class _ _ _ _ long (sym (c .before .before .before .immediates .ensures ∙ class-in row is) ∙ c .before .before .match .keys4))
 
 returns-5 : tie.Need-returns-5
 unfolding overClass
-returns-5 c row is = rw (c .before .lanes .ensures ∙ lanes-in row is) at (c .lane .ensures) ∙ sym (over-class _ _ _ _ _ laneIndex (sym (c .before .before .before .immediates .ensures ∙ class-in row is) ∙ c .before .before .match .keys5))
+returns-5 c row is = rw (c .before .lanes .ensures ∙ lanes-in row is) at (c .lane .ensures) ∙ sym (over-class _ _ _ _ laneIndex (sym (c .before .before .before .immediates .ensures ∙ class-in row is) ∙ c .before .before .match .keys5))
 
 returns-6 : tie.Need-returns-6
 unfolding overClass
-returns-6 c row is = c .bytes .ensures ∙ sym (over-class _ _ _ _ _ sixteenBytes (sym (c .before .before .immediates .ensures ∙ class-in row is) ∙ c .before .match .keys6))
+returns-6 c row is = c .bytes .ensures ∙ sym (over-class _ _ _ _ sixteenBytes (sym (c .before .before .immediates .ensures ∙ class-in row is) ∙ c .before .match .keys6))
 
 returns-7 : tie.Need-returns-7
 unfolding overClass
-returns-7 c row is = c .lanes2 .ensures ∙ sym (over-class _ _ _ _ _ sixteenLanes (sym (c .before .before .immediates .ensures ∙ class-in row is) ∙ c .before .match .keys7))
+returns-7 c row is = c .lanes2 .ensures ∙ sym (over-class _ _ _ _ sixteenLanes (sym (c .before .before .immediates .ensures ∙ class-in row is) ∙ c .before .match .keys7))
 
 returns-8 : tie.Need-returns-8
-returns-8 c row is = sym (over-float _ _ _ _ _ (sym (c .before .immediates .ensures ∙ class-in row is) ∙ c .match .keys8))
+unfolding overClass
+returns-8 c row is = c .block .ensures ∙ sym (over-class _ _ _ _ blockType (sym (c .before .before .immediates .ensures ∙ class-in row is) ∙ c .before .match .keys8))
 
 returns-9 : tie.Need-returns-9
-returns-9 c row is =
-    rw (c .before .before .moved .ensures ∙ moved-in row is, c .before .lanes3 .ensures ∙ lanes-in row is) at (c .memory .ensures)
-    ∙ sym (over-memory _ _ _ _ _ _ (c .before .before .before .before .before .immediates .ensures ∙ class-in row is) (c .before .before .before .before .match .rest) (c .before .before .before .if1 .taken))
+returns-9 c row is = sym (over-float _ _ _ _ (sym (c .before .immediates .ensures ∙ class-in row is) ∙ c .match .keys9))
 
 returns-10 : tie.Need-returns-10
-returns-10 c row is = sym (over-none _ _ _ _ _ _ (c .before .before .immediates .ensures ∙ class-in row is) (c .before .match .rest) (c .if1 .left))
+returns-10 c row is =
+    rw (c .before .before .moved .ensures ∙ moved-in row is, c .before .lanes3 .ensures ∙ lanes-in row is) at (c .memory .ensures)
+    ∙ sym (over-memory _ _ _ _ _ (c .before .before .before .before .before .immediates .ensures ∙ class-in row is) (c .before .before .before .before .match .rest) (c .before .before .before .if1 .taken))
+
+returns-11 : tie.Need-returns-11
+returns-11 c row is = sym (over-none _ _ _ _ _ (c .before .before .immediates .ensures ∙ class-in row is) (c .before .match .rest) (c .if1 .left))
 
 pub immediates-spec : {M : Type 1} → statement M
 immediates-spec =
@@ -100,6 +107,7 @@ immediates-spec =
     lane-requires
     bytes-requires
     lanes-requires-2
+    block-requires
     moved-requires
     lanes-requires-3
     memory-requires
@@ -112,4 +120,5 @@ immediates-spec =
     returns-7
     returns-8
     returns-9
-    returns-10)
+    returns-10
+    returns-11)

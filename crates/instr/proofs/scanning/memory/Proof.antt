@@ -3,7 +3,7 @@ use borrow.Author.Needs.{needs}
 use mathlib.Core.Path.{sym, ap, _∙_}
 use native.Mathlib.Omega.{arith}
 use borrow.Author.Tests.{not-true, not-false}
-use Rattle.instr.specs.Inner.Version.{item}
+use Rattle.instr.specs.Inner.Steps.{item}
 use Rattle.instr.specs.Inner.Over.{overMemory}
 use Rattle.instr.proofs.Numbers.{number-32, exponent-good, exponent-bad, exponent-none}
 use Rattle.instr.proofs.scanning.memory.Statement.{statement}
@@ -19,7 +19,7 @@ cast-exponent-fits : tie.Need-cast-exponent-fits
 cast-exponent-fits c =
     omega (
       arith,
-      number-32 _ _ _ _ (λ j. c .before .before .before .before .shared-slice-known .given j .fits) _ _ (sym (c .before .before .before .u32-at .ensures) ∙ ap item (c .before .a .given .1)),
+      number-32 _ _ _ (λ j. c .before .before .before .before .shared-slice-known .given j .fits) _ _ (sym (c .before .before .before .u32-at .ensures) ∙ ap item (c .before .a .given .1)),
     )
 
 exponent-fits-requires : tie.Need-exponent-fits-requires
@@ -30,7 +30,7 @@ unfolding overMemory
 returns c =
     let f = c .before .exponent-fits in
     let exponent = sym (c .before .before .before .before .before .u32-at .ensures) ∙ ap item (c .before .before .before .a .given .1) in
-    rw (exponent-bad _ _ _ _ _ _ exponent (sym (f .ensures) ∙ not-true (f .result) (c .if1 .taken)))
+    rw (exponent-bad _ _ _ _ _ exponent (sym (f .ensures) ∙ not-true (f .result) (c .if1 .taken)))
 
 u32-at-requires-2 : tie.Need-u32-at-requires-2
 u32-at-requires-2 c κs = search needs
@@ -53,7 +53,7 @@ returns-2 c =
     let f = c .before .before .before .before .before .before .before .exponent-fits in
     let exponent = sym (c .before .before .before .before .before .before .before .before .before .before .before .u32-at .ensures) ∙ ap item (c .before .before .before .before .before .before .before .before .before .a .given .1) in
     let offset = sym (c .before .before .before .before .before .u32-at2 .ensures) ∙ ap item (c .before .before .before .o .given .1) in
-    rw (exponent-good _ _ _ _ _ _ exponent (sym (f .ensures) ∙ not-false (f .result) (c .before .before .before .before .before .before .if1 .left)), offset, c .before .if2 .taken) (c .lane .ensures)
+    rw (exponent-good _ _ _ _ _ exponent (sym (f .ensures) ∙ not-false (f .result) (c .before .before .before .before .before .before .if1 .left)), offset, c .before .if2 .taken) (c .lane .ensures)
 
 returns-3 : tie.Need-returns-3
 unfolding overMemory
@@ -61,7 +61,7 @@ returns-3 c =
     let f = c .before .before .before .before .before .before .exponent-fits in
     let exponent = sym (c .before .before .before .before .before .before .before .before .before .before .u32-at .ensures) ∙ ap item (c .before .before .before .before .before .before .before .before .a .given .1) in
     let offset = sym (c .before .before .before .before .u32-at2 .ensures) ∙ ap item (c .before .before .o .given .1) in
-    rw (exponent-good _ _ _ _ _ _ exponent (sym (f .ensures) ∙ not-false (f .result) (c .before .before .before .before .before .if1 .left)), offset, c .if2 .left)
+    rw (exponent-good _ _ _ _ _ exponent (sym (f .ensures) ∙ not-false (f .result) (c .before .before .before .before .before .if1 .left)), offset, c .if2 .left)
 
 returns-4 : tie.Need-returns-4
 unfolding overMemory
@@ -69,12 +69,12 @@ returns-4 c =
     let f = c .before .before .before .before .before .exponent-fits in
     let exponent = sym (c .before .before .before .before .before .before .before .before .before .u32-at .ensures) ∙ ap item (c .before .before .before .before .before .before .before .a .given .1) in
     let offset = sym (c .before .before .before .u32-at2 .ensures) ∙ ap item (c .before .code .given .1) in
-    rw (exponent-good _ _ _ _ _ _ exponent (sym (f .ensures) ∙ not-false (f .result) (c .before .before .before .before .if1 .left)), offset)
+    rw (exponent-good _ _ _ _ _ exponent (sym (f .ensures) ∙ not-false (f .result) (c .before .before .before .before .if1 .left)), offset)
 
 returns-5 : tie.Need-returns-5
 unfolding overMemory
 returns-5 c =
-    rw (exponent-none _ (c .before .before .before .before .before .args .moved) _ _ _ _ (sym (c .before .before .before .u32-at .ensures) ∙ ap item (c .before .code2 .given .1)))
+    rw (exponent-none (c .before .before .before .before .before .args .moved) _ _ _ _ (sym (c .before .before .before .u32-at .ensures) ∙ ap item (c .before .code2 .given .1)))
 
 pub memory-spec : {M : Type 1} → statement M
 memory-spec =

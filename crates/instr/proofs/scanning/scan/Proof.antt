@@ -1,18 +1,142 @@
--- By the rules of version 1.
-use borrow.Author.Needs.{needs}
-use mathlib.Core.Path.{ap, _∙_}
+-- The version, the first byte, the number, the immediates.
+use mathlib.Core.Path.{sym, ap, _∙_}
+use native.Mathlib.Omega.{arith}
+use denote.Ref.{now}
+use Rattle.opcode.specs.Entry.{entryOf}
+use Rattle.opcode.proofs.Classes.{row-moved-small}
+use Rattle.opcode.proofs.Entries.{moved-in}
 use Rattle.instr.specs.Scan.{scanOf}
-use Rattle.instr.proofs.Versions.{decode-one}
+use Rattle.instr.specs.Inner.Steps.{item}
+use Rattle.instr.proofs.Versions.{decode-known, decode-unknown, it-is}
+use Rattle.instr.proofs.Items.{decode-cut, decode-number}
+use Rattle.instr.proofs.Numbers.{opcode-there}
+use Rattle.instr.proofs.Over.{over-there, scanned}
+use borrow.Author.Needs.{needs}
 use Rattle.instr.proofs.scanning.scan.Statement.{statement}
 use Rattle.instr.proofs.scanning.scan.Tie as tie
+use Rattle.instr.proofs.scanning.scan.Reads as reads
+use Rattle.instr.proofs.scanning.scan.Lts as lts
+use Rattle.instr.proofs.decoding.opcode_number.Reads as opcode-number-reads
+use Rattle.instr.proofs.entry_in.Reads as entry-in-reads
+use Rattle.instr.proofs.scanning.immediates.Reads as immediates-reads
+use Rattle.instr.proofs.scanning.refused.Reads as refused-reads
+use Rattle.opcode.proofs.is_known.Reads as is-known-reads
 
-scan-by-requires : tie.Need-scan-by-requires
-scan-by-requires c κs = search needs
+is-known-requires : tie.Need-is-known-requires
+is-known-requires c κs = search needs
+
+refused-requires : tie.Need-refused-requires
+refused-requires c κs = search needs
 
 returns : tie.Need-returns
-returns c = c .scan-by .ensures ∙ ap scanOf (decode-one _ _)
+returns c = let a = c .before .before .before .before .args in
+    c .refused .ensures ∙ ap scanOf (sym (decode-unknown (a .version) (c .before .before .is-known .ensures) (now (a .s)) (a .at) (c .before .if1 .taken)))
+
+refused-requires-2 : tie.Need-refused-requires-2
+refused-requires-2 c κs = search needs
+
+returns-2 : tie.Need-returns-2
+returns-2 c = let a = c .before .before .before .before .before .args in
+    c .refused2 .ensures ∙ ap scanOf (sym (decode-known (a .version) (c .before .before .before .is-known .ensures) (now (a .s)) (a .at) (c .before .before .if1 .left) ∙ decode-cut _ _ _ (c .before .if2 .taken)))
+
+shared-slice-read-first : tie.Need-shared-slice-read-first
+shared-slice-read-first c = search needs
+
+add-opcode-number : tie.Need-add-opcode-number
+add-opcode-number c = search needs
+
+opcode-number-requires : tie.Need-opcode-number-requires
+opcode-number-requires c κs = search needs
+
+enum-known-n : tie.Need-enum-known-n
+enum-known-n c = search needs
+
+cast-entry-in : tie.Need-cast-entry-in
+cast-entry-in c = omega (
+  arith,
+  opcode-there _ (λ j. c .before .before .before .before .shared-slice-known2 .given j .fits) _ _ _ _ (omega (arith, c .before .before .before .before .before .if2 .left)) (sym (c .before .before .before .opcode-number .ensures) ∙ ap item (c .before .n .given .1)),
+)
+
+entry-in-requires : tie.Need-entry-in-requires
+entry-in-requires c κs = it-is (c .before .before .before .before .before .before .before .before .before .args .version) (c .before .before .before .before .before .before .before .is-known .ensures) (c .before .before .before .before .before .before .if1 .left)
+
+immediates-requires : tie.Need-immediates-requires
+immediates-requires c κs = let t = opcode-there _ (λ j. c .before .before .before .before .before .shared-slice-known2 .given j .fits) _ _ _ _ (omega (arith, c .before .before .before .before .before .before .if2 .left)) (sym (c .before .before .before .before .opcode-number .ensures) ∙ ap item (c .before .before .n .given .1)) in
+    omega (arith, t, moved-in (c .entry-in .ensures .row) (c .entry-in .ensures .entry), row-moved-small (c .entry-in .ensures .row))
+
+enum-known-immediate : tie.Need-enum-known-immediate
+enum-known-immediate c = search needs
+
+sub-t25 : tie.Need-sub-t25
+sub-t25 c = let known = c .before .before .before .before .before .before .before .before .before .shared-slice-known2 in
+    let number = sym (c .before .before .before .before .before .before .before .before .opcode-number .ensures) ∙ ap item (c .before .before .before .before .before .before .n .given .1) in
+    let rest = sym (c .before .before .before .immediates .ensures (c .before .before .before .before .entry-in .ensures .row) (c .before .before .before .before .entry-in .ensures .entry)) ∙ ap item (c .before .immediate .given .1) in
+    let there = opcode-there _ (λ j. known .given j .fits) _ _ _ _ (omega (arith, c .before .before .before .before .before .before .before .before .before .before .if2 .left)) number in
+    omega (arith, over-there _ _ (λ j. known .given j .fits) _ (omega (arith, there)) _ _ _ rest)
+
+cast-t26 : tie.Need-cast-t26
+cast-t26 c = let known = c .before .before .before .before .before .before .before .before .before .shared-slice-known2 in
+    let number = sym (c .before .before .before .before .before .before .before .before .opcode-number .ensures) ∙ ap item (c .before .before .before .before .before .before .n .given .1) in
+    let rest = sym (c .before .before .before .immediates .ensures (c .before .before .before .before .entry-in .ensures .row) (c .before .before .before .before .entry-in .ensures .entry)) ∙ ap item (c .before .immediate .given .1) in
+    let there = opcode-there _ (λ j. known .given j .fits) _ _ _ _ (omega (arith, c .before .before .before .before .before .before .before .before .before .before .if2 .left)) number in
+    omega (arith, over-there _ _ (λ j. known .given j .fits) _ (omega (arith, there)) _ _ _ rest)
+
+enum-known-code : tie.Need-enum-known-code
+enum-known-code c = search needs
+
+refused-requires-3 : tie.Need-refused-requires-3
+refused-requires-3 c κs = search needs
+
+enum-known-code-2 : tie.Need-enum-known-code-2
+enum-known-code-2 c = search needs
+
+refused-requires-4 : tie.Need-refused-requires-4
+refused-requires-4 c κs = search needs
+
+returns-3 : tie.Need-returns-3
+returns-3 c = let a = c .before .before .before .before .before .before .before .before .before .before .before .before .before .before .args in
+    let number = sym (c .before .before .before .before .before .before .before .before .opcode-number .ensures) ∙ ap item (c .before .before .before .before .before .before .n .given .1) in
+    let is = c .before .before .before .before .entry-in .ensures .entry ∙ ap entryOf (c .before .before .before .before .entry-in .ensures .in-version) in
+    let rest = sym (c .before .before .before .immediates .ensures _ is) ∙ ap item (c .before .immediate .given .1) in
+    scanned _ _ _ (c .before .before .before .before .before .before .before .before .before .before .if2 .left) (λ j. c .before .before .before .before .before .before .before .before .before .shared-slice-known2 .given j .fits) _ _ number _ is _ rest
+    ∙ ap scanOf (sym (decode-known (a .version) (c .before .before .before .before .before .before .before .before .before .before .before .before .is-known .ensures) (now (a .s)) (a .at) (c .before .before .before .before .before .before .before .before .before .before .before .if1 .left)))
+
+returns-4 : tie.Need-returns-4
+returns-4 c = let a = c .before .before .before .before .before .before .before .before .before .before .before .before .before .before .before .args in
+    let number = sym (c .before .before .before .before .before .before .before .before .before .opcode-number .ensures) ∙ ap item (c .before .before .before .before .before .before .before .n .given .1) in
+    let is = c .before .before .before .before .before .entry-in .ensures .entry ∙ ap entryOf (c .before .before .before .before .before .entry-in .ensures .in-version) in
+    let rest = sym (c .before .before .before .before .immediates .ensures _ is) ∙ ap item (c .before .before .code .given .1) in
+    c .refused3 .ensures ∙ scanned _ _ _ (c .before .before .before .before .before .before .before .before .before .before .before .if2 .left) (λ j. c .before .before .before .before .before .before .before .before .before .before .shared-slice-known2 .given j .fits) _ _ number _ is _ rest
+    ∙ ap scanOf (sym (decode-known (a .version) (c .before .before .before .before .before .before .before .before .before .before .before .before .before .is-known .ensures) (now (a .s)) (a .at) (c .before .before .before .before .before .before .before .before .before .before .before .before .if1 .left)))
+
+returns-5 : tie.Need-returns-5
+returns-5 c = let a = c .before .before .before .before .before .before .before .before .before .before .args in
+    let number = sym (c .before .before .before .before .opcode-number .ensures) ∙ ap item (c .before .before .code2 .given .1) in
+    c .refused4 .ensures ∙ ap scanOf (sym (decode-known (a .version) (c .before .before .before .before .before .before .before .before .is-known .ensures) (now (a .s)) (a .at) (c .before .before .before .before .before .before .before .if1 .left) ∙ decode-number _ _ _ (c .before .before .before .before .before .before .if2 .left) _ _ number))
 
 pub scan-spec : {M : Type 1} → statement M
 scan-spec =
     tie.close
-    (tie.spec scan-by-requires returns)
+    (tie.spec
+    is-known-requires
+    refused-requires
+    returns
+    refused-requires-2
+    returns-2
+    shared-slice-read-first
+    add-opcode-number
+    opcode-number-requires
+    enum-known-n
+    cast-entry-in
+    entry-in-requires
+    immediates-requires
+    enum-known-immediate
+    sub-t25
+    cast-t26
+    enum-known-code
+    refused-requires-3
+    enum-known-code-2
+    refused-requires-4
+    returns-3
+    returns-4
+    returns-5)

@@ -2,10 +2,11 @@
 use mathlib.Core.Logic.{inl, inr}
 use mathlib.Core.Path.{sym, subst, _∙_}
 use native.Mathlib.Omega.{arith}
+use Rattle.opcode.specs.Table.{latest}
 use Rattle.instr.specs.Layout.{rowIn}
 use Rattle.instr.proofs.Classes.{AllBut, carrying, fields-other}
 use Rattle.listing.proofs.Parts.{adds-same, adds-most, adds-none, adds-both, adds-ends}
-use Rattle.listing.proofs.Shown.{shown-index, shown-word, shown-long, shown-memory, shown-memory-lane, shown-lane, shown-sixteen, shown-none}
+use Rattle.listing.proofs.Shown.{shown-index, shown-word, shown-long, shown-memory, shown-memory-lane, shown-lane, shown-sixteen, shown-block, shown-none}
 use borrow.Author.Needs.{needs}
 use Rattle.listing.proofs.immediates.immediates.Statement.{statement}
 use Rattle.listing.proofs.immediates.immediates.Tie as tie
@@ -64,6 +65,12 @@ bytes-requires c κs = search needs
 bytes-requires-2 : tie.Need-bytes-requires-2
 bytes-requires-2 c κs = search needs
 
+cast-number-8 : tie.Need-cast-number-8
+cast-number-8 c = search needs
+
+number-requires-8 : tie.Need-number-requires-8
+number-requires-8 c κs = search needs
+
 same-length : tie.Need-same-length
 same-length c = search needs
 
@@ -112,8 +119,14 @@ same-length-8 c = search needs
 returns-8 : tie.Need-returns-8
 returns-8 c = adds-same (shown-sixteen (c .before .before .before .before .before .before .before .args .i) (inr (sym (c .before .before .before .before .before .before .before .pre .0) ∙ c .before .before .before .before .before .match .keys8))) (c .before .before .bytes2 .ensures)
 
+same-length-9 : tie.Need-same-length-9
+same-length-9 c = search needs
+
 returns-9 : tie.Need-returns-9
-returns-9 c = adds-most (omega arith) (adds-same (shown-none (c .before .before .args .i) (fields-other (rowIn (c .before .before .args .i)) (subst (AllBut carrying) (c .before .before .pre .0) (c .match .rest)) (c .before .before .args .i))) (adds-none _ _ (omega (arith, c .before .before .pre .1))))
+returns-9 c = adds-most (omega arith) (adds-same (shown-block (c .before .before .before .before .before .before .before .args .i) (sym (c .before .before .before .before .before .before .before .pre .0) ∙ c .before .before .before .before .before .match .keys9)) (c .before .before .number8 .ensures))
+
+returns-10 : tie.Need-returns-10
+returns-10 c = adds-most (omega arith) (adds-same (shown-none (c .before .before .args .i) (fields-other (rowIn latest (c .before .before .args .i)) (subst (AllBut carrying) (c .before .before .pre .0) (c .match .rest)) (c .before .before .args .i))) (adds-none _ _ (omega (arith, c .before .before .pre .1))))
 
 pub immediates-spec : {M : Type 1} → statement M
 immediates-spec =
@@ -137,6 +150,8 @@ immediates-spec =
     number-requires-7
     bytes-requires
     bytes-requires-2
+    cast-number-8
+    number-requires-8
     same-length
     returns
     same-length-2
@@ -153,4 +168,6 @@ immediates-spec =
     returns-7
     same-length-8
     returns-8
-    returns-9)
+    same-length-9
+    returns-9
+    returns-10)

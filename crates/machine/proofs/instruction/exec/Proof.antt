@@ -12,7 +12,7 @@ use Rattle.opcode.proofs.Arms.{anyKey, missed}
 use Rattle.machine.specs.Memory.{part, padded, stored}
 use Rattle.machine.specs.Inner.Flat.{flat, putSlot, topOf, low32}
 use Rattle.machine.specs.Inner.Fit.{Did}
-use Rattle.machine.proofs.Ready.{within, alone, only-end, group-of, moved-of, moved-few, ready, did}
+use Rattle.machine.proofs.Ready.{within, alone, idle, group-of, moved-of, moved-few, ready, did}
 use Rattle.machine.proofs.instruction.exec.Statement.{statement}
 use Rattle.machine.proofs.instruction.exec.Tie as tie
 
@@ -127,6 +127,15 @@ shift-requires c κs = ready (c .before .before .before .before .before .before 
 sub-result-12 : tie.Need-sub-result-12
 sub-result-12 c = ready (c .before .before .before .before .before .before .before .before .before .pre) (c .before .before .before .before .before .group .ensures) (c .before .before .before .before .match .keys22) (λ o row q. omega (arith, q .fit .enough))
 
+eqz-requires : tie.Need-eqz-requires
+eqz-requires c κs = ready (c .before .before .before .before .before .before .pre) (c .before .before .group .ensures) (c .before .match .keys23) (λ row q. (q .fit .enough, q .fit .deep, q .fit .stack-long))
+
+lt-u-requires : tie.Need-lt-u-requires
+lt-u-requires c κs = ready (c .before .before .before .before .before .before .pre) (c .before .before .group .ensures) (c .before .match .keys24) (λ row q. (q .fit .enough, q .fit .deep, q .fit .stack-long))
+
+sub-result-13 : tie.Need-sub-result-13
+sub-result-13 c = ready (c .before .before .before .before .before .before .before .before .before .pre) (c .before .before .before .before .before .group .ensures) (c .before .before .before .before .match .keys24) (λ row q. omega (arith, q .fit .enough))
+
 returns : tie.Need-returns
 returns c = did (c .before .before .before .before .before .pre) (c .before .group .ensures) (c .match .keys1) (λ row q. record { depth = refl; stack = refl; locals = refl; memory = refl })
 
@@ -194,7 +203,13 @@ returns-22 : tie.Need-returns-22
 returns-22 c = did (c .before .before .before .before .before .before .before .before .before .pre) (c .before .before .before .before .before .group .ensures) (c .before .before .before .before .match .keys22) (λ o row q. record { depth = refl; stack = c .before .before .shift .ensures o row; locals = refl; memory = refl })
 
 returns-23 : tie.Need-returns-23
-returns-23 c = let a = c .before .before .before .before .before .args in record { does = λ v row. subst (λ u. Did (flat u (a .i) (a .stack .now) (a .depth) (a .locals .now) (a .mem .now)) (a .depth) (a .stack .now) (a .locals .now) (a .mem .now)) (sym (only-end v (subst (λ (k : ℕ). T (anyKey (alone (1 to 22)) k) → ⊥) (group-of (a .id) (c .before .before .before .before .before .pre .0) (c .before .group .ensures) v row) (missed (Unit {0}) (alone (1 to 22)) _ (c .match .rest) .1)))) (record { depth = refl; stack = refl; locals = refl; memory = refl }) }
+returns-23 c = did (c .before .before .before .before .before .before .before .before .before .pre) (c .before .before .before .before .before .group .ensures) (c .before .before .before .before .match .keys23) (λ row q. record { depth = refl; stack = c .before .before .eqz .ensures; locals = refl; memory = refl })
+
+returns-24 : tie.Need-returns-24
+returns-24 c = did (c .before .before .before .before .before .before .before .before .before .pre) (c .before .before .before .before .before .group .ensures) (c .before .before .before .before .match .keys24) (λ row q. record { depth = refl; stack = c .before .before .lt-u .ensures; locals = refl; memory = refl })
+
+returns-25 : tie.Need-returns-25
+returns-25 c = let a = c .before .before .before .before .before .args in record { does = λ v row. subst (λ f. Did f (a .depth) (a .stack .now) (a .locals .now) (a .mem .now)) (sym (idle (a .i) (a .stack .now) (a .depth) (a .locals .now) (a .mem .now) v (subst (λ (k : ℕ). T (anyKey (alone (1 to 24)) k) → ⊥) (group-of (a .id) (c .before .before .before .before .before .pre .0) (c .before .group .ensures) v row) (missed (Unit {0}) (alone (1 to 24)) _ (c .match .rest) .1)))) (record { depth = refl; stack = refl; locals = refl; memory = refl }) }
 
 pub exec-spec : {M : Type 1} → statement M
 exec-spec = tie.close (
@@ -203,10 +218,10 @@ exec-spec = tie.close (
     sub-result-4 (λ c κs. search needs) (λ c. search needs) load-requires (λ c κs. search needs) (λ c. search needs) load-lane-requires
     sub-result-5 store-requires sub-result-6 (λ c κs. search needs) (λ c. search needs) store-lane-requires sub-result-7 put-requires
     add-result-4 shuffle-requires sub-result-8 splat-requires extract-requires replace-requires sub-result-9 unary-requires binary-requires
-    sub-result-10 bitselect-requires sub-result-11 test-requires shift-requires sub-result-12 returns (λ c. search needs)
+    sub-result-10 bitselect-requires sub-result-11 test-requires shift-requires sub-result-12 eqz-requires lt-u-requires sub-result-13 returns (λ c. search needs)
     (λ c. search needs) returns-2 (λ c. search needs) (λ c. search needs) returns-3 (λ c. search needs) (λ c. search needs) returns-4
     (λ c. search needs) returns-5 (λ c. search needs) returns-6 (λ c. search needs) returns-7 (λ c. search needs) returns-8
     (λ c. search needs) (λ c. search needs) returns-9 (λ c. search needs) (λ c. search needs) returns-10 (λ c. search needs)
     (λ c. search needs) returns-11 (λ c. search needs) (λ c. search needs) returns-12 (λ c. search needs) returns-13 (λ c. search needs)
     returns-14 (λ c. search needs) returns-15 (λ c. search needs) returns-16 (λ c. search needs) returns-17 (λ c. search needs) returns-18
-    (λ c. search needs) returns-19 (λ c. search needs) returns-20 (λ c. search needs) returns-21 (λ c. search needs) returns-22 returns-23)
+    (λ c. search needs) returns-19 (λ c. search needs) returns-20 (λ c. search needs) returns-21 (λ c. search needs) returns-22 (λ c. search needs) returns-23 (λ c. search needs) returns-24 returns-25)

@@ -43,5 +43,7 @@ entry-spec =
     (λ c. in-arm f body 54 tt (c .match .keys55)) (λ c. in-arm f body 55 tt (c .match .keys56)) (λ c. in-arm f body 56 tt (c .match .keys57))
     (λ c. in-arm f body 57 tt (c .match .keys58)) (λ c. in-arm f body 58 tt (c .match .keys59)) (λ c. in-arm f body 59 tt (c .match .keys60))
     (λ c. in-arm f body 60 tt (c .match .keys61)) (λ c. in-arm f body 61 tt (c .match .keys62)) (λ c. in-arm f body 62 tt (c .match .keys63))
-    (λ c. in-arm f body 63 tt (c .match .keys64)) (λ c. in-arm f body 64 tt (c .match .keys65))
+    (λ c. in-arm f body 63 tt (c .match .keys64)) (λ c. in-arm f body 64 tt (c .match .keys65)) (λ c. in-arm f body 65 tt (c .match .keys66))
+    (λ c. in-arm f body 66 tt (c .match .keys67)) (λ c. in-arm f body 67 tt (c .match .keys68)) (λ c. in-arm f body 68 tt (c .match .keys69))
+    (λ c. in-arm f body 69 tt (c .match .keys70)) (λ c. in-arm f body 70 tt (c .match .keys71))
     (λ c. past-arms f body 512 tt (λ h. ap entryOf (row-beyond (c .before .args .id) h)) (c .match .rest)))

@@ -1,0 +1,77 @@
+-- By the group.
+use mathlib.Core.Path.{refl, sym, _∙_}
+use native.Mathlib.Omega.{arith}
+use Rattle.checker.proofs.Choices.{as-end, as-opener, as-brancher, is-ordinary, named}
+use borrow.Author.Needs.{needs}
+use Rattle.checker.proofs.turns.turn.Statement.{statement}
+use Rattle.checker.proofs.turns.turn.Tie as tie
+
+group-requires : tie.Need-group-requires
+group-requires c κs = search needs
+
+close-requires : tie.Need-close-requires
+close-requires c κs = let r = c .before .before .before .before .before .before .before .pre in (r .end-inner (sym (c .before .before .before .group .ensures) ∙ c .before .before .if1 .taken), omega (arith, r .nest-in, r .blocks-long), r .floor-in, r .depth-in, r .kinds-long)
+
+same-length : tie.Need-same-length
+same-length c = search needs
+
+same-length-2 : tie.Need-same-length-2
+same-length-2 c = search needs
+
+returns : tie.Need-returns
+returns c = ((λ v i ls rs fs x. as-end x (c .before .before .before .before .before .before .group .ensures) (c .before .before .before .before .before .if1 .taken) (c .before .before .close .ensures .0 i ls rs fs (x .framed))), (c .before .before .close .ensures .1, λ z. refl))
+
+straight-requires : tie.Need-straight-requires
+straight-requires c κs = search needs
+
+same-length-3 : tie.Need-same-length-3
+same-length-3 c = search needs
+
+returns-2 : tie.Need-returns-2
+returns-2 c = (
+  (λ v i ls rs fs x.
+      c .before .before .straight .ensures .0 v i ls rs fs _ (x .row) (is-ordinary x (c .before .before .before .before .before .before .group .ensures) (c .before .before .before .before .before .if1 .left) (c .before .before .before .before .if2 .taken)) (named x (c .before .before .before .before .before .before .group .ensures) (c .before .before .before .before .before .if1 .left) (c .before .before .before .before .if2 .taken)) (x .locals-are) (x .framed)),
+  (c .before .before .straight .ensures .1, λ z. refl),
+)
+
+begin-requires : tie.Need-begin-requires
+begin-requires c κs = let r = c .before .before .before .before .before .before .before .before .pre in
+    (r .type-in (omega (arith, c .before .before .before .before .group .ensures, c .before .before .if2 .left)) (omega (arith, c .before .before .before .before .group .ensures, c .before .if3 .taken)), omega (arith, r .floor-in, r .depth-in), r .nest-in, r .blocks-long)
+
+same-length-4 : tie.Need-same-length-4
+same-length-4 c = search needs
+
+returns-3 : tie.Need-returns-3
+returns-3 c = ((λ v i ls rs fs x. as-opener x (c .before .before .before .before .before .before .before .group .ensures) (c .before .before .before .before .before .if2 .left) (c .before .before .before .before .if3 .taken) (λ e t. c .before .before .begin .ensures .0 i ls rs fs _ e t (x .framed))), (λ z. refl, c .before .before .begin .ensures .1))
+
+jump-requires : tie.Need-jump-requires
+jump-requires c κs = search needs
+
+same-length-5 : tie.Need-same-length-5
+same-length-5 c = search needs
+
+same-length-6 : tie.Need-same-length-6
+same-length-6 c = search needs
+
+returns-4 : tie.Need-returns-4
+returns-4 c = ((λ v i ls rs fs x. as-brancher x (c .before .before .before .before .before .before .before .before .group .ensures) (c .before .before .before .before .before .if3 .left) (λ e. c .before .before .jump .ensures .0 i ls rs fs e (x .results-are) (x .few) (x .framed))), (c .before .before .jump .ensures .1, λ z. refl))
+
+pub turn-spec : {M : Type 1} → statement M
+turn-spec =
+    tie.close
+    (tie.spec
+    group-requires
+    close-requires
+    same-length
+    same-length-2
+    returns
+    straight-requires
+    same-length-3
+    returns-2
+    begin-requires
+    same-length-4
+    returns-3
+    jump-requires
+    same-length-5
+    same-length-6
+    returns-4)

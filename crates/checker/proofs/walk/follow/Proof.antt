@@ -1,0 +1,77 @@
+-- The strip's own `end`, or one turn that is not refused.
+use native.Mathlib.Omega.{arith}
+use mathlib.Core.Path.{sym, _∙_}
+use Rattle.checker.proofs.Walking.{inside, last-step, turn-ready, next-step}
+use borrow.Author.Needs.{needs}
+use Rattle.checker.proofs.walk.follow.Statement.{statement}
+use Rattle.checker.proofs.walk.follow.Tie as tie
+use Rattle.checker.proofs.walk.follow.Reads as reads
+use Rattle.checker.proofs.walk.follow.Lts as lts
+use Rattle.checker.proofs.body.is_last.Reads as is-last-reads
+use Rattle.checker.proofs.numbers.top_first.Reads as top-first-reads
+use Rattle.checker.proofs.turns.turn.Reads as turn-reads
+
+shared-slice-read-locals : tie.Need-shared-slice-read-locals
+shared-slice-read-locals c = omega (arith, inside (c .before .before .before .before .pre .0))
+
+cast-locals : tie.Need-cast-locals
+cast-locals c = omega (arith, c .before .before .before .shared-slice-known .given 5 .fits)
+
+shared-slice-read-locals-2 : tie.Need-shared-slice-read-locals-2
+shared-slice-read-locals-2 c = omega (arith, inside (c .before .before .before .before .before .pre .0))
+
+cast-locals-2 : tie.Need-cast-locals-2
+cast-locals-2 c = omega (arith, c .before .before .before .before .shared-slice-known .given 6 .fits)
+
+add-locals : tie.Need-add-locals
+add-locals c = omega (arith, c .before .before .before .before .shared-slice-known .given 5 .fits, c .before .before .before .before .shared-slice-known .given 6 .fits)
+
+add-top-first : tie.Need-add-top-first
+add-top-first c = omega (arith, c .before .before .before .before .shared-slice-known .given 5 .fits, c .before .before .before .before .shared-slice-known .given 6 .fits)
+
+shared-slice-read-top-first : tie.Need-shared-slice-read-top-first
+shared-slice-read-top-first c = omega (arith, inside (c .before .before .before .before .before .before .pre .0))
+
+cast-top-first : tie.Need-cast-top-first
+cast-top-first c = omega (arith, c .before .before .before .before .before .shared-slice-known .given 7 .fits)
+
+top-first-requires : tie.Need-top-first-requires
+top-first-requires c κs = inside (c .before .before .before .before .before .before .pre .0)
+
+is-last-requires : tie.Need-is-last-requires
+is-last-requires c κs = search needs
+
+returns : tie.Need-returns
+returns c = last-step (c .before .before .before .before .before .before .before .before .before .pre .0) (c .before .before .top-first .ensures) (λ j. c .before .before .before .before .before .before .before .before .shared-slice-known .given j .fits) (c .before .before .before .before .before .before .before .before .before .args .d) (c .before .before .before .before .before .before .before .before .before .pre .1) (sym (c .before .is-last .ensures) ∙ c .if1 .taken)
+
+turn-requires : tie.Need-turn-requires
+turn-requires c κs = turn-ready (c .before .before .before .before .before .before .before .before .before .before .before .pre .0) (c .before .before .before .before .top-first .ensures) (λ j. c .before .before .before .before .before .before .before .before .before .before .shared-slice-known .given j .fits) (c .before .before .before .before .before .before .before .before .before .before .before .args .d) (c .before .before .before .before .before .before .before .before .before .before .before .pre .1) (sym (c .before .before .before .is-last .ensures) ∙ c .before .before .if1 .left)
+
+same-length : tie.Need-same-length
+same-length c = search needs
+
+same-length-2 : tie.Need-same-length-2
+same-length-2 c = search needs
+
+returns-2 : tie.Need-returns-2
+returns-2 c = next-step (c .before .before .before .before .before .before .before .before .before .before .before .before .before .before .before .before .pre .0) (c .before .before .before .before .before .before .before .before .before .top-first .ensures) (λ j. c .before .before .before .before .before .before .before .before .before .before .before .before .before .before .before .shared-slice-known .given j .fits) (c .before .before .before .before .before .before .before .before .before .before .before .before .before .before .before .before .args .d) (c .before .before .before .before .before .before .before .before .before .before .before .before .before .before .before .before .pre .1) (sym (c .before .before .before .before .before .before .before .before .is-last .ensures) ∙ c .before .before .before .before .before .before .before .if1 .left) (c .before .before .before .before .turn .result) (c .before .before .before .before .turn .ensures .0) (c .before .before .before .before .turn .ensures .1) (search needs) (search needs)
+
+pub follow-spec : {M : Type 1} → statement M
+follow-spec =
+    tie.close
+    (tie.spec
+    shared-slice-read-locals
+    cast-locals
+    shared-slice-read-locals-2
+    cast-locals-2
+    add-locals
+    add-top-first
+    shared-slice-read-top-first
+    cast-top-first
+    top-first-requires
+    is-last-requires
+    returns
+    turn-requires
+    same-length
+    same-length-2
+    returns-2)

@@ -1,0 +1,72 @@
+// The open blocks: a word each, lent beside their count.
+ghost use Prim.Native.Nat.{ℕ, _≤_, _<_, _*_, _^_};
+ghost use mathlib.Core.Path.{_≡_};
+ghost use mathlib.Core.Bool.{Bool, true};
+ghost use mathlib.Core.List.{List};
+ghost use lib.ListN.{length};
+ghost use Rattle.limits.specs.Limits.{stackLimit, resultLimit};
+ghost use Rattle.opcode.specs.Kind.{Kind};
+ghost use Rattle.opcode.specs.BlockType.{isBlockType, blockResults};
+ghost use Rattle.rules.specs.Typing.{Frame, allValues};
+ghost use Rattle.checker.specs.Walk.{bit, word, Nested};
+ghost use Rattle.checker.specs.Inner.Blocks.{topFirst, Labelled};
+
+const EMPTY: u32 = opcode::kind::EMPTY as u32;
+
+fn bit_of(b: bool) -> u32
+    ensures { λ r. ⌜ r ≡ bit b ⌝ }
+{
+    if b { 1 } else { 0 }
+}
+
+// A block's word: the floor of what is around it, its type, whether it is a loop, and whether the code around it is dead.
+pub(crate) fn word_of(floor: usize, block: u32, looped: bool, dead: bool) -> u32
+    requires { ⌜ (floor < 256) × (block < 256) ⌝ }
+    ensures { λ r. ⌜ r ≡ word floor block looped dead ⌝ }
+{
+    floor as u32 + 256 * block + 65536 * bit_of(looped) + 0x100_0000 * bit_of(dead)
+}
+
+pub(crate) fn floor_in(w: u32) -> usize
+    ensures { λ r. ⌜ ((floor type : ℕ) (loop dead : Bool) → floor < 256 → type < 256 → w ≡ word floor type loop dead → r ≡ floor) ⌝ }
+{
+    (w % 256) as usize
+}
+
+fn loop_in(w: u32) -> bool
+    ensures { λ r. ⌜ ((floor type : ℕ) (loop dead : Bool) → floor < 256 → type < 256 → w ≡ word floor type loop dead → r ≡ loop) ⌝ }
+{
+    w / 65536 % 256 == 1
+}
+
+pub(crate) fn dead_in(w: u32) -> bool
+    ensures { λ r. ⌜ ((floor type : ℕ) (loop dead : Bool) → floor < 256 → type < 256 → w ≡ word floor type loop dead → r ≡ dead) ⌝ }
+{
+    w / 0x100_0000 == 1
+}
+
+// The results of its type, as a number of one byte.
+pub(crate) fn results_in(w: u32) -> u64
+    ensures { λ r. ⌜ (r < 256) × ((floor type : ℕ) (loop dead : Bool) → floor < 256 → isBlockType type ≡ true → w ≡ word floor type loop dead → r ≡ topFirst (blockResults type)) ⌝ }
+{
+    let t = w / 256 % 256;
+    if t == EMPTY {
+        return 0;
+    }
+    t as u64
+}
+
+// What a branch to the n-th block takes, the top one first in a number.
+pub(crate) fn takes(results: u64, blocks: &[u32], nest: usize, n: usize) -> u64
+    requires { ⌜ (results < 2 ^ 32) × (n ≤ nest) × (nest ≤ length (now blocks)) ⌝ }
+    ensures { λ r. ⌜ (r < 2 ^ 32) × ((rs : List Kind) (fs : List Frame) (floor : ℕ) (dead : Bool) → topFirst rs ≡ results → length rs ≤ resultLimit → Nested rs (now (blocks .entry)) nest floor dead fs → length (allValues fs) ≤ stackLimit → Labelled fs n r) ⌝ }
+{
+    if n == nest {
+        return results;
+    }
+    let w = blocks[nest - n - 1];
+    if loop_in(w) {
+        return 0;
+    }
+    results_in(w)
+}

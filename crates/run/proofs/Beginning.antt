@@ -1,0 +1,59 @@
+-- The configuration from which a run begins, as the code holds it.
+use Prim.Native.Nat.{ℕ, _+_, _*_, _≤_}
+use mathlib.Core.Path.{_≡_, refl, sym, subst}
+use mathlib.Core.List.{List}
+use native.Mathlib.Omega.{arith}
+use lib.ListN.{length, replicate, length-replicate}
+use Rattle.lane.proofs.Laws.Number.{Bytes}
+use Rattle.limits.specs.Limits.{localCount, stackBytes, localBytes, nestLimit}
+use Rattle.machine.specs.Memory.{stored}
+use Rattle.machine.specs.Inner.Rep.{Rep}
+use Rattle.rules.specs.Header.{Header, headerBytes}
+use Rattle.rules.specs.Strip.{Valid}
+use Rattle.rules.proofs.Onward.{declared}
+use Rattle.standard.specs.Standard.{Config, begin}
+use Rattle.standard.specs.Safety.{Sound}
+use Rattle.standard.proofs.Begin.{begin-sound}
+use Rattle.run.specs.Meter.{Left, meter}
+use Rattle.run.specs.Inner.Steps.{Ready, Drove}
+use Rattle.run.specs.Inner.Carried.{openIn, Carries, Going}
+use Rattle.run.proofs.Start.{args-long, counted, start-holds}
+
+module _ {s args out : List ℕ} (r : Ready s args out) where
+  abbrev h : Header
+  h = r .valid .header
+
+  few-locals : length (h .parameters) + length (h .further) ≤ localCount
+  few-locals = omega (arith, declared (r .valid .reached) .few .parameters, declared (r .valid .reached) .few .further)
+
+  pub args-fit : length args ≤ localBytes
+  args-fit = omega (arith, args-long h args (r .values) (r .given) few-locals, counted h args (r .values) (r .given) few-locals, few-locals)
+
+  module _ (mem : List ℕ) (b : Bytes mem) {locals : List ℕ} (f : locals ≡ stored (replicate localBytes 0) 0 args) {at : ℕ} (e : at ≡ length (headerBytes h)) where
+    abbrev c : Config
+    c = begin h (r .values) mem
+
+    sound : Sound s h c
+    sound = begin-sound (r .valid) (r .values) mem (record { kinds = r .given .kinds; range = r .given .range; bytes = λ k. b k .fits })
+
+    begins : Carries s h c at 0 (openIn (replicate (3 * nestLimit + 1) 0)) (replicate stackBytes 0) (replicate (3 * nestLimit + 1) 0) locals mem
+    begins =
+        record {
+          place = sym e;
+          sound = sound;
+          rep =
+              subst (λ (ls : List ℕ). Rep (c .state) (replicate stackBytes 0) 0 ls mem) (sym f)
+              (start-holds h args (r .values) (r .given) few-locals mem b sound);
+          many = refl;
+          marked = tt;
+          marks-long = length-replicate {A = ℕ} (3 * nestLimit + 1) 0;
+        }
+
+    pub may-begin : Going s out at 0 (openIn (replicate (3 * nestLimit + 1) 0)) (replicate stackBytes 0) (replicate (3 * nestLimit + 1) 0) locals mem
+    may-begin = record { held = record { valid = r .valid; config = c; carries = begins }; slots = r .slots }
+
+    -- what is left then is what the standard's machine leaves
+    pub drove : {budget : ℕ} {l : Left}
+        → ((v : Valid s) (c : Config) → Carries s (v .header) c at 0 (openIn (replicate (3 * nestLimit + 1) 0)) (replicate stackBytes 0) (replicate (3 * nestLimit + 1) 0) locals mem → l ≡ meter s (v .header) budget 0 c out)
+        → Drove s args mem out budget l
+    drove went = record { ready = r; same = went (r .valid) c begins }

@@ -1,0 +1,144 @@
+-- The invariant is one record for each configuration that the arrays may hold (`Driving.Drives`), and that the ends kept are true; each need of the loop cites one law.
+use borrow.Author.Needs.{needs}
+use native.Mathlib.Nat.{pos-of-ne-zero}
+use native.Mathlib.Omega.{arith}
+use mathlib.Core.Path.{ap, _∙_}
+use lib.ListN.{length}
+use Rattle.rules.specs.Strip.{Valid}
+use Rattle.standard.specs.Standard.{Config}
+use Rattle.run.specs.Inner.Carried.{openIn, Carries}
+use Rattle.run.specs.Inner.Ends.{Kept}
+use Rattle.run.proofs.Driving.{Drives, not-clear, starts, spent, stacked, seen, inside, results-fit, finished, turned, bounds-fits, exec-apt, onward, strayed}
+use Rattle.run.proofs.running.go_on.Statement.{statement}
+use Rattle.run.proofs.running.go_on.Tie as tie
+
+abbrev Inv-loop : tie.InvT-loop
+Inv-loop strip mem₀ results₀ budget place stack₀ values marks₀ ends₀ locals₀ at₀ depth₀ left₀ mem results stack marks ends locals at depth left =
+    ((v : Valid strip) (c₀ : Config) → Carries strip (v .header) c₀ place values (openIn marks₀) stack₀ marks₀ locals₀ mem₀
+    → Drives strip v c₀ mem₀ results₀ budget mem results stack marks locals at depth (openIn marks) left) × Kept strip ends
+
+abbrev μ-loop : tie.MeasureT-loop
+μ-loop strip mem₀ results₀ budget place stack₀ values marks₀ ends₀ locals₀ at₀ depth₀ left₀ mem results stack marks ends locals at depth left = left
+
+loop-holds : tie.Need-loop-holds Inv-loop μ-loop
+loop-holds c = (λ v c₀ C. starts v c₀ (c .before .before .before .args .budget) C (c .before .before .before .pre .0), c .before .before .before .pre .1)
+
+same-length : tie.Need-same-length Inv-loop μ-loop
+same-length c = c .before .loop .inv .0 (c .before .before .before .before .before .pre .0 .held .valid) (c .before .before .before .before .before .pre .0 .held .config) (c .before .before .before .before .before .pre .0 .held .carries) .long
+
+same-length-2 : tie.Need-same-length-2 Inv-loop μ-loop
+same-length-2 c = ap length (c .before .loop .inv .0 (c .before .before .before .before .before .pre .0 .held .valid) (c .before .before .before .before .before .pre .0 .held .config) (c .before .before .before .before .before .pre .0 .held .carries) .untouched)
+
+returns : tie.Need-returns Inv-loop μ-loop
+returns c = λ v c₀ C. spent (c .before .loop .inv .0 v c₀ C) (c .if1 .taken)
+
+fetch-requires : tie.Need-fetch-requires Inv-loop μ-loop
+fetch-requires c κs = tt
+
+group-requires : tie.Need-group-requires Inv-loop μ-loop
+group-requires c κs = tt
+
+turns-requires : tie.Need-turns-requires Inv-loop μ-loop
+turns-requires c κs = tt
+
+turn-requires : tie.Need-turn-requires Inv-loop μ-loop
+turn-requires c κs = let D = c .before .before .before .before .before .before .before .before .before .before .loop .inv .0 (c .before .before .before .before .before .before .before .before .before .before .before .before .before .before .pre .0 .held .valid) (c .before .before .before .before .before .before .before .before .before .before .before .before .before .before .pre .0 .held .config) (c .before .before .before .before .before .before .before .before .before .before .before .before .before .before .pre .0 .held .carries) in (stacked D, seen D (c .before .before .before .before .before .before .before .before .fetch .result) (c .before .before .before .before .before .before .before .before .fetch .ensures) (c .before .before .before .before .before .group .result) (c .before .before .before .before .before .group .ensures) (c .before .before .before .before .turns .ensures) (c .before .before .before .if2 .taken), c .before .before .before .before .before .before .before .before .before .before .loop .inv .1)
+
+put-results-requires : tie.Need-put-results-requires Inv-loop μ-loop
+put-results-requires c κs = let D = c .before .before .before .before .before .before .before .before .before .before .before .before .before .before .before .before .loop .inv .0 (c .before .before .before .before .before .before .before .before .before .before .before .before .before .before .before .before .before .before .before .before .pre .0 .held .valid) (c .before .before .before .before .before .before .before .before .before .before .before .before .before .before .before .before .before .before .before .before .pre .0 .held .config) (c .before .before .before .before .before .before .before .before .before .before .before .before .before .before .before .before .before .before .before .before .pre .0 .held .carries) in results-fit D (c .before .before .before .before .before .turn .ensures .0 (c .before .before .before .before .before .before .before .before .before .before .before .before .before .before .before .before .before .before .before .before .pre .0 .held .valid) (D .config) (c .before .before .before .before .before .before .before .before .before .before .before .before .before .before .before .before .loop .locals) (c .before .before .before .before .before .before .before .before .before .before .before .before .before .before .before .before .loop .mem) (D .carries)) (c .before .before .before .if3 .taken)
+
+sub-t30 : tie.Need-sub-t30 Inv-loop μ-loop
+sub-t30 c = omega (arith, c .before .before .before .before .before .before .before .before .before .before .before .before .before .before .before .before .before .before .before .loop .inv .0 (c .before .before .before .before .before .before .before .before .before .before .before .before .before .before .before .before .before .before .before .before .before .before .before .pre .0 .held .valid) (c .before .before .before .before .before .before .before .before .before .before .before .before .before .before .before .before .before .before .before .before .before .before .before .pre .0 .held .config) (c .before .before .before .before .before .before .before .before .before .before .before .before .before .before .before .before .before .before .before .before .before .before .before .pre .0 .held .carries) .within)
+
+add-t31 : tie.Need-add-t31 Inv-loop μ-loop
+add-t31 c = omega (arith, c .before .before .before .before .before .before .before .before .before .before .before .before .before .before .before .before .before .before .before .loop .inv .0 (c .before .before .before .before .before .before .before .before .before .before .before .before .before .before .before .before .before .before .before .before .before .before .before .pre .0 .held .valid) (c .before .before .before .before .before .before .before .before .before .before .before .before .before .before .before .before .before .before .before .before .before .before .before .pre .0 .held .config) (c .before .before .before .before .before .before .before .before .before .before .before .before .before .before .before .before .before .before .before .before .before .before .before .pre .0 .held .carries) .within, pos-of-ne-zero (c .before .before .before .before .before .before .before .before .before .before .before .before .before .before .before .before .before .before .if1 .left), c .before .before .before .before .before .before .before .before .before .before .before .before .before .before .before .before .before .before .before .before .before .before .before .fits .budget)
+
+same-length-3 : tie.Need-same-length-3 Inv-loop μ-loop
+same-length-3 c = c .before .before .before .before .before .before .before .before .before .before .before .before .before .before .before .before .before .before .before .loop .inv .0 (c .before .before .before .before .before .before .before .before .before .before .before .before .before .before .before .before .before .before .before .before .before .before .before .pre .0 .held .valid) (c .before .before .before .before .before .before .before .before .before .before .before .before .before .before .before .before .before .before .before .before .before .before .before .pre .0 .held .config) (c .before .before .before .before .before .before .before .before .before .before .before .before .before .before .before .before .before .before .before .before .before .before .before .pre .0 .held .carries) .long
+
+same-length-4 : tie.Need-same-length-4 Inv-loop μ-loop
+same-length-4 c = c .before .before .put-results .kept .1 .1 .0 ∙ ap length (c .before .before .before .before .before .before .before .before .before .before .before .before .before .before .before .before .before .before .before .loop .inv .0 (c .before .before .before .before .before .before .before .before .before .before .before .before .before .before .before .before .before .before .before .before .before .before .before .pre .0 .held .valid) (c .before .before .before .before .before .before .before .before .before .before .before .before .before .before .before .before .before .before .before .before .before .before .before .pre .0 .held .config) (c .before .before .before .before .before .before .before .before .before .before .before .before .before .before .before .before .before .before .before .before .before .before .before .pre .0 .held .carries) .untouched)
+
+returns-2 : tie.Need-returns-2 Inv-loop μ-loop
+returns-2 c = λ v c₀ C. let D = c .before .before .before .before .before .before .before .before .before .before .before .before .before .before .before .before .before .before .before .loop .inv .0 v c₀ C in finished D (c .before .before .before .before .before .before .before .before .turn .ensures .0 v (D .config) (c .before .before .before .before .before .before .before .before .before .before .before .before .before .before .before .before .before .before .before .loop .locals) (c .before .before .before .before .before .before .before .before .before .before .before .before .before .before .before .before .before .before .before .loop .mem) (D .carries)) (pos-of-ne-zero (c .before .before .before .before .before .before .before .before .before .before .before .before .before .before .before .before .before .before .if1 .left)) (c .before .before .before .before .before .before .if3 .taken) (c .before .before .put-results .ensures)
+
+sub-left : tie.Need-sub-left Inv-loop μ-loop
+sub-left c = pos-of-ne-zero (c .before .before .before .before .before .before .before .before .before .before .before .before .if1 .left)
+
+loop-less : tie.Need-loop-less Inv-loop μ-loop
+loop-less c = omega (arith, pos-of-ne-zero (c .before .before .before .before .before .before .before .before .before .before .before .before .if1 .left))
+
+loop-again : tie.Need-loop-again Inv-loop μ-loop
+loop-again c = (λ v c₀ C. let D = c .before .before .before .before .before .before .before .before .before .before .before .before .before .loop .inv .0 v c₀ C in turned D (c .before .before .turn .ensures .0 v (D .config) (c .before .before .before .before .before .before .before .before .before .before .before .before .before .loop .locals) (c .before .before .before .before .before .before .before .before .before .before .before .before .before .loop .mem) (D .carries)) (pos-of-ne-zero (c .before .before .before .before .before .before .before .before .before .before .before .before .if1 .left)) (c .if3 .left), c .before .before .turn .ensures .1)
+
+bounds-requires : tie.Need-bounds-requires Inv-loop μ-loop
+bounds-requires c κs = let D = c .before .before .before .before .before .before .before .before .before .loop .inv .0 (c .before .before .before .before .before .before .before .before .before .before .before .before .before .pre .0 .held .valid) (c .before .before .before .before .before .before .before .before .before .before .before .before .before .pre .0 .held .config) (c .before .before .before .before .before .before .before .before .before .before .before .before .before .pre .0 .held .carries) in bounds-fits D (c .before .before .before .before .before .before .before .fetch .result) (c .before .before .before .before .before .before .before .fetch .ensures) (c .before .before .before .before .group .result) (c .before .before .before .before .group .ensures) (c .before .before .before .turns .ensures) (c .before .before .if2 .left)
+
+enum-told : tie.Need-enum-told Inv-loop μ-loop
+enum-told c = search needs
+
+exec-requires : tie.Need-exec-requires Inv-loop μ-loop
+exec-requires c κs = let D = c .before .before .before .before .before .before .before .before .before .before .before .before .before .before .before .loop .inv .0 (c .before .before .before .before .before .before .before .before .before .before .before .before .before .before .before .before .before .before .before .pre .0 .held .valid) (c .before .before .before .before .before .before .before .before .before .before .before .before .before .before .before .before .before .before .before .pre .0 .held .config) (c .before .before .before .before .before .before .before .before .before .before .before .before .before .before .before .before .before .before .before .pre .0 .held .carries) in exec-apt D (c .before .before .before .before .before .before .before .before .before .before .before .before .before .fetch .result) (c .before .before .before .before .before .before .before .before .before .before .before .before .before .fetch .ensures) (c .before .before .before .before .before .before .before .before .before .before .group .result) (c .before .before .before .before .before .before .before .before .before .before .group .ensures) (c .before .before .before .before .before .before .before .before .before .turns .ensures) (c .before .before .before .before .before .before .before .before .if2 .left) (c .before .before .before .before .before .bounds .result) (c .before .before .before .before .before .bounds .ensures) (c .before .before .before .enum-told .given .1)
+
+add-at : tie.Need-add-at Inv-loop μ-loop
+add-at c = let D = c .before .before .before .before .before .before .before .before .before .before .before .before .before .before .before .before .before .before .before .loop .inv .0 (c .before .before .before .before .before .before .before .before .before .before .before .before .before .before .before .before .before .before .before .before .before .before .before .pre .0 .held .valid) (c .before .before .before .before .before .before .before .before .before .before .before .before .before .before .before .before .before .before .before .before .before .before .before .pre .0 .held .config) (c .before .before .before .before .before .before .before .before .before .before .before .before .before .before .before .before .before .before .before .before .before .before .before .pre .0 .held .carries) in omega (arith, inside D (c .before .before .before .before .before .before .before .before .before .before .before .before .before .before .before .before .before .fetch .result) (c .before .before .before .before .before .before .before .before .before .before .before .before .before .before .before .before .before .fetch .ensures))
+
+sub-left-2 : tie.Need-sub-left-2 Inv-loop μ-loop
+sub-left-2 c = pos-of-ne-zero (c .before .before .before .before .before .before .before .before .before .before .before .before .before .before .before .before .before .before .if1 .left)
+
+loop-less-2 : tie.Need-loop-less-2 Inv-loop μ-loop
+loop-less-2 c = omega (arith, pos-of-ne-zero (c .before .before .before .before .before .before .before .before .before .before .before .before .before .before .before .before .before .before .if1 .left))
+
+loop-again-2 : tie.Need-loop-again-2 Inv-loop μ-loop
+loop-again-2 c = (λ v c₀ C. let D = c .before .before .before .before .before .before .before .before .before .before .before .before .before .before .before .before .before .before .before .loop .inv .0 v c₀ C in onward D (c .before .before .before .before .before .before .before .before .before .before .before .before .before .before .before .before .before .fetch .result) (c .before .before .before .before .before .before .before .before .before .before .before .before .before .before .before .before .before .fetch .ensures) (c .before .before .before .before .before .before .before .before .before .before .before .before .before .before .group .result) (c .before .before .before .before .before .before .before .before .before .before .before .before .before .before .group .ensures) (c .before .before .before .before .before .before .before .before .before .before .before .before .before .turns .ensures) (c .before .before .before .before .before .before .before .before .before .before .before .before .if2 .left) (c .before .before .before .before .before .before .before .before .before .bounds .result) (c .before .before .before .before .before .before .before .before .before .bounds .ensures) (c .before .before .before .before .before .before .before .enum-told .given .1) (pos-of-ne-zero (c .before .before .before .before .before .before .before .before .before .before .before .before .before .before .before .before .before .before .if1 .left)) (c .before .before .before .exec .ensures) (c .before .before .before .exec .kept .1 .1 .1 .1 .1 .1 .0), c .before .before .before .before .before .before .before .before .before .before .before .before .before .before .before .before .before .before .before .loop .inv .1)
+
+enum-told-2 : tie.Need-enum-told-2 Inv-loop μ-loop
+enum-told-2 c = search needs
+
+sub-t42 : tie.Need-sub-t42 Inv-loop μ-loop
+sub-t42 c = omega (arith, c .before .before .before .before .before .before .before .before .before .before .before .before .loop .inv .0 (c .before .before .before .before .before .before .before .before .before .before .before .before .before .before .before .before .pre .0 .held .valid) (c .before .before .before .before .before .before .before .before .before .before .before .before .before .before .before .before .pre .0 .held .config) (c .before .before .before .before .before .before .before .before .before .before .before .before .before .before .before .before .pre .0 .held .carries) .within)
+
+same-length-5 : tie.Need-same-length-5 Inv-loop μ-loop
+same-length-5 c = c .before .before .before .before .before .before .before .before .before .before .before .before .loop .inv .0 (c .before .before .before .before .before .before .before .before .before .before .before .before .before .before .before .before .pre .0 .held .valid) (c .before .before .before .before .before .before .before .before .before .before .before .before .before .before .before .before .pre .0 .held .config) (c .before .before .before .before .before .before .before .before .before .before .before .before .before .before .before .before .pre .0 .held .carries) .long
+
+same-length-6 : tie.Need-same-length-6 Inv-loop μ-loop
+same-length-6 c = ap length (c .before .before .before .before .before .before .before .before .before .before .before .before .loop .inv .0 (c .before .before .before .before .before .before .before .before .before .before .before .before .before .before .before .before .pre .0 .held .valid) (c .before .before .before .before .before .before .before .before .before .before .before .before .before .before .before .before .pre .0 .held .config) (c .before .before .before .before .before .before .before .before .before .before .before .before .before .before .before .before .pre .0 .held .carries) .untouched)
+
+returns-3 : tie.Need-returns-3 Inv-loop μ-loop
+returns-3 c = λ v c₀ C. let D = c .before .before .before .before .before .before .before .before .before .before .before .before .loop .inv .0 v c₀ C in strayed D (c .before .before .before .before .before .before .before .before .before .before .fetch .result) (c .before .before .before .before .before .before .before .before .before .before .fetch .ensures) (c .before .before .before .before .before .before .before .group .result) (c .before .before .before .before .before .before .before .group .ensures) (c .before .before .before .before .before .before .turns .ensures) (c .before .before .before .before .before .if2 .left) (c .before .before .bounds .result) (c .before .before .bounds .ensures) (pos-of-ne-zero (c .before .before .before .before .before .before .before .before .before .before .before .if1 .left)) (not-clear (c .enum-told2 .given .1))
+
+pub go-on-spec : {M : Type 1} → statement M
+go-on-spec =
+    tie.close
+    (tie.spec
+    Inv-loop
+    μ-loop
+    loop-holds
+    same-length
+    same-length-2
+    returns
+    fetch-requires
+    group-requires
+    turns-requires
+    turn-requires
+    put-results-requires
+    sub-t30
+    add-t31
+    same-length-3
+    same-length-4
+    returns-2
+    sub-left
+    loop-less
+    loop-again
+    bounds-requires
+    enum-told
+    exec-requires
+    add-at
+    sub-left-2
+    loop-less-2
+    loop-again-2
+    enum-told-2
+    sub-t42
+    same-length-5
+    same-length-6
+    returns-3)
