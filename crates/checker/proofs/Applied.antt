@@ -14,7 +14,7 @@ use Rattle.opcode.specs.Effect.{_⇒_}
 use Rattle.opcode.specs.Number.{packed}
 use Rattle.opcode.proofs.Effects.{kind-range}
 use Rattle.rules.specs.Typing.{Frame, Has}
-use Rattle.checker.specs.Walk.{Holds}
+use Rattle.checker.specs.Walk.{KindBytes}
 use Rattle.checker.specs.Inner.Stack.{Top, Under, Small, Leaves, too-many, left as left-all, Applies, lacks, over, fits}
 use Rattle.checker.proofs.Held.{held-more}
 use Rattle.checker.proofs.Unders.{under-below, part, under-none}
@@ -49,8 +49,8 @@ module _ {ins outs : List Kind} {effect : ℕ} (small : Small ins outs) (is : pa
         let it = under-below u b in
         let same : it .0 ++ outs ≡ it .0 = ap (λ (x : List Kind). it .0 ++ x) (none-left outs refl z) ∙ append-nil (it .0) in
         let whole : outer ++ (it .0 ++ outs) ≡ outer ++ it .0 = ap (λ (x : List Kind). outer ++ x) same in
-        let held = subst (λ (n : ℕ). Holds kinds n (outer ++ it .0)) (it .2) (part t (it .1)) in
-        fits (it .0) (it .1) (omega (arith, ap length whole, held .many)) (subst (Holds kinds base) (sym whole) held)
+        let held = subst (λ (n : ℕ). KindBytes kinds n (outer ++ it .0)) (it .2) (part t (it .1)) in
+        fits (it .0) (it .1) (omega (arith, ap length whole, held .many)) (subst (KindBytes kinds base) (sym whole) held)
 
     pub applies-over : {after : List ℕ} {d : ℕ} → (effect / 2 ^ 24 ≡ 0 → ⊥) → base ≡ stackLimit → Applies outer f ins outs after DEEP d
     applies-over z b =
@@ -61,9 +61,9 @@ module _ {ins outs : List Kind} {effect : ℕ} (small : Small ins outs) (is : pa
     applies-one z long b =
         let it = under-below u (omega arith) in
         let k = one-left outs refl z in
-        let held = subst (λ (n : ℕ). Holds kinds n (outer ++ it .0)) (it .2) (part t (it .1)) in
-        let more : Holds (set kinds base (effect / 2 ^ 24)) (base + 1) ((outer ++ it .0) ++ outs) = rw (k .1, k .2) (held-more held (omega arith) (k .0)) in
-        let whole = subst (Holds (set kinds base (effect / 2 ^ 24)) (base + 1)) (append-assoc outer (it .0) outs) more in
+        let held = subst (λ (n : ℕ). KindBytes kinds n (outer ++ it .0)) (it .2) (part t (it .1)) in
+        let more : KindBytes (set kinds base (effect / 2 ^ 24)) (base + 1) ((outer ++ it .0) ++ outs) = rw (k .1, k .2) (held-more held (omega arith) (k .0)) in
+        let whole = subst (KindBytes (set kinds base (effect / 2 ^ 24)) (base + 1)) (append-assoc outer (it .0) outs) more in
         fits (it .0) (it .1) (omega (arith, whole .many)) whole
 
 -- of any kinds
@@ -74,9 +74,9 @@ module _ {ins outs outer : List Kind} {f : Frame} {kinds after : List ℕ} {dept
   by-leaving : {code d : ℕ} (below : List Kind) → Has f below ins → Leaves (outer ++ below) outs after code d → Applies outer f ins outs after code d
   by-leaving below h (too-many big) = over below h (subst (λ (x : List Kind). stackLimit < length x) (append-assoc outer below outs) big)
   by-leaving {d = d} below h (left-all small g) =
-      fits below h (subst (λ (x : List Kind). length x ≤ stackLimit) (append-assoc outer below outs) small) (subst (Holds after d) (append-assoc outer below outs) g)
+      fits below h (subst (λ (x : List Kind). length x ≤ stackLimit) (append-assoc outer below outs) small) (subst (KindBytes after d) (append-assoc outer below outs) g)
 
-  pub exchanges : {code d : ℕ} → base ≤ stackLimit → ((below : List Kind) → Holds kinds base below → Leaves below outs after code d) → Applies outer f ins outs after code d
+  pub exchanges : {code d : ℕ} → base ≤ stackLimit → ((below : List Kind) → KindBytes kinds base below → Leaves below outs after code d) → Applies outer f ins outs after code d
   exchanges b left =
       let it = under-below u b in
-      by-leaving (it .0) (it .1) (left (outer ++ it .0) (subst (λ (n : ℕ). Holds kinds n (outer ++ it .0)) (it .2) (part t (it .1))))
+      by-leaving (it .0) (it .1) (left (outer ++ it .0) (subst (λ (n : ℕ). KindBytes kinds n (outer ++ it .0)) (it .2) (part t (it .1))))

@@ -13,7 +13,7 @@ use Rattle.opcode.specs.BlockType.{isBlockType, blockResults}
 use Rattle.opcode.specs.Table.{control}
 use Rattle.instr.specs.declared.Instr.{Instr}
 use Rattle.rules.specs.Typing.{Frame, opened, allValues, Types, opens-block, opens-loop, Opens, block-opens, loop-opens}
-use Rattle.checker.specs.Walk.{Holds, word, Nested, block, Framed}
+use Rattle.checker.specs.Walk.{KindBytes, word, Nested, block, Framed}
 use Rattle.checker.specs.Inner.Judging.{opener, Judges, too-nested, typed}
 use Rattle.checker.proofs.Nests.{nested-many, nested-keeps, frames-case}
 
@@ -40,7 +40,7 @@ module _ {rs : List Kind} {kinds blocks : List ℕ} {depth nest floor : ℕ} {de
         let now : Nested rs (set blocks nest b) (suc nest) (length (allValues (f ∷ fs))) false (opened loop (blockResults type) ∷ f ∷ fs) =
         block type (nested-keeps nest b (omega arith) (w .nested)) here is-type refl in
         record {
-          holds = subst (Holds kinds depth) (sym same) (w .holds);
+          holds = subst (KindBytes kinds depth) (sym same) (w .holds);
           nested =
               subst (λ (k : ℕ). Nested rs (set blocks nest b) (nest + 1) k false (opened loop (blockResults type) ∷ f ∷ fs)) (w .holds .many)
               (subst (λ (k : ℕ). Nested rs (set blocks nest b) k (length (allValues (f ∷ fs))) false (opened loop (blockResults type) ∷ f ∷ fs)) more now);

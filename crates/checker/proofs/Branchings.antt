@@ -14,7 +14,7 @@ use Rattle.instr.specs.declared.Instr.{Instr}
 use Rattle.rules.specs.Typing.{Frame, holding, deadened, allValues, branchKinds, Target, Has, all-known, Types, ordinary, branches, may-branch, Branches, br-branches, if-branches}
 use Rattle.rules.proofs.Typings.{control-untyped, label-once}
 use Rattle.rules.proofs.Sorts.{names-control, branches-plain}
-use Rattle.checker.specs.Walk.{Holds, Nested, Framed}
+use Rattle.checker.specs.Walk.{KindBytes, Nested, Framed}
 use Rattle.checker.specs.Inner.Stack.{Top, Under, Applies, lacks, over, fits}
 use Rattle.checker.specs.Inner.Blocks.{topFirst, Labelled}
 use Rattle.checker.specs.Inner.Judging.{brancher, Judges, no-label, untyped, too-deep, typed}
@@ -41,7 +41,7 @@ module _ {ls rs : List Kind} {i : Instr} {kinds blocks : List ℕ} {depth nest f
       let t = framed-top w in
       let x = under-below (under-it (allValues fs) (branchKinds (g .target)) f t (g .takes-is)) z in
       let none : floor + length {A = Kind} [] ≡ floor = omega arith in
-      let held : Holds kinds floor (allValues fs ++ []) = subst (λ (n : ℕ). Holds kinds n (allValues fs ++ [])) none (part t (all-known {below = []} {ins = f .values} refl)) in
+      let held : KindBytes kinds floor (allValues fs ++ []) = subst (λ (n : ℕ). KindBytes kinds n (allValues fs ++ [])) none (part t (all-known {below = []} {ins = f .values} refl)) in
       typed (branches (g .label) (x .1))
       (record {
         holds = held;

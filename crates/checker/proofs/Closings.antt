@@ -14,7 +14,7 @@ use Rattle.opcode.specs.Table.{End, plain}
 use Rattle.instr.specs.declared.Instr.{Instr}
 use Rattle.rules.specs.Typing.{Frame, holding, allValues, Has, all-known, closes, Ends, ends}
 use Rattle.rules.proofs.Typings.{has-once}
-use Rattle.checker.specs.Walk.{Holds, Nested, Framed}
+use Rattle.checker.specs.Walk.{KindBytes, Nested, Framed}
 use Rattle.checker.specs.Inner.Stack.{Top, Under, under, missing, Leaves, too-many, left}
 use Rattle.checker.specs.Inner.Blocks.{topFirst}
 use Rattle.checker.specs.Inner.Judging.{Judges, no-results, too-deep, typed}
@@ -50,12 +50,12 @@ module _ {rs : List Kind} {kinds blocks : List ℕ} {depth nest floor : ℕ} {de
   pub closing-top : Top kinds depth floor dead (allValues (k .next ∷ k .rest)) (k .top)
   closing-top = framed-top framed-here
 
-  pub closing-held : Holds kinds floor (allValues (k .next ∷ k .rest))
+  pub closing-held : KindBytes kinds floor (allValues (k .next ∷ k .rest))
   closing-held =
       let t = closing-top in
       let none : floor + length {A = Kind} [] ≡ floor = omega arith in
       let same = append-nil (allValues (k .next ∷ k .rest)) in
-      subst (Holds kinds floor) same (subst (λ (n : ℕ). Holds kinds n (allValues (k .next ∷ k .rest) ++ [])) none (part t (all-known {below = []} {ins = k .top .values} refl)))
+      subst (KindBytes kinds floor) same (subst (λ (n : ℕ). KindBytes kinds n (allValues (k .next ∷ k .rest) ++ [])) none (part t (all-known {below = []} {ins = k .top .values} refl)))
 
   -- the outer floor is a byte
   pub closing-small : k .outer-floor < 256
@@ -89,7 +89,7 @@ module _ {rs : List Kind} {kinds blocks : List ℕ} {depth nest floor : ℕ} {de
           let same = append-assoc (allValues (k .rest)) (k .next .values) (k .top .results) in
           typed (closes (ends h))
           (record {
-            holds = subst (Holds after d) same g;
+            holds = subst (KindBytes after d) same g;
             nested = outside;
             within = record { blocks = omega (arith, framed-here .within .blocks); values = subst (λ (x : List Kind). length x ≤ stackLimit) same small };
           })

@@ -12,7 +12,7 @@ use Rattle.opcode.specs.Kind.{kindByte}
 use Rattle.rules.specs.Header.{Header, Declares, locals, kinds}
 use Rattle.rules.specs.Breach.{Says, breach}
 use Rattle.checker.specs.Check.{Checked}
-use Rattle.checker.specs.Walk.{Holds}
+use Rattle.checker.specs.Walk.{KindBytes}
 use Rattle.checker.specs.Inner.Parts.{Headed, Counts, Begins}
 use Rattle.checker.proofs.Fronts.{Says-so}
 
@@ -41,10 +41,10 @@ module _ {s : List ℕ} {v n r : ℕ} {h : Header} (k : Counts s v n r h) where
   pub few-results : r ≤ resultLimit
   few-results = omega (arith, k .declares .few .results, k .results-are)
 
-  pub holds-locals : Holds (drop 8 s) n (locals h)
+  pub holds-locals : KindBytes (drop 8 s) n (locals h)
   holds-locals = record { many = k .locals-are; rest = map kindByte (h .results) ++ k .declares .body; here = kind-bytes }
 
-  pub holds-results : Holds (drop (8 + n) s) r (h .results)
+  pub holds-results : KindBytes (drop (8 + n) s) r (h .results)
   holds-results =
       record {
         many = k .results-are;

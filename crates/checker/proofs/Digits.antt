@@ -8,7 +8,7 @@ use Rattle.limits.specs.Limits.{resultLimit}
 use Rattle.operation.specs.Vector.{number}
 use Rattle.opcode.specs.Kind.{Kind, kindByte}
 use Rattle.opcode.proofs.Effects.{kind-range}
-use Rattle.checker.specs.Walk.{Holds}
+use Rattle.checker.specs.Walk.{KindBytes}
 use Rattle.checker.specs.Inner.Blocks.{topFirst}
 use Rattle.checker.proofs.Held.{held-from}
 use lib.Dec.{lit<}
@@ -41,7 +41,7 @@ pub record Rest (s : List ℕ) (from n : ℕ) (ks : List Kind) (k all : ℕ) : T
 pub record Reading (s : List ℕ) (from n : ℕ) (k all : ℕ) : Type 0 where
   pub most : k ≤ n
   pub small : all < 2 ^ 32
-  pub so-far : (ks : List Kind) → Holds (drop from s) n ks → Rest s from n ks k all
+  pub so-far : (ks : List Kind) → KindBytes (drop from s) n ks → Rest s from n ks k all
 
 module _ (s : List ℕ) (from n : ℕ) where
   pub reads-none : Reading s from n 0 0
@@ -53,7 +53,7 @@ module _ (s : List ℕ) (from n : ℕ) where
       }
 
   module _ {k all : ℕ} (w : Reading s from n k all) where
-    long : (ks : List Kind) (h : Holds (drop from s) n ks) → length (w .so-far ks h .ahead) + k ≡ n
+    long : (ks : List Kind) (h : KindBytes (drop from s) n ks) → length (w .so-far ks h .ahead) + k ≡ n
     long ks h =
         let r = w .so-far ks h in
         omega (arith, r .many, h .many, ap length (r .parts), length-reverseAux (r .ahead) (r .acc), length-reverse ks)
@@ -85,7 +85,7 @@ module _ (s : List ℕ) (from n : ℕ) where
     last ks [] acc p d l = ap digits (sym p) ∙ d
     last ks (x ∷ ahead) acc p d l = absurd (let z : ⊥ = omega arith in z)
 
-    pub reads-all : n ≤ k → (ks : List Kind) → Holds (drop from s) n ks → topFirst ks ≡ all
+    pub reads-all : n ≤ k → (ks : List Kind) → KindBytes (drop from s) n ks → topFirst ks ≡ all
     reads-all l ks h = let r = w .so-far ks h in last ks (r .ahead) (r .acc) (r .parts) (r .sofar) (omega (arith, long ks h, l))
 
 -- ---- the first one lowest

@@ -18,7 +18,7 @@ use Rattle.opcode.proofs.Groups.{by-group}
 use Rattle.rules.specs.Typing.{Frame, Has, all-known, any, Local, first, later, Typed, by-signature, dropped, got, set, teed, Names, get-names, set-names, tee-names}
 use Rattle.rules.proofs.Lists.{ends-once}
 use Rattle.rules.proofs.Typings.{local-once}
-use Rattle.checker.specs.Walk.{Holds}
+use Rattle.checker.specs.Walk.{KindBytes}
 use Rattle.checker.specs.Inner.Stack.{Top, Small, Applies, lacks, over, fits}
 use Rattle.checker.specs.Inner.Judging.{Ordinary, Effected, undeclared, typed-by, Gives, undeclared-local, lacking, overfull, does}
 use Rattle.checker.proofs.Held.{split-last, held-at, held-from}
@@ -151,7 +151,7 @@ module _ (ls : List Kind) (n : ℕ) (f : Frame) (e : ℕ) where
         subst (λ (k : Kind). Has f below (k ∷ [])) same had))
         c (sym q ∙ is))
 
-  module _ (s : List ℕ) {locals : ℕ} (h : Holds (drop 8 s) locals ls) (c : Code) (names : Names c) where
+  module _ (s : List ℕ) {locals : ℕ} (h : KindBytes (drop 8 s) locals ls) (c : Code) (names : Names c) where
     pub effected-undeclared : locals ≤ n → e ≡ 0 → Effected ls n c f e
     effected-undeclared l z = subst (Effected ls n c f) (sym z) (undeclared names (λ k m. beyond (omega (arith, h .many)) m))
 

@@ -34,10 +34,10 @@ use Rattle.rules.specs.Strip.{Reads, Reaches, front, past}
 use Rattle.rules.specs.Breach.{At, Breach, local, nest, label, operand, deep, result}
 use Rattle.rules.proofs.Headers.{decodes-known}
 use Rattle.checker.specs.declared.turns.State.{State}
-use Rattle.checker.specs.Walk.{Holds, Nested, strip, block, Framed, outset}
+use Rattle.checker.specs.Walk.{KindBytes, Nested, strip, block, Framed, outset}
 use Rattle.checker.specs.Inner.Stack.{Top}
 use Rattle.checker.specs.Inner.Blocks.{topFirst}
-use Rattle.checker.specs.Inner.Judging.{Judges, no-local, too-nested, no-label, untyped, no-results, too-deep, typed, Faces, Ready}
+use Rattle.checker.specs.Inner.Judging.{Judges, no-local, too-nested, no-label, untyped, no-results, too-deep, typed, Faces, AtTurn}
 use Rattle.checker.specs.Inner.Parts.{Begins, AtEnd}
 use Rattle.checker.proofs.Held.{held-long}
 use Rattle.checker.proofs.Refusals.{refused-breach}
@@ -52,7 +52,7 @@ pub record Going (s : List ℕ) (v n takes : ℕ) (kinds blocks : List ℕ) (dep
   pub header : Header
   pub declares : Declares s header
   pub version-is : header .version ≡ v
-  pub locals-are : Holds (drop 8 s) n (locals header)
+  pub locals-are : KindBytes (drop 8 s) n (locals header)
   pub inside : 8 + n ≤ length s
   pub takes-is : topFirst (header .results) ≡ takes
   pub takes-small : takes < 2 ^ 32
@@ -63,7 +63,7 @@ pub record Going (s : List ℕ) (v n takes : ℕ) (kinds blocks : List ℕ) (dep
   pub blocks-long : length blocks ≡ nestLimit
 
 pub starts : {s : List ℕ} {v start n r takes : ℕ} (kinds blocks : List ℕ) → length kinds ≡ stackLimit → length blocks ≡ nestLimit → Begins s v start n r
-    → (takes < 2 ^ 32) × ((ks : List Kind) → Holds (drop (8 + n) s) r ks → topFirst ks ≡ takes) → {o : State} → o ≡ outset
+    → (takes < 2 ^ 32) × ((ks : List Kind) → KindBytes (drop (8 + n) s) r ks → topFirst ks ≡ takes) → {o : State} → o ≡ outset
     → Going s v n takes kinds blocks (o .depth) (o .nest) (o .floor) (o .dead) start
 starts {s} {v} {start} {n} {takes = takes} kinds blocks lk lb b t e =
     subst (λ (x : State). Going s v n takes kinds blocks (x .depth) (x .nest) (x .floor) (x .dead) start) (sym e)
@@ -220,7 +220,7 @@ module _ {s : List ℕ} {v n takes : ℕ} {kinds blocks : List ℕ} {depth nest 
           by (inl e) = by-group Opens 25 block-opens (coded .0) (sym its-group ∙ sym e)
           by (inr m) = by-group Opens 26 loop-opens (coded .0) (sym its-group ∙ (let e : groupIn (d .entry) ≡ 26 = omega (arith, m, h) in e))
 
-      pub ready : Ready s n takes (d .entry) (d .immediate) kinds blocks depth nest floor
+      pub ready : AtTurn s n takes (d .entry) (d .immediate) kinds blocks depth nest floor
       ready =
           let x = tops in
           record {

@@ -6,7 +6,7 @@ use native.Mathlib.Omega.{arith}
 use lib.ListN.{length, getD, set, take, drop, length-append, length-map, List·getD-append}
 use lib.Seq.{take-at, getD-at, set-at, getD-drop, drop-set-lt, drop-drop}
 use Rattle.opcode.specs.Kind.{Kind, kindByte}
-use Rattle.checker.specs.Walk.{Holds}
+use Rattle.checker.specs.Walk.{KindBytes}
 
 -- ---- what is as it was, from a place on
 
@@ -24,7 +24,7 @@ split-last [] h = absurd (let z : ⊥ = omega arith in z)
 split-last (k ∷ []) h = ([], k, refl)
 split-last (j ∷ k ∷ l) h = let d = split-last (k ∷ l) (omega arith) in (j ∷ d .0, d .1, ap (λ (x : List Kind). j ∷ x) (d .2))
 
-module _ {bytes : List ℕ} {n : ℕ} {κs : List Kind} (h : Holds bytes n κs) where
+module _ {bytes : List ℕ} {n : ℕ} {κs : List Kind} (h : KindBytes bytes n κs) where
   pub held-long : n ≤ length bytes
   held-long = omega (arith, ap length (h .here), length-append (map kindByte κs) (h .rest), length-map κs kindByte, h .many)
 
@@ -40,7 +40,7 @@ module _ {bytes : List ℕ} {n : ℕ} {κs : List Kind} (h : Holds bytes n κs) 
       h .here ∙ ap (λ (x : List Kind). map kindByte x ++ h .rest) e ∙ ap (λ (x : List ℕ). x ++ h .rest) (map-append kindByte below above)
       ∙ append-assoc (map kindByte below) (map kindByte above) (h .rest)
 
-  pub held-part : (below above : List Kind) → κs ≡ below ++ above → Holds bytes (length below) below
+  pub held-part : (below above : List Kind) → κs ≡ below ++ above → KindBytes bytes (length below) below
   held-part below above e = record { many = refl; rest = map kindByte above ++ h .rest; here = parted below above e }
 
   pub held-at : (below above : List Kind) (k : Kind) → κs ≡ below ++ (k ∷ above) → getD bytes (length below) 0 ≡ kindByte k
@@ -48,7 +48,7 @@ module _ {bytes : List ℕ} {n : ℕ} {κs : List Kind} (h : Holds bytes n κs) 
       ap (λ (x : List ℕ). getD x (length below) 0) (parted below (k ∷ above) e)
       ∙ getD-at (map kindByte below) (kindByte k) (map kindByte above ++ h .rest) 0 (length below) (length-map below kindByte)
 
-  pushed : (rest : List ℕ) → h .rest ≡ rest → n < length bytes → (k : Kind) → Holds (set bytes n (kindByte k)) (n + 1) (κs ++ (k ∷ []))
+  pushed : (rest : List ℕ) → h .rest ≡ rest → n < length bytes → (k : Kind) → KindBytes (set bytes n (kindByte k)) (n + 1) (κs ++ (k ∷ []))
   pushed [] e l k = absurd (let z : ⊥ = omega (arith, ap length (h .here), length-append (map kindByte κs) (h .rest), length-map κs kindByte, h .many, ap length e) in z)
   pushed (b ∷ rest) e l k =
       record {
@@ -60,9 +60,9 @@ module _ {bytes : List ℕ} {n : ℕ} {κs : List Kind} (h : Holds bytes n κs) 
       }
 
   -- one more
-  pub held-more : n < length bytes → (k : Kind) → Holds (set bytes n (kindByte k)) (n + 1) (κs ++ (k ∷ []))
+  pub held-more : n < length bytes → (k : Kind) → KindBytes (set bytes n (kindByte k)) (n + 1) (κs ++ (k ∷ []))
   held-more = pushed (h .rest) refl
 
 -- n kinds from a place of the strip on
-pub held-from : (s : List ℕ) (from : ℕ) {n : ℕ} {κs : List Kind} → Holds (drop from s) n κs → (j : ℕ) → j < n → getD s (from + j) 0 ≡ getD (map kindByte κs) j 0
+pub held-from : (s : List ℕ) (from : ℕ) {n : ℕ} {κs : List Kind} → KindBytes (drop from s) n κs → (j : ℕ) → j < n → getD s (from + j) 0 ≡ getD (map kindByte κs) j 0
 held-from s from h j l = sym (getD-drop from s j 0) ∙ held h j l

@@ -9,7 +9,7 @@ use Rattle.limits.specs.Limits.{stackLimit}
 use Rattle.operation.specs.Vector.{number}
 use Rattle.opcode.specs.Kind.{Kind, kindByte}
 use Rattle.opcode.proofs.Effects.{kind-range}
-use Rattle.checker.specs.Walk.{Holds}
+use Rattle.checker.specs.Walk.{KindBytes}
 use Rattle.checker.specs.Inner.Stack.{Leaves, too-many, left as left-all}
 use Rattle.checker.proofs.Held.{one-set, kept-more, held-more}
 
@@ -18,13 +18,13 @@ pub record Leaving (below outs : List Kind) (kinds : List ℕ) (left depth : ℕ
   pub ahead : List Kind
   pub parts : outs ≡ done ++ ahead
   pub digits : number (map kindByte ahead) ≡ left
-  pub holds : Holds kinds depth (below ++ done)
+  pub holds : KindBytes kinds depth (below ++ done)
 
 pub record Leaves-on (results : ℕ) (kinds₀ : List ℕ) (base : ℕ) (kinds : List ℕ) (left depth : ℕ) : Type 0 where
   pub long : length kinds ≡ stackLimit
   pub most : depth ≤ stackLimit
   pub kept : drop depth kinds ≡ drop depth kinds₀
-  pub so-far : (below outs : List Kind) → Holds kinds₀ base below → number (map kindByte outs) ≡ results → Leaving below outs kinds left depth
+  pub so-far : (below outs : List Kind) → KindBytes kinds₀ base below → number (map kindByte outs) ≡ results → Leaving below outs kinds left depth
 
 pub leaves : (results : ℕ) (kinds : List ℕ) (base : ℕ) → length kinds ≡ stackLimit → base ≤ stackLimit → Leaves-on results kinds base kinds results base
 leaves results kinds base l m =
@@ -33,11 +33,11 @@ leaves results kinds base l m =
       most = m;
       kept = refl;
       so-far = λ below outs h e.
-          record { done = []; ahead = outs; parts = refl; digits = e; holds = subst (Holds kinds base) (sym (append-nil below)) h };
+          record { done = []; ahead = outs; parts = refl; digits = e; holds = subst (KindBytes kinds base) (sym (append-nil below)) h };
     }
 
 module _ {results base : ℕ} {kinds₀ kinds : List ℕ} {left depth : ℕ} (w : Leaves-on results kinds₀ base kinds left depth) where
-  step : {below outs : List Kind} (done ahead : List Kind) → outs ≡ done ++ ahead → number (map kindByte ahead) ≡ left → Holds kinds depth (below ++ done)
+  step : {below outs : List Kind} (done ahead : List Kind) → outs ≡ done ++ ahead → number (map kindByte ahead) ≡ left → KindBytes kinds depth (below ++ done)
       → (left ≡ 0 → ⊥) → depth < stackLimit → Leaving below outs (set kinds depth (left % 256)) (left / 256) (depth + 1)
   step done [] p d h z l = absurd (z (sym d))
   step {below} done (k ∷ ahead) p d h z l =
@@ -47,8 +47,8 @@ module _ {results base : ℕ} {kinds₀ kinds : List ℕ} {left depth : ℕ} (w 
         ahead = ahead;
         parts = p ∙ sym (append-assoc done (k ∷ []) ahead);
         digits = omega (arith, kind-range k);
-        holds = subst (λ (b : ℕ). Holds (set kinds depth b) (depth + 1) (below ++ (done ++ (k ∷ [])))) byte
-            (subst (Holds (set kinds depth (kindByte k)) (depth + 1)) (append-assoc below done (k ∷ [])) (held-more h (omega (arith, w .long)) k));
+        holds = subst (λ (b : ℕ). KindBytes (set kinds depth b) (depth + 1) (below ++ (done ++ (k ∷ [])))) byte
+            (subst (KindBytes (set kinds depth (kindByte k)) (depth + 1)) (append-assoc below done (k ∷ [])) (held-more h (omega (arith, w .long)) k));
       }
 
   pub leaves-more : (left ≡ 0 → ⊥) → depth < stackLimit → Leaves-on results kinds₀ base (set kinds depth (left % 256)) (left / 256) (depth + 1)
@@ -60,17 +60,17 @@ module _ {results base : ℕ} {kinds₀ kinds : List ℕ} {left depth : ℕ} (w 
         so-far = λ below outs h e. let s = w .so-far below outs h e in step (s .done) (s .ahead) (s .parts) (s .digits) (s .holds) z l;
       }
 
-  module _ (below outs : List Kind) (h : Holds kinds₀ base below) (e : number (map kindByte outs) ≡ results) where
-    all-of : (done ahead : List Kind) → outs ≡ done ++ ahead → number (map kindByte ahead) ≡ left → Holds kinds depth (below ++ done) → left ≡ 0 → Leaves below outs kinds DONE depth
+  module _ (below outs : List Kind) (h : KindBytes kinds₀ base below) (e : number (map kindByte outs) ≡ results) where
+    all-of : (done ahead : List Kind) → outs ≡ done ++ ahead → number (map kindByte ahead) ≡ left → KindBytes kinds depth (below ++ done) → left ≡ 0 → Leaves below outs kinds DONE depth
     all-of done [] p d g z =
         let same : below ++ done ≡ below ++ outs = ap (λ (x : List Kind). below ++ x) (sym (p ∙ append-nil done)) in
-        left-all (omega (arith, g .many, ap length same, w .most)) (subst (Holds kinds depth) same g)
+        left-all (omega (arith, g .many, ap length same, w .most)) (subst (KindBytes kinds depth) same g)
     all-of done (k ∷ ahead) p d g z = absurd (let no : ⊥ = omega (arith, kind-range k) in no)
 
     pub left-now : left ≡ 0 → Leaves below outs kinds DONE depth
     left-now z = let s = w .so-far below outs h e in all-of (s .done) (s .ahead) (s .parts) (s .digits) (s .holds) z
 
-    over-of : (done ahead : List Kind) → outs ≡ done ++ ahead → number (map kindByte ahead) ≡ left → Holds kinds depth (below ++ done) → (left ≡ 0 → ⊥) → depth ≡ stackLimit
+    over-of : (done ahead : List Kind) → outs ≡ done ++ ahead → number (map kindByte ahead) ≡ left → KindBytes kinds depth (below ++ done) → (left ≡ 0 → ⊥) → depth ≡ stackLimit
         → stackLimit < length (below ++ outs)
     over-of done [] p d g z m = absurd (z (sym d))
     over-of done (k ∷ ahead) p d g z m = omega (arith, g .many, length-append below done, length-append below outs, ap length p, length-append done (k ∷ ahead))

@@ -8,7 +8,7 @@ use lib.ListN.{length, length-append}
 use Rattle.limits.specs.Limits.{stackLimit}
 use Rattle.opcode.specs.Kind.{Kind}
 use Rattle.rules.specs.Typing.{Frame, Has, all-known, any}
-use Rattle.checker.specs.Walk.{Holds}
+use Rattle.checker.specs.Walk.{KindBytes}
 use Rattle.checker.specs.Inner.Stack.{Top, Under, under, missing}
 use Rattle.checker.proofs.Held.{held-part}
 
@@ -24,11 +24,11 @@ fewer {f} (any u d e) = (f .values, refl)
 
 module _ {kinds : List ℕ} {depth floor : ℕ} {dead : Bool} {outer : List Kind} {f : Frame} (t : Top kinds depth floor dead outer f) where
   -- and are held
-  pub part : {below ins : List Kind} → Has f below ins → Holds kinds (floor + length below) (outer ++ below)
+  pub part : {below ins : List Kind} → Has f below ins → KindBytes kinds (floor + length below) (outer ++ below)
   part {below} h =
       let a = fewer h in
       let long : length (outer ++ below) ≡ floor + length below = omega (arith, length-append outer below, t .floor-is) in
-      subst (λ (n : ℕ). Holds kinds n (outer ++ below)) long
+      subst (λ (n : ℕ). KindBytes kinds n (outer ++ below)) long
       (held-part (t .holds) (outer ++ below) (a .0) (ap (λ (x : List Kind). outer ++ x) (a .1) ∙ sym (append-assoc outer below (a .0))))
 
   pub under-none : {ins : List Kind} {base : ℕ} → Under f ins floor base → depth ≤ stackLimit → stackLimit < base → (below : List Kind) → Has f below ins → ⊥

@@ -25,10 +25,10 @@ use Rattle.rules.proofs.Headers.{decodes-known}
 use Rattle.rules.proofs.Onward.{declared, reads-once, only}
 use Rattle.rules.proofs.Sorts.{typed-inner}
 use Rattle.checker.specs.declared.turns.State.{State}
-use Rattle.checker.specs.Walk.{Holds, Walks, Goes, over, on, Steps}
+use Rattle.checker.specs.Walk.{KindBytes, Walks, Goes, over, on, Steps}
 use Rattle.checker.specs.Inner.Stack.{Keeps}
 use Rattle.checker.specs.Inner.Blocks.{topFirst}
-use Rattle.checker.specs.Inner.Judging.{Judges, Faces, Ready}
+use Rattle.checker.specs.Inner.Judging.{Judges, Faces, AtTurn}
 use Rattle.checker.proofs.Nests.{nested-many}
 use Rattle.checker.proofs.Counted.{counted, counts-inside, few-results, holds-locals, holds-results}
 use Rattle.checker.proofs.Goings.{Going, coded, is-end, no-end, ready, judgement}
@@ -44,7 +44,7 @@ module _ {s : List ℕ} {p : ℕ} {kinds blocks : List ℕ} {state : State} (w :
   pub inside : (8 + (getD s 5 0 + getD s 6 0) + getD s 7 0 ≤ length s) × (getD s 7 0 ≤ resultLimit)
   inside = (counts-inside (counted declares), few-results (counted declares))
 
-  module _ {takes : ℕ} (t : (takes < 2 ^ 32) × ((ks : List Kind) → Holds (drop (8 + (getD s 5 0 + getD s 6 0)) s) (getD s 7 0) ks → topFirst ks ≡ takes)) where
+  module _ {takes : ℕ} (t : (takes < 2 ^ 32) × ((ks : List Kind) → KindBytes (drop (8 + (getD s 5 0 + getD s 6 0)) s) (getD s 7 0) ks → topFirst ks ≡ takes)) where
     abbrev going : Going s (getD s 3 0) (getD s 5 0 + getD s 6 0) takes kinds blocks (state .depth) (state .nest) (state .floor) (state .dead) p
     going =
         record {
@@ -88,7 +88,7 @@ module _ {s : List ℕ} {p : ℕ} {kinds blocks : List ℕ} {state : State} (w :
               absurd (typed-inner u (reads-once r (its .1) .1 ∙ it .1) (omega (arith, nested-many (w .framed .nested), it .0)))
 
       module _ (other : (eqb (state .nest) 0 && eqb (groupIn (d .entry)) 0) ≡ false) where
-        pub turn-ready : Ready s (getD s 5 0 + getD s 6 0) takes (d .entry) (d .immediate) kinds blocks (state .depth) (state .nest) (state .floor)
+        pub turn-ready : AtTurn s (getD s 5 0 + getD s 6 0) takes (d .entry) (d .immediate) kinds blocks (state .depth) (state .nest) (state .floor)
         turn-ready = ready going d is b read other
 
         pub next-step : {kinds′ blocks′ : List ℕ} (state′ : State)

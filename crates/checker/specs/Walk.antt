@@ -25,7 +25,7 @@ startOf s = cond (ltb (length s) 8) 8 (8 + getD s 5 0 + getD s 6 0 + getD s 7 0)
 -- ---- the kinds on the stack, a byte each, the bottom first
 
 -- the bytes begin with these kinds, n of them
-pub record Holds (bytes : List ℕ) (n : ℕ) (κs : List Kind) : Type 0 where
+pub record KindBytes (bytes : List ℕ) (n : ℕ) (κs : List Kind) : Type 0 where
   pub many : length κs ≡ n
   pub rest : List ℕ
   pub here : bytes ≡ map kindByte κs ++ rest
@@ -48,7 +48,7 @@ pub data Nested (rs : List Kind) (blocks : List ℕ) : ℕ → ℕ → Bool → 
 
 -- with the kinds on the stack
 pub record Framed (rs : List Kind) (kinds blocks : List ℕ) (depth nest floor : ℕ) (dead : Bool) (fs : List Frame) : Type 0 where
-  pub holds : Holds kinds depth (allValues fs)
+  pub holds : KindBytes kinds depth (allValues fs)
   pub nested : Nested rs blocks nest floor dead fs
   pub within : Within fs
 

@@ -6,7 +6,7 @@ ghost use lib.ListN.{length, drop};
 ghost use Rattle.limits.specs.Limits.{resultLimit};
 ghost use Rattle.operation.specs.Vector.{number};
 ghost use Rattle.opcode.specs.Kind.{Kind, kindByte};
-ghost use Rattle.checker.specs.Walk.{Holds};
+ghost use Rattle.checker.specs.Walk.{KindBytes};
 ghost use Rattle.checker.specs.Inner.Blocks.{topFirst};
 
 fn wide(b: u8) -> u64
@@ -18,7 +18,7 @@ fn wide(b: u8) -> u64
 // The n kinds from a place of the strip on, the last one lowest.
 pub(crate) fn top_first(strip: &[u8], from: usize, n: usize) -> u64
     requires { ⌜ (from + n ≤ length (now strip)) × (n ≤ resultLimit) ⌝ }
-    ensures { λ r. ⌜ (r < 2 ^ 32) × ((ks : List Kind) → Holds (drop from (now (strip .entry))) n ks → topFirst ks ≡ r) ⌝ }
+    ensures { λ r. ⌜ (r < 2 ^ 32) × ((ks : List Kind) → KindBytes (drop from (now (strip .entry))) n ks → topFirst ks ≡ r) ⌝ }
 {
     let mut all = 0;
     let mut k = 0;

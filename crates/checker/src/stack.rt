@@ -10,7 +10,7 @@ ghost use Rattle.opcode.specs.Kind.{Kind, kindByte};
 ghost use Rattle.opcode.specs.Effect.{_⇒_};
 ghost use Rattle.opcode.specs.Number.{packed};
 ghost use Rattle.rules.specs.Typing.{Frame};
-ghost use Rattle.checker.specs.Walk.{Holds};
+ghost use Rattle.checker.specs.Walk.{KindBytes};
 ghost use Rattle.checker.specs.Inner.Stack.{Keeps, Top, Under, Small, Leaves, Applies};
 
 // A code, and how many values the stack holds then.
@@ -46,7 +46,7 @@ pub(crate) fn under(operands: u64, kinds: &[u8], depth: usize, floor: usize, dea
 // Kinds whose bytes are a number, the lowest first, are left from a base on.
 pub(crate) fn leave(results: u64, kinds: &mut [u8], base: usize) -> Judged
     requires { ⌜ (base ≤ stackLimit) × (length (now kinds) ≡ stackLimit) ⌝ }
-    ensures { λ r. ⌜ ((below outs : List Kind) → Holds (now (kinds .entry)) base below → number (map kindByte outs) ≡ results → Leaves below outs (now (kinds .exit)) (r .code) (r .depth)) ⌝ }
+    ensures { λ r. ⌜ ((below outs : List Kind) → KindBytes (now (kinds .entry)) base below → number (map kindByte outs) ≡ results → Leaves below outs (now (kinds .exit)) (r .code) (r .depth)) ⌝ }
     ensures { λ r. ⌜ Keeps (r .code) (r .depth) (now (kinds .entry)) (now (kinds .exit)) ⌝ }
 {
     let mut left = results;

@@ -11,10 +11,10 @@ ghost use Rattle.opcode.specs.Table.{End, Br, BrIf, Code, plain, control, carri
 ghost use Rattle.opcode.specs.Entry.{entryOf};
 ghost use Rattle.instr.specs.declared.Instr.{Instr};
 ghost use Rattle.rules.specs.Typing.{Frame};
-ghost use Rattle.checker.specs.Walk.{Holds, Framed};
+ghost use Rattle.checker.specs.Walk.{KindBytes, Framed};
 ghost use Rattle.checker.specs.Inner.Stack.{Keeps};
 ghost use Rattle.checker.specs.Inner.Blocks.{topFirst, Labelled};
-ghost use Rattle.checker.specs.Inner.Judging.{opener, brancher, Ordinary, Judges, Faces, Ready};
+ghost use Rattle.checker.specs.Inner.Judging.{opener, brancher, Ordinary, Judges, Faces, AtTurn};
 use crate::blocks;
 use crate::numbers;
 use crate::stack;
@@ -156,7 +156,7 @@ fn straight(
     state: State,
 ) -> State
     requires { ⌜ (8 + locals ≤ length (now strip)) × (state .floor ≤ state .depth) × (state .depth ≤ stackLimit) × (length (now kinds) ≡ stackLimit) ⌝ }
-    ensures { λ r. ⌜ ((c : Code) (i : Instr) (ls rs : List Kind) (fs : List Frame) (blocks : List ℕ) → entry ≡ entryOf (carried c) → Ordinary c → index ≡ i .index → Holds (drop 8 (now (strip .entry))) locals ls → Framed rs (now (kinds .entry)) blocks (state .depth) (state .nest) (state .floor) (state .dead) fs → Judges ls rs i c fs (now (kinds .exit)) blocks (r .depth) (r .nest) (r .floor) (r .dead) (r .code)) ⌝ }
+    ensures { λ r. ⌜ ((c : Code) (i : Instr) (ls rs : List Kind) (fs : List Frame) (blocks : List ℕ) → entry ≡ entryOf (carried c) → Ordinary c → index ≡ i .index → KindBytes (drop 8 (now (strip .entry))) locals ls → Framed rs (now (kinds .entry)) blocks (state .depth) (state .nest) (state .floor) (state .dead) fs → Judges ls rs i c fs (now (kinds .exit)) blocks (r .depth) (r .nest) (r .floor) (r .dead) (r .code)) ⌝ }
     ensures { λ r. ⌜ Keeps (r .code) (r .depth) (now (kinds .entry)) (now (kinds .exit)) ⌝ }
 {
     let j = typing::judge(
@@ -188,7 +188,7 @@ pub(crate) fn turn(
     blocks: &mut [u32],
     state: State,
 ) -> State
-    requires { ⌜ Ready (now strip) locals results entry index (now kinds) (now blocks) (state .depth) (state .nest) (state .floor) ⌝ }
+    requires { ⌜ AtTurn (now strip) locals results entry index (now kinds) (now blocks) (state .depth) (state .nest) (state .floor) ⌝ }
     ensures { λ r. ⌜ ((c : Code) (i : Instr) (ls rs : List Kind) (fs : List Frame) → Faces (now (strip .entry)) locals results entry index (now (kinds .entry)) (now (blocks .entry)) (state .depth) (state .nest) (state .floor) (state .dead) c i ls rs fs → Judges ls rs i c fs (now (kinds .exit)) (now (blocks .exit)) (r .depth) (r .nest) (r .floor) (r .dead) (r .code)) ⌝ }
     ensures { λ r. ⌜ Keeps (r .code) (r .depth) (now (kinds .entry)) (now (kinds .exit)) × Keeps (r .code) (r .nest) (now (blocks .entry)) (now (blocks .exit)) ⌝ }
 {

@@ -8,7 +8,7 @@ ghost use Rattle.opcode.specs.Kind.{Kind};
 ghost use Rattle.opcode.specs.Table.{Code, carried};
 ghost use Rattle.opcode.specs.Entry.{entryOf};
 ghost use Rattle.rules.specs.Typing.{Frame};
-ghost use Rattle.checker.specs.Walk.{Holds};
+ghost use Rattle.checker.specs.Walk.{KindBytes};
 ghost use Rattle.checker.specs.Inner.Stack.{Keeps, Top};
 ghost use Rattle.checker.specs.Inner.Judging.{Effected, Ordinary, Gives};
 use crate::stack;
@@ -27,7 +27,7 @@ fn effect_of(
     floor: usize,
 ) -> u32
     requires { ⌜ (8 + locals ≤ length (now strip)) × (floor ≤ depth) × (depth ≤ length (now kinds)) ⌝ }
-    ensures { λ r. ⌜ ((c : Code) (ls outer : List Kind) (f : Frame) → entry ≡ entryOf (carried c) → Ordinary c → Holds (drop 8 (now (strip .entry))) locals ls → Top (now (kinds .entry)) depth floor (f .dead) outer f → Effected ls index c f r) ⌝ }
+    ensures { λ r. ⌜ ((c : Code) (ls outer : List Kind) (f : Frame) → entry ≡ entryOf (carried c) → Ordinary c → KindBytes (drop 8 (now (strip .entry))) locals ls → Top (now (kinds .entry)) depth floor (f .dead) outer f → Effected ls index c f r) ⌝ }
 {
     let effect = opcode::effect(entry);
     if effect != 0 {
@@ -64,7 +64,7 @@ pub(crate) fn judge(
     dead: bool,
 ) -> Judged
     requires { ⌜ (8 + locals ≤ length (now strip)) × (floor ≤ depth) × (depth ≤ stackLimit) × (length (now kinds) ≡ stackLimit) ⌝ }
-    ensures { λ r. ⌜ ((c : Code) (ls outer : List Kind) (f : Frame) → entry ≡ entryOf (carried c) → Ordinary c → Holds (drop 8 (now (strip .entry))) locals ls → Top (now (kinds .entry)) depth floor dead outer f → Gives ls index c outer f (now (kinds .exit)) (r .code) (r .depth)) ⌝ }
+    ensures { λ r. ⌜ ((c : Code) (ls outer : List Kind) (f : Frame) → entry ≡ entryOf (carried c) → Ordinary c → KindBytes (drop 8 (now (strip .entry))) locals ls → Top (now (kinds .entry)) depth floor dead outer f → Gives ls index c outer f (now (kinds .exit)) (r .code) (r .depth)) ⌝ }
     ensures { λ r. ⌜ Keeps (r .code) (r .depth) (now (kinds .entry)) (now (kinds .exit)) ⌝ }
 {
     let effect = effect_of(strip, locals, entry, index, kinds, depth, floor);

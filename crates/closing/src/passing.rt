@@ -64,16 +64,16 @@ fn past_immediates(s: &[u8], p: usize, entry: u64) -> usize
     ensures { λ r. ⌜ ((row : Row) → entry ≡ entryOf row → r ≡ pastRow row (now (s .entry)) p) ⌝ }
 {
     match opcode::immediates(entry) {
-        opcode::NOTHING => p,
-        opcode::INDEX => past_number(s, p),
-        opcode::WORD => past_number(s, p),
-        opcode::LONG => past_number(s, p),
-        opcode::MEMORY => past_number(s, past_number(s, p)),
-        opcode::MEMORY_LANE => past_bytes(s, past_number(s, past_number(s, p)), 1),
-        opcode::LANE => past_bytes(s, p, 1),
-        opcode::BYTES => past_bytes(s, p, 16),
-        opcode::LANES => past_bytes(s, p, 16),
-        opcode::BLOCK_TYPE => past_bytes(s, p, 1),
+        opcode::CLASS_NOTHING => p,
+        opcode::CLASS_INDEX => past_number(s, p),
+        opcode::CLASS_WORD => past_number(s, p),
+        opcode::CLASS_LONG => past_number(s, p),
+        opcode::CLASS_MEMORY => past_number(s, past_number(s, p)),
+        opcode::CLASS_MEMORY_LANE => past_bytes(s, past_number(s, past_number(s, p)), 1),
+        opcode::CLASS_LANE => past_bytes(s, p, 1),
+        opcode::CLASS_BYTES => past_bytes(s, p, 16),
+        opcode::CLASS_LANES => past_bytes(s, p, 16),
+        opcode::CLASS_BLOCK_TYPE => past_bytes(s, p, 1),
         _ => s.len(),
     }
 }

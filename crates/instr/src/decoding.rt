@@ -136,19 +136,19 @@ pub(crate) fn opcode_number(s: &[u8], p: usize, first: u8) -> Read
     }
 }
 
-// What follows the opcode. One caller, so that it becomes part of it; MEMORY and MEMORY_LANE share an arm for the same reason.
+// What follows the opcode. One caller, so that it becomes part of it; CLASS_MEMORY and CLASS_MEMORY_LANE share an arm for the same reason.
 fn body(s: &[u8], at: usize, p: usize, first: u8, number: u32, entry: u64) -> Decoded
     requires { ⌜ (at ≤ p) × (p ≤ length (now s)) × (movedIn entry ≤ 16) ⌝ }
     ensures { λ r. ⌜ ((row : Row) → entry ≡ entryOf row → r ≡ bodyOf row (now (s .entry)) at p (head first number)) ⌝ }
 {
     let class = opcode::immediates(entry);
     match class {
-        opcode::NOTHING => whole(at, p, first, number, 0, 0, 0, 0, 0, 0, [0; 16]),
-        opcode::INDEX => with_index(s, at, p, first, number),
-        opcode::WORD => with_word(s, at, p, first, number),
-        opcode::LONG => with_long(s, at, p, first, number),
-        opcode::MEMORY | opcode::MEMORY_LANE => {
-            let laned = class == opcode::MEMORY_LANE;
+        opcode::CLASS_NOTHING => whole(at, p, first, number, 0, 0, 0, 0, 0, 0, [0; 16]),
+        opcode::CLASS_INDEX => with_index(s, at, p, first, number),
+        opcode::CLASS_WORD => with_word(s, at, p, first, number),
+        opcode::CLASS_LONG => with_long(s, at, p, first, number),
+        opcode::CLASS_MEMORY | opcode::CLASS_MEMORY_LANE => {
+            let laned = class == opcode::CLASS_MEMORY_LANE;
             with_memory(
                 s,
                 at,
@@ -160,11 +160,11 @@ fn body(s: &[u8], at: usize, p: usize, first: u8, number: u32, entry: u64) -> De
                 laned,
             )
         }
-        opcode::LANE => with_lane(s, at, p, first, number, opcode::lanes(entry), 0, 0),
-        opcode::BYTES => with_bytes(s, at, p, first, number),
-        opcode::LANES => with_lanes(s, at, p, first, number),
-        opcode::BLOCK_TYPE => with_block(s, at, p, first, number),
-        opcode::FLOAT => refused(card::FLOAT, at),
+        opcode::CLASS_LANE => with_lane(s, at, p, first, number, opcode::lanes(entry), 0, 0),
+        opcode::CLASS_BYTES => with_bytes(s, at, p, first, number),
+        opcode::CLASS_LANES => with_lanes(s, at, p, first, number),
+        opcode::CLASS_BLOCK_TYPE => with_block(s, at, p, first, number),
+        opcode::CLASS_FLOAT => refused(card::FLOAT, at),
         _ => refused(card::OPCODE, at),
     }
 }

@@ -71,34 +71,34 @@ fn fault_of(id: u32, i: Instr) -> u8
 {
     let entry = opcode::entry(id);
     match opcode::immediates(entry) {
-        opcode::MEMORY => exponent_fault(i.align, opcode::moved(entry)),
-        opcode::MEMORY_LANE => {
+        opcode::CLASS_MEMORY => exponent_fault(i.align, opcode::moved(entry)),
+        opcode::CLASS_MEMORY_LANE => {
             if crate::wide(i.lane) < opcode::lanes(entry) {
                 exponent_fault(i.align, opcode::moved(entry))
             } else {
                 card::LANE
             }
         }
-        opcode::LANE => {
+        opcode::CLASS_LANE => {
             if crate::wide(i.lane) < opcode::lanes(entry) {
                 card::DONE
             } else {
                 card::LANE
             }
         }
-        opcode::LANES => {
+        opcode::CLASS_LANES => {
             let b = i.bytes;
             if all_lanes(b) { card::DONE } else { card::LANE }
         }
-        opcode::BLOCK_TYPE => {
+        opcode::CLASS_BLOCK_TYPE => {
             if crate::is_block_type(i.block) {
                 card::DONE
             } else {
                 card::KIND
             }
         }
-        opcode::FLOAT => card::FLOAT,
-        opcode::UNASSIGNED => card::OPCODE,
+        opcode::CLASS_FLOAT => card::FLOAT,
+        opcode::CLASS_UNASSIGNED => card::OPCODE,
         _ => card::DONE,
     }
 }
@@ -145,15 +145,15 @@ fn immediates_len(class: u8, i: Instr) -> usize
     ensures { λ r. ⌜ (r ≡ length (written (fieldsOf (rowIn latest i) i))) × (r ≤ 16) ⌝ }
 {
     match class {
-        opcode::INDEX => leb128::len_u32(i.index),
-        opcode::WORD => leb128::len_s32(i.word),
-        opcode::LONG => leb128::len_s64(i.long),
-        opcode::MEMORY => leb128::len_u32(i.align) + leb128::len_u32(i.offset),
-        opcode::MEMORY_LANE => leb128::len_u32(i.align) + leb128::len_u32(i.offset) + 1,
-        opcode::LANE => 1,
-        opcode::BYTES => 16,
-        opcode::LANES => 16,
-        opcode::BLOCK_TYPE => 1,
+        opcode::CLASS_INDEX => leb128::len_u32(i.index),
+        opcode::CLASS_WORD => leb128::len_s32(i.word),
+        opcode::CLASS_LONG => leb128::len_s64(i.long),
+        opcode::CLASS_MEMORY => leb128::len_u32(i.align) + leb128::len_u32(i.offset),
+        opcode::CLASS_MEMORY_LANE => leb128::len_u32(i.align) + leb128::len_u32(i.offset) + 1,
+        opcode::CLASS_LANE => 1,
+        opcode::CLASS_BYTES => 16,
+        opcode::CLASS_LANES => 16,
+        opcode::CLASS_BLOCK_TYPE => 1,
         _ => 0,
     }
 }
@@ -175,28 +175,28 @@ fn put_immediates(out: &mut [u8], at: usize, class: u8, i: Instr) -> usize
     ensures { λ r. ⌜ Put (now (out .entry)) at (written (fieldsOf (rowIn latest i) i)) r (now (out .exit)) ⌝ }
 {
     match class {
-        opcode::INDEX => put_u32(out, at, i.index),
-        opcode::WORD => put_s32(out, at, i.word),
-        opcode::LONG => put_s64(out, at, i.long),
-        opcode::MEMORY => {
+        opcode::CLASS_INDEX => put_u32(out, at, i.index),
+        opcode::CLASS_WORD => put_s32(out, at, i.word),
+        opcode::CLASS_LONG => put_s64(out, at, i.long),
+        opcode::CLASS_MEMORY => {
             let p = put_u32(out, at, i.align);
             put_u32(out, p, i.offset)
         }
-        opcode::MEMORY_LANE => {
+        opcode::CLASS_MEMORY_LANE => {
             let p = put_u32(out, at, i.align);
             let q = put_u32(out, p, i.offset);
             put_byte(out, q, i.lane)
         }
-        opcode::LANE => put_byte(out, at, i.lane),
-        opcode::BYTES => {
+        opcode::CLASS_LANE => put_byte(out, at, i.lane),
+        opcode::CLASS_BYTES => {
             let b = i.bytes;
             put_bytes(out, at, b)
         }
-        opcode::LANES => {
+        opcode::CLASS_LANES => {
             let b = i.bytes;
             put_bytes(out, at, b)
         }
-        opcode::BLOCK_TYPE => put_byte(out, at, i.block),
+        opcode::CLASS_BLOCK_TYPE => put_byte(out, at, i.block),
         _ => at,
     }
 }

@@ -88,19 +88,19 @@ fn immediates(s: &[u8], at: usize, p: usize, entry: u64) -> Read
 {
     let class = opcode::immediates(entry);
     match class {
-        opcode::NOTHING => Read::Got(0, p),
-        opcode::INDEX => u32_at(s, p),
-        opcode::WORD => past(s32_at(s, p)),
-        opcode::LONG => past(s64_at(s, p)),
-        opcode::MEMORY | opcode::MEMORY_LANE => {
-            let laned = class == opcode::MEMORY_LANE;
+        opcode::CLASS_NOTHING => Read::Got(0, p),
+        opcode::CLASS_INDEX => u32_at(s, p),
+        opcode::CLASS_WORD => past(s32_at(s, p)),
+        opcode::CLASS_LONG => past(s64_at(s, p)),
+        opcode::CLASS_MEMORY | opcode::CLASS_MEMORY_LANE => {
+            let laned = class == opcode::CLASS_MEMORY_LANE;
             memory(s, p, opcode::moved(entry), opcode::lanes(entry), laned)
         }
-        opcode::LANE => lane(s, p, opcode::lanes(entry)),
-        opcode::BYTES => bytes(s, p),
-        opcode::LANES => lanes(s, p),
-        opcode::BLOCK_TYPE => block(s, p),
-        opcode::FLOAT => Read::No(card::FLOAT, at),
+        opcode::CLASS_LANE => lane(s, p, opcode::lanes(entry)),
+        opcode::CLASS_BYTES => bytes(s, p),
+        opcode::CLASS_LANES => lanes(s, p),
+        opcode::CLASS_BLOCK_TYPE => block(s, p),
+        opcode::CLASS_FLOAT => Read::No(card::FLOAT, at),
         _ => Read::No(card::OPCODE, at),
     }
 }

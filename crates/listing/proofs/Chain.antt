@@ -16,7 +16,7 @@ use Rattle.mnemonic.proofs.Letters.{letters-at}
 use Rattle.mnemonic.proofs.Names.{name-of-id, name-short, name-letters}
 use Rattle.instr.specs.declared.Instr.{Instr}
 use Rattle.instr.specs.Layout.{rowIn}
-use Rattle.checker.specs.Walk.{Holds}
+use Rattle.checker.specs.Walk.{KindBytes}
 use Rattle.checker.proofs.Held.{held-long}
 use Rattle.listing.specs.Line.{bracketed, mnemonic, immediates, line}
 use Rattle.listing.specs.Walk.{longest}
@@ -48,7 +48,7 @@ module _ {kinds : List ℕ} {depth id entry : ℕ} {i : Instr} {out o₁ : List 
   pub after-place : (n₁ ≤ 21) × (length o₁ ≡ length out)
   after-place = adds-ends place (omega (arith, w .enough))
 
-  module _ {o₂ : List ℕ} {n₂ : ℕ} (stack : (κs : List Kind) → Holds kinds depth κs → Adds (5 * depth + 2) (bracketed κs) o₁ n₁ n₂ o₂) where
+  module _ {o₂ : List ℕ} {n₂ : ℕ} (stack : (κs : List Kind) → KindBytes kinds depth κs → Adds (5 * depth + 2) (bracketed κs) o₁ n₁ n₂ o₂) where
     pub after-stack : (n₂ ≤ 23 + 5 * depth) × (length o₂ ≡ length out)
     after-stack = let e = adds-ends (stack (w .stack) (w .holds)) (omega (arith, after-place, w .most, w .enough)) in (omega (arith, e .0, after-place .0), e .1 ∙ after-place .1)
 
@@ -60,7 +60,7 @@ module _ {kinds : List ℕ} {depth id entry : ℕ} {i : Instr} {out o₁ : List 
         pub after-name : (n₄ ≤ 56 + 5 * depth) × (length o₄ ≡ length out)
         after-name = let e = adds-ends name (omega (arith, after-gap, w .most, w .enough)) in (omega (arith, e .0, after-gap .0), e .1 ∙ after-gap .1)
 
-        pub is-line : {o₅ o₆ : List ℕ} {n₅ n₆ : ℕ} → Adds 336 (led (map spelled (immediates i))) o₄ n₄ n₅ o₅ → Appends (newline ∷ []) o₅ n₅ n₆ o₆ → (κs : List Kind) → Holds kinds depth κs
+        pub is-line : {o₅ o₆ : List ℕ} {n₅ n₆ : ℕ} → Adds 336 (led (map spelled (immediates i))) o₄ n₄ n₅ o₅ → Appends (newline ∷ []) o₅ n₅ n₆ o₆ → (κs : List Kind) → KindBytes kinds depth κs
             → Adds longest (line at κs i) out 0 n₆ o₆
         is-line numbers last κs held =
             let most = w .most in

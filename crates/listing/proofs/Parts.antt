@@ -17,7 +17,7 @@ use Rattle.text.proofs.Appending.{appended, length-kept, none-appended, both-ap
 use Rattle.opcode.specs.Kind.{Kind, i32, i64, v128, kindByte, kindName}
 use Rattle.mnemonic.specs.Padded.{padded}
 use Rattle.mnemonic.proofs.Padding.{padded-front, padded-inside, padded-outside}
-use Rattle.checker.specs.Walk.{Holds}
+use Rattle.checker.specs.Walk.{KindBytes}
 use Rattle.listing.specs.Line.{bracketed}
 use Rattle.listing.specs.Inner.Parts.{led, kindText, between, Lettered, Adds}
 
@@ -85,7 +85,7 @@ named (i64 ∷ κs) = ap (λ (l : List (List ℕ)). kindName i64 ∷ l) (named �
 named (v128 ∷ κs) = ap (λ (l : List (List ℕ)). kindName v128 ∷ l) (named κs)
 
 -- the kinds that are held
-pub closed : {kinds : List ℕ} {depth : ℕ} {κs : List Kind} → Holds kinds depth κs → 0x5B ∷ (inner kinds depth ++ 0x5D ∷ []) ≡ bracketed κs
+pub closed : {kinds : List ℕ} {depth : ℕ} {κs : List Kind} → KindBytes kinds depth κs → 0x5B ∷ (inner kinds depth ++ 0x5D ∷ []) ≡ bracketed κs
 unfolding bracketed
 closed {kinds} {depth} {κs} h =
     let front : take depth kinds ≡ map kindByte κs = ap (take depth) (h .here) ∙ take-at (map kindByte κs) (h .rest) depth (length-map κs kindByte ∙ h .many) in
@@ -145,7 +145,7 @@ module _ {kinds out₀ out : List ℕ} {depth at to k : ℕ} (m : Stacking kinds
       record { most = omega arith; held = m .held; room = m .room; made = adds-most (omega arith) (adds-same e (adds-both (m .made) q (omega (arith, m .room)))) }
 
   pub stack-closed : depth ≤ k → {start n : ℕ} {before out′ : List ℕ} → Appends (0x5B ∷ []) before start at out₀ → start + 5 * depth + 2 ≤ length before
-      → Appends (0x5D ∷ []) out to n out′ → (κs : List Kind) → Holds kinds depth κs → Adds (5 * depth + 2) (bracketed κs) before start n out′
+      → Appends (0x5D ∷ []) out to n out′ → (κs : List Kind) → KindBytes kinds depth κs → Adds (5 * depth + 2) (bracketed κs) before start n out′
   stack-closed h p room q κs held =
       let last : k ≡ depth = omega (arith, m .most) in
       adds-most (omega arith)

@@ -27,7 +27,7 @@ use Rattle.rules.proofs.Headers.{decodes-known}
 use Rattle.rules.proofs.Strips.{header-counts}
 use Rattle.rules.proofs.Onward.{declared}
 use Rattle.checker.specs.declared.turns.State.{State}
-use Rattle.checker.specs.Walk.{Holds, Walks, Steps}
+use Rattle.checker.specs.Walk.{KindBytes, Walks, Steps}
 use Rattle.checker.proofs.Ahead.{ahead, ahead-read}
 use Rattle.listing.specs.Line.{line}
 use Rattle.listing.specs.Walk.{longest, lineOf, Walked}
@@ -88,7 +88,7 @@ module _ {s : List ℕ} {p : ℕ} {kinds blocks : List ℕ} {state : State} (w :
 -- the line and the step are of the same instruction
 pub walked : {s : List ℕ} {p : ℕ} {kinds blocks kinds′ blocks′ : List ℕ} {state state′ : State} (m : Steps s p kinds blocks state kinds′ blocks′ state′)
     → {f : Fetched} → f ≡ fetchOf (decodeIn (getD s 3 0) s p) → {text text′ : List ℕ} {len at : ℕ} → longest ≤ length text
-    → ((κs : List Kind) → Holds kinds (state .depth) κs → Adds longest (line p κs (f .decoded .instr)) text 0 len text′) → at ≡ p + f .decoded .len
+    → ((κs : List Kind) → KindBytes kinds (state .depth) κs → Adds longest (line p κs (f .decoded .instr)) text 0 len text′) → at ≡ p + f .decoded .len
     → Walked s p kinds blocks state text (record { at = at; state = state′; len = len }) kinds′ blocks′ text′
 walked {s} {p} m {f} e {text} {text′} {len} room adds q =
     let v = m .before .valid .header .version in

@@ -20,28 +20,28 @@ pub(crate) fn immediates(class: u8, i: Instr, out: &mut [u8], at: usize) -> usiz
     ensures { λ r. ⌜ Adds 336 (led (map spelled (Line·immediates i))) (now (out .entry)) at r (now (out .exit)) ⌝ }
 {
     match class {
-        opcode::INDEX => number(i.index as u64, out, at),
-        opcode::WORD => word(i.word, out, at),
-        opcode::LONG => long(i.long, out, at),
-        opcode::MEMORY => {
+        opcode::CLASS_INDEX => number(i.index as u64, out, at),
+        opcode::CLASS_WORD => word(i.word, out, at),
+        opcode::CLASS_LONG => long(i.long, out, at),
+        opcode::CLASS_MEMORY => {
             let p = number(i.align as u64, out, at);
             number(i.offset as u64, out, p)
         }
-        opcode::MEMORY_LANE => {
+        opcode::CLASS_MEMORY_LANE => {
             let p = number(i.align as u64, out, at);
             let q = number(i.offset as u64, out, p);
             number(i.lane as u64, out, q)
         }
-        opcode::LANE => number(i.lane as u64, out, at),
-        opcode::BYTES => {
+        opcode::CLASS_LANE => number(i.lane as u64, out, at),
+        opcode::CLASS_BYTES => {
             let b = i.bytes;
             bytes(b, out, at)
         }
-        opcode::LANES => {
+        opcode::CLASS_LANES => {
             let b = i.bytes;
             bytes(b, out, at)
         }
-        opcode::BLOCK_TYPE => number(i.block as u64, out, at),
+        opcode::CLASS_BLOCK_TYPE => number(i.block as u64, out, at),
         _ => at,
     }
 }

@@ -6,7 +6,7 @@ ghost use Rattle.text.specs.Decimal.{decimal};
 ghost use Rattle.text.specs.Words.{blank};
 ghost use Rattle.opcode.specs.Kind.{Kind};
 ghost use Rattle.opcode.specs.Number.{nameOf};
-ghost use Rattle.checker.specs.Walk.{Holds};
+ghost use Rattle.checker.specs.Walk.{KindBytes};
 ghost use Rattle.listing.specs.Line.{line as Line·line};
 ghost use Rattle.listing.specs.Walk.{longest};
 ghost use Rattle.listing.specs.Inner.Parts.{Lettered, Adds, Shows};
@@ -24,7 +24,7 @@ pub(crate) fn line(
     out: &mut [u8],
 ) -> usize
     requires { ⌜ Shows (now kinds) depth id entry i (length (now out)) ⌝ }
-    ensures { λ r. ⌜ ((κs : List Kind) → Holds (now (kinds .entry)) depth κs → Adds longest (Line·line at κs i) (now (out .entry)) 0 r (now (out .exit))) ⌝ }
+    ensures { λ r. ⌜ ((κs : List Kind) → KindBytes (now (kinds .entry)) depth κs → Adds longest (Line·line at κs i) (now (out .entry)) 0 r (now (out .exit))) ⌝ }
 {
     let after_place = place(at, out);
     let after_stack = stack(kinds, depth, out, after_place);

@@ -3,14 +3,14 @@ ghost use Prim.Native.Nat.{_+_, _*_, _≤_};
 ghost use mathlib.Core.List.{List, _++_};
 ghost use lib.ListN.{length};
 ghost use Rattle.opcode.specs.Kind.{Kind};
-ghost use Rattle.checker.specs.Walk.{Holds};
+ghost use Rattle.checker.specs.Walk.{KindBytes};
 ghost use Rattle.listing.specs.Line.{bracketed};
 ghost use Rattle.listing.specs.Inner.Parts.{kindText, between, Adds};
 use opcode::kind as kinds_of;
 
 pub(crate) fn stack(kinds: &[u8], depth: usize, out: &mut [u8], at: usize) -> usize
     requires { ⌜ (depth ≤ length (now kinds)) × (at + 5 * depth + 2 ≤ length (now out)) ⌝ }
-    ensures { λ r. ⌜ ((κs : List Kind) → Holds (now (kinds .entry)) depth κs → Adds (5 * depth + 2) (bracketed κs) (now (out .entry)) at r (now (out .exit))) ⌝ }
+    ensures { λ r. ⌜ ((κs : List Kind) → KindBytes (now (kinds .entry)) depth κs → Adds (5 * depth + 2) (bracketed κs) (now (out .entry)) at r (now (out .exit))) ⌝ }
 {
     let mut to = text::push(b'[', out, at);
     let mut k: usize = 0;

@@ -4,7 +4,7 @@ ghost use Prim.Native.Nat.{_+_, _*_, _≤_, _<_};
 ghost use lib.ListN.{length};
 ghost use Rattle.limits.specs.Limits.{stackLimit, stackBytes};
 ghost use Rattle.operation.specs.Vector.{le};
-ghost use Rattle.machine.specs.Inner.Flat.{Holds, slotAt, putSlot, topOf, low32, low64};
+ghost use Rattle.machine.specs.Inner.Flat.{HasOperands, slotAt, putSlot, topOf, low32, low64};
 use crate::bytes;
 use lane::V128;
 use lane::i32x4;
@@ -53,7 +53,7 @@ pub(crate) fn of_number(x: u64) -> V128
 
 // The number on top: what a branch asks.
 pub fn top_word(stack: &[u8], depth: usize) -> u32
-    requires { ⌜ Holds 1 (now stack) depth ⌝ }
+    requires { ⌜ HasOperands 1 (now stack) depth ⌝ }
     ensures { λ r. ⌜ r ≡ low32 (topOf (now (stack .entry)) depth 1) ⌝ }
 {
     word(top(stack, depth, 1))

@@ -10,30 +10,30 @@ ghost use Rattle.opcode.specs.Number.{idOf, sinceOf};
 ghost use Rattle.opcode.specs.Entry.{classIn, movedIn, lanesIn, groupIn, effectIn};
 
 // The classes of immediates.
-pub const NOTHING: u8 = 0;
+pub const CLASS_NOTHING: u8 = 0;
 
-pub const INDEX: u8 = 1;
+pub const CLASS_INDEX: u8 = 1;
 
-pub const WORD: u8 = 2;
+pub const CLASS_WORD: u8 = 2;
 
-pub const LONG: u8 = 3;
+pub const CLASS_LONG: u8 = 3;
 
-pub const MEMORY: u8 = 4;
+pub const CLASS_MEMORY: u8 = 4;
 
-pub const MEMORY_LANE: u8 = 5;
+pub const CLASS_MEMORY_LANE: u8 = 5;
 
-pub const LANE: u8 = 6;
+pub const CLASS_LANE: u8 = 6;
 
-pub const BYTES: u8 = 7;
+pub const CLASS_BYTES: u8 = 7;
 
-pub const LANES: u8 = 8;
+pub const CLASS_LANES: u8 = 8;
 
-pub const BLOCK_TYPE: u8 = 9;
+pub const CLASS_BLOCK_TYPE: u8 = 9;
 
 // Two more, of what is not carried.
-pub const FLOAT: u8 = 10;
+pub const CLASS_FLOAT: u8 = 10;
 
-pub const UNASSIGNED: u8 = 11;
+pub const CLASS_UNASSIGNED: u8 = 11;
 
 // The groups: version 1's plain opcodes, then those of the enumeration of operations, then what version 2 adds, then what is not carried.
 pub const GROUP_END: u8 = 0;

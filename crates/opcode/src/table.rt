@@ -1,117 +1,117 @@
 // Document 002 in numbers: an entry of eight bytes for each id. From the highest: the kind of what is left on the stack; the kinds of the
 // third operand, the second and the top one; the group; the lanes that a lane index chooses among; the bytes that an access moves; the
 // class of the immediates.
-use crate::BLOCK_TYPE;
-use crate::BYTES;
-use crate::FLOAT;
-use crate::INDEX;
-use crate::LANE;
-use crate::LANES;
-use crate::LONG;
-use crate::MEMORY;
-use crate::MEMORY_LANE;
-use crate::NOTHING;
-use crate::UNASSIGNED;
-use crate::WORD;
+use crate::CLASS_BLOCK_TYPE;
+use crate::CLASS_BYTES;
+use crate::CLASS_FLOAT;
+use crate::CLASS_INDEX;
+use crate::CLASS_LANE;
+use crate::CLASS_LANES;
+use crate::CLASS_LONG;
+use crate::CLASS_MEMORY;
+use crate::CLASS_MEMORY_LANE;
+use crate::CLASS_NOTHING;
+use crate::CLASS_UNASSIGNED;
+use crate::CLASS_WORD;
 ghost use mathlib.Core.Path.{_≡_};
 ghost use Rattle.opcode.specs.Number.{rowOf};
 ghost use Rattle.opcode.specs.Entry.{entryOf};
 
-const END: u64 = NOTHING as u64;
+const END: u64 = CLASS_NOTHING as u64;
 
-const DROP: u64 = 0x01_00_00_00 + NOTHING as u64;
+const DROP: u64 = 0x01_00_00_00 + CLASS_NOTHING as u64;
 
-const LOCAL_GET: u64 = 0x02_00_00_00 + INDEX as u64;
+const LOCAL_GET: u64 = 0x02_00_00_00 + CLASS_INDEX as u64;
 
-const LOCAL_SET: u64 = 0x03_00_00_00 + INDEX as u64;
+const LOCAL_SET: u64 = 0x03_00_00_00 + CLASS_INDEX as u64;
 
-const LOCAL_TEE: u64 = 0x04_00_00_00 + INDEX as u64;
+const LOCAL_TEE: u64 = 0x04_00_00_00 + CLASS_INDEX as u64;
 
-const I32_CONST: u64 = 0x7F_00_00_00_05_00_00_00 + WORD as u64; // -> i32
+const I32_CONST: u64 = 0x7F_00_00_00_05_00_00_00 + CLASS_WORD as u64; // -> i32
 
-const I64_CONST: u64 = 0x7E_00_00_00_06_00_00_00 + LONG as u64; // -> i64
+const I64_CONST: u64 = 0x7E_00_00_00_06_00_00_00 + CLASS_LONG as u64; // -> i64
 
-const I32_ADD: u64 = 0x7F_00_7F_7F_07_00_00_00 + NOTHING as u64; // i32 i32 -> i32
+const I32_ADD: u64 = 0x7F_00_7F_7F_07_00_00_00 + CLASS_NOTHING as u64; // i32 i32 -> i32
 
-const I32_SUB: u64 = 0x7F_00_7F_7F_08_00_00_00 + NOTHING as u64; // i32 i32 -> i32
+const I32_SUB: u64 = 0x7F_00_7F_7F_08_00_00_00 + CLASS_NOTHING as u64; // i32 i32 -> i32
 
-const LOAD_8: u64 = 0x7B_00_00_7F_09_00_01_00 + MEMORY as u64; // i32 -> v128
+const LOAD_8: u64 = 0x7B_00_00_7F_09_00_01_00 + CLASS_MEMORY as u64; // i32 -> v128
 
-const LOAD_16: u64 = 0x7B_00_00_7F_09_00_02_00 + MEMORY as u64; // i32 -> v128
+const LOAD_16: u64 = 0x7B_00_00_7F_09_00_02_00 + CLASS_MEMORY as u64; // i32 -> v128
 
-const LOAD_32: u64 = 0x7B_00_00_7F_09_00_04_00 + MEMORY as u64; // i32 -> v128
+const LOAD_32: u64 = 0x7B_00_00_7F_09_00_04_00 + CLASS_MEMORY as u64; // i32 -> v128
 
-const LOAD_64: u64 = 0x7B_00_00_7F_09_00_08_00 + MEMORY as u64; // i32 -> v128
+const LOAD_64: u64 = 0x7B_00_00_7F_09_00_08_00 + CLASS_MEMORY as u64; // i32 -> v128
 
-const LOAD_128: u64 = 0x7B_00_00_7F_09_00_10_00 + MEMORY as u64; // i32 -> v128
+const LOAD_128: u64 = 0x7B_00_00_7F_09_00_10_00 + CLASS_MEMORY as u64; // i32 -> v128
 
-const LOAD_LANE_8: u64 = 0x7B_00_7F_7B_0A_10_01_00 + MEMORY_LANE as u64; // i32 v128 -> v128
+const LOAD_LANE_8: u64 = 0x7B_00_7F_7B_0A_10_01_00 + CLASS_MEMORY_LANE as u64; // i32 v128 -> v128
 
-const LOAD_LANE_16: u64 = 0x7B_00_7F_7B_0A_08_02_00 + MEMORY_LANE as u64; // i32 v128 -> v128
+const LOAD_LANE_16: u64 = 0x7B_00_7F_7B_0A_08_02_00 + CLASS_MEMORY_LANE as u64; // i32 v128 -> v128
 
-const LOAD_LANE_32: u64 = 0x7B_00_7F_7B_0A_04_04_00 + MEMORY_LANE as u64; // i32 v128 -> v128
+const LOAD_LANE_32: u64 = 0x7B_00_7F_7B_0A_04_04_00 + CLASS_MEMORY_LANE as u64; // i32 v128 -> v128
 
-const LOAD_LANE_64: u64 = 0x7B_00_7F_7B_0A_02_08_00 + MEMORY_LANE as u64; // i32 v128 -> v128
+const LOAD_LANE_64: u64 = 0x7B_00_7F_7B_0A_02_08_00 + CLASS_MEMORY_LANE as u64; // i32 v128 -> v128
 
-const STORE_128: u64 = 0x00_00_7F_7B_0B_00_10_00 + MEMORY as u64; // i32 v128 ->
+const STORE_128: u64 = 0x00_00_7F_7B_0B_00_10_00 + CLASS_MEMORY as u64; // i32 v128 ->
 
-const STORE_LANE_8: u64 = 0x00_00_7F_7B_0C_10_01_00 + MEMORY_LANE as u64; // i32 v128 ->
+const STORE_LANE_8: u64 = 0x00_00_7F_7B_0C_10_01_00 + CLASS_MEMORY_LANE as u64; // i32 v128 ->
 
-const STORE_LANE_16: u64 = 0x00_00_7F_7B_0C_08_02_00 + MEMORY_LANE as u64; // i32 v128 ->
+const STORE_LANE_16: u64 = 0x00_00_7F_7B_0C_08_02_00 + CLASS_MEMORY_LANE as u64; // i32 v128 ->
 
-const STORE_LANE_32: u64 = 0x00_00_7F_7B_0C_04_04_00 + MEMORY_LANE as u64; // i32 v128 ->
+const STORE_LANE_32: u64 = 0x00_00_7F_7B_0C_04_04_00 + CLASS_MEMORY_LANE as u64; // i32 v128 ->
 
-const STORE_LANE_64: u64 = 0x00_00_7F_7B_0C_02_08_00 + MEMORY_LANE as u64; // i32 v128 ->
+const STORE_LANE_64: u64 = 0x00_00_7F_7B_0C_02_08_00 + CLASS_MEMORY_LANE as u64; // i32 v128 ->
 
-const CONST: u64 = 0x7B_00_00_00_0D_00_00_00 + BYTES as u64; // -> v128
+const CONST: u64 = 0x7B_00_00_00_0D_00_00_00 + CLASS_BYTES as u64; // -> v128
 
-const SHUFFLE: u64 = 0x7B_00_7B_7B_0E_00_00_00 + LANES as u64; // v128 v128 -> v128
+const SHUFFLE: u64 = 0x7B_00_7B_7B_0E_00_00_00 + CLASS_LANES as u64; // v128 v128 -> v128
 
-const SPLAT: u64 = 0x7B_00_00_7F_0F_00_00_00 + NOTHING as u64; // i32 -> v128
+const SPLAT: u64 = 0x7B_00_00_7F_0F_00_00_00 + CLASS_NOTHING as u64; // i32 -> v128
 
-const SPLAT_64: u64 = 0x7B_00_00_7E_0F_00_00_00 + NOTHING as u64; // i64 -> v128
+const SPLAT_64: u64 = 0x7B_00_00_7E_0F_00_00_00 + CLASS_NOTHING as u64; // i64 -> v128
 
-const EXTRACT_8: u64 = 0x7F_00_00_7B_10_10_00_00 + LANE as u64; // v128 -> i32
+const EXTRACT_8: u64 = 0x7F_00_00_7B_10_10_00_00 + CLASS_LANE as u64; // v128 -> i32
 
-const EXTRACT_16: u64 = 0x7F_00_00_7B_10_08_00_00 + LANE as u64; // v128 -> i32
+const EXTRACT_16: u64 = 0x7F_00_00_7B_10_08_00_00 + CLASS_LANE as u64; // v128 -> i32
 
-const EXTRACT_32: u64 = 0x7F_00_00_7B_10_04_00_00 + LANE as u64; // v128 -> i32
+const EXTRACT_32: u64 = 0x7F_00_00_7B_10_04_00_00 + CLASS_LANE as u64; // v128 -> i32
 
-const EXTRACT_64: u64 = 0x7E_00_00_7B_10_02_00_00 + LANE as u64; // v128 -> i64
+const EXTRACT_64: u64 = 0x7E_00_00_7B_10_02_00_00 + CLASS_LANE as u64; // v128 -> i64
 
-const REPLACE_8: u64 = 0x7B_00_7B_7F_11_10_00_00 + LANE as u64; // v128 i32 -> v128
+const REPLACE_8: u64 = 0x7B_00_7B_7F_11_10_00_00 + CLASS_LANE as u64; // v128 i32 -> v128
 
-const REPLACE_16: u64 = 0x7B_00_7B_7F_11_08_00_00 + LANE as u64; // v128 i32 -> v128
+const REPLACE_16: u64 = 0x7B_00_7B_7F_11_08_00_00 + CLASS_LANE as u64; // v128 i32 -> v128
 
-const REPLACE_32: u64 = 0x7B_00_7B_7F_11_04_00_00 + LANE as u64; // v128 i32 -> v128
+const REPLACE_32: u64 = 0x7B_00_7B_7F_11_04_00_00 + CLASS_LANE as u64; // v128 i32 -> v128
 
-const REPLACE_64: u64 = 0x7B_00_7B_7E_11_02_00_00 + LANE as u64; // v128 i64 -> v128
+const REPLACE_64: u64 = 0x7B_00_7B_7E_11_02_00_00 + CLASS_LANE as u64; // v128 i64 -> v128
 
-const UNARY: u64 = 0x7B_00_00_7B_12_00_00_00 + NOTHING as u64; // v128 -> v128
+const UNARY: u64 = 0x7B_00_00_7B_12_00_00_00 + CLASS_NOTHING as u64; // v128 -> v128
 
-const BINARY: u64 = 0x7B_00_7B_7B_13_00_00_00 + NOTHING as u64; // v128 v128 -> v128
+const BINARY: u64 = 0x7B_00_7B_7B_13_00_00_00 + CLASS_NOTHING as u64; // v128 v128 -> v128
 
-const BITSELECT: u64 = 0x7B_7B_7B_7B_14_00_00_00 + NOTHING as u64; // v128 v128 v128 -> v128
+const BITSELECT: u64 = 0x7B_7B_7B_7B_14_00_00_00 + CLASS_NOTHING as u64; // v128 v128 v128 -> v128
 
-const TEST: u64 = 0x7F_00_00_7B_15_00_00_00 + NOTHING as u64; // v128 -> i32
+const TEST: u64 = 0x7F_00_00_7B_15_00_00_00 + CLASS_NOTHING as u64; // v128 -> i32
 
-const SHIFT: u64 = 0x7B_00_7B_7F_16_00_00_00 + NOTHING as u64; // v128 i32 -> v128
+const SHIFT: u64 = 0x7B_00_7B_7F_16_00_00_00 + CLASS_NOTHING as u64; // v128 i32 -> v128
 
-const I32_EQZ: u64 = 0x7F_00_00_7F_17_00_00_00 + NOTHING as u64; // i32 -> i32
+const I32_EQZ: u64 = 0x7F_00_00_7F_17_00_00_00 + CLASS_NOTHING as u64; // i32 -> i32
 
-const I32_LT_U: u64 = 0x7F_00_7F_7F_18_00_00_00 + NOTHING as u64; // i32 i32 -> i32
+const I32_LT_U: u64 = 0x7F_00_7F_7F_18_00_00_00 + CLASS_NOTHING as u64; // i32 i32 -> i32
 
-const BLOCK: u64 = 0x19_00_00_00 + BLOCK_TYPE as u64;
+const BLOCK: u64 = 0x19_00_00_00 + CLASS_BLOCK_TYPE as u64;
 
-const LOOP: u64 = 0x1A_00_00_00 + BLOCK_TYPE as u64;
+const LOOP: u64 = 0x1A_00_00_00 + CLASS_BLOCK_TYPE as u64;
 
-const BR: u64 = 0x1B_00_00_00 + INDEX as u64;
+const BR: u64 = 0x1B_00_00_00 + CLASS_INDEX as u64;
 
-const BR_IF: u64 = 0x1C_00_00_00 + INDEX as u64;
+const BR_IF: u64 = 0x1C_00_00_00 + CLASS_INDEX as u64;
 
-const FLOATS: u64 = 0x1D_00_00_00 + FLOAT as u64;
+const FLOATS: u64 = 0x1D_00_00_00 + CLASS_FLOAT as u64;
 
-const NONE: u64 = 0x1D_00_00_00 + UNASSIGNED as u64;
+const NONE: u64 = 0x1D_00_00_00 + CLASS_UNASSIGNED as u64;
 
 // No arm has two neighbours: the even numbers stand in one and the odd ones in another. Neighbours would be compiled to a search by
 // comparisons, and numbers that stand alone are compiled to a table in memory.

@@ -21,7 +21,7 @@ use Rattle.instr.proofs.Ranges.{stands-some, stands-inside}
 use Rattle.rules.specs.Header.{Version}
 use Rattle.rules.specs.Consists.{Instructions, no-more, one-more}
 use Rattle.rewrite.specs.Rewrite.{encodings}
-use Rattle.rewrite.specs.Inner.Pass.{put, Ready, Passed}
+use Rattle.rewrite.specs.Inner.Pass.{put, AtPass, Passed}
 use Rattle.rewrite.proofs.Puts.{put-append, length-put, part-sets}
 
 pub record Passing (ver : ℕ) (s : List ℕ) (start : ℕ) (writing : Bool) (out₀ out : List ℕ) (at to : ℕ) : Type 0 where
@@ -36,7 +36,7 @@ pub record Passing (ver : ℕ) (s : List ℕ) (start : ℕ) (writing : Bool) (ou
   pub same : put writing out to (encodings left) ≡ put writing out₀ start (encodings all)
   pub long : length out ≡ length out₀
 
-pub begins : {ver : ℕ} {s : List ℕ} {start : ℕ} {writing : Bool} {out : List ℕ} → Ready ver s start writing (length out) → Passing ver s start writing out out start start
+pub begins : {ver : ℕ} {s : List ℕ} {start : ℕ} {writing : Bool} {out : List ℕ} → AtPass ver s start writing (length out) → Passing ver s start writing out out start start
 begins f =
     record {
       versioned = f .versioned;

@@ -13,7 +13,7 @@ use Rattle.rules.specs.Strip.{Valid}
 use Rattle.rules.specs.Breach.{Breach}
 use Rattle.rules.specs.Consists.{Instructions}
 use Rattle.rewrite.specs.Rewrite.{encodings, shortest, answer, Rewrites, refused, small, done}
-use Rattle.rewrite.specs.Inner.Pass.{Ready, Passed}
+use Rattle.rewrite.specs.Inner.Pass.{AtPass, Passed}
 use Rattle.rewrite.specs.declared.Rewritten.{Rewritten}
 use Rattle.rules.proofs.Strips.{instructions-once, instrs, valid-holds, header-inside}
 
@@ -52,7 +52,7 @@ module _ {s : List ℕ} (v : Valid s) {ver start : ℕ} (vs : ver ≡ getD s 3 0
   same-instrs : {writing : Bool} {out : List ℕ} {r : ℕ} {out′ : List ℕ} (p : Passed ver s start writing out r out′) → p .instrs ≡ instrs v
   same-instrs p = instructions-once (p .stand) stand
 
-  pub ready-to-count : {n : ℕ} → Ready ver s start false n
+  pub ready-to-count : {n : ℕ} → AtPass ver s start false n
   ready-to-count = record { versioned = versioned; instrs = instrs v; stand = stand; room = λ t. absurd (false≢true t) }
 
   -- counted: len bytes, and the output as it was
@@ -78,7 +78,7 @@ module _ {s : List ℕ} (v : Valid s) {ver start : ℕ} (vs : ver ≡ getD s 3 0
             let x : take start s ≡ hb = ap₂ take begin (d .bytes) ∙ take-append-seam hb (d .body) in
             c ∙ ap₂ _++_ x (ap₂ drop begin (p .bytes))
 
-        pub ready-to-write : Ready ver s start true (length out₂)
+        pub ready-to-write : AtPass ver s start true (length out₂)
         ready-to-write =
             record {
               versioned = versioned;

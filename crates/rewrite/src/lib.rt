@@ -5,7 +5,7 @@ ghost use mathlib.Core.List.{_++_};
 ghost use lib.ListN.{length, take, drop};
 ghost use Rattle.rules.specs.Strip.{Valid};
 ghost use Rattle.rewrite.specs.Rewrite.{answer, Rewrites};
-ghost use Rattle.rewrite.specs.Inner.Pass.{Ready, Passed};
+ghost use Rattle.rewrite.specs.Inner.Pass.{AtPass, Passed};
 
 pub struct Rewritten {
     pub code: u8,
@@ -68,7 +68,7 @@ fn copy(strip: &[u8], n: usize, out: &mut [u8])
 // A pass over the instructions of a strip of this version, from `start` to the end of the file. Their shortest forms are written, or only counted, from the
 // same place of the output on; the answer is the place after them. One function for both passes: the decoder and the encoder have one caller here.
 fn pass(version: u16, strip: &[u8], start: usize, out: &mut [u8], writing: bool) -> usize
-    requires { ⌜ Ready version (now strip) start writing (length (now out)) ⌝ }
+    requires { ⌜ AtPass version (now strip) start writing (length (now out)) ⌝ }
     ensures { λ r. ⌜ Passed version (now (strip .entry)) start writing (now (out .entry)) r (now (out .exit)) ⌝ }
 {
     let mut at = start;

@@ -14,8 +14,8 @@ use Rattle.rules.proofs.Onward.{declared}
 use Rattle.checker.specs.Check.{Checked}
 use Rattle.checker.proofs.Exact.{done-exact, breach-exact}
 use Rattle.run.specs.Meter.{leaves}
-use Rattle.run.specs.Run.{Holds, Runs, refused, room, arguments, outsized, malformed, metered}
-use Rattle.run.specs.Inner.Steps.{Tells, Sized, Ready, Drove}
+use Rattle.run.specs.Run.{Arguments, Runs, refused, room, arguments, outsized, malformed, metered}
+use Rattle.run.specs.Inner.Steps.{Tells, Sized, Prepared, Drove}
 use Rattle.run.proofs.HeaderBytes.{Counts, counts-read, parameter-count, result-count}
 use Rattle.run.proofs.Upto.{told-yes, told-no}
 
@@ -67,15 +67,15 @@ module _ {s : List ℕ} {w : Answer} (checked : Checked s w) where
           pub sized : Sized s args (getD s 5 0)
           sized = record { header = passed done .header; declares = header-of done; counted = parameter-count (header-of done); slots = a ∙ parameters-told }
 
-          module _ (o : length out ≡ slot * getD s 7 0) {t : Bool} (told : (h : Header) → Declares s h → Tells ((vs : List Value) × Holds (h .parameters) args vs) t) where
-            here : Tells ((vs : List Value) × Holds (passed done .header .parameters) args vs) t
+          module _ (o : length out ≡ slot * getD s 7 0) {t : Bool} (told : (h : Header) → Declares s h → Tells ((vs : List Value) × Arguments (h .parameters) args vs) t) where
+            here : Tells ((vs : List Value) × Arguments (passed done .header .parameters) args vs) t
             here = told (passed done .header) (header-of done)
 
             pub other-form : {r : Answer} → (r .code ≡ FORM) × (r .place ≡ 0) × (r .steps ≡ 0) → t ≡ false → Runs s args mem out budget (leaves (r .code) (r .place) (r .steps) mem out)
             other-form e f = early e (malformed (passed done) l (a ∙ parameters-told) (o ∙ results-told) (λ vs g. told-no here f (vs, g)))
 
             -- asked of the run itself
-            pub ready : t ≡ true → Ready s args out
+            pub ready : t ≡ true → Prepared s args out
             ready f = let g = told-yes here f in record { valid = passed done; values = g .0; given = g .1; slots = o ∙ results-told }
 
 pub ran : {s args mem out : List ℕ} {budget : ℕ} {x : _} → length mem ≤ memoryLimit → Drove s args mem out budget x → Runs s args mem out budget x

@@ -15,11 +15,11 @@ use Rattle.standard.specs.Standard.{Config, begin}
 use Rattle.standard.specs.Safety.{Sound}
 use Rattle.standard.proofs.Begin.{begin-sound}
 use Rattle.run.specs.Meter.{Left, meter}
-use Rattle.run.specs.Inner.Steps.{Ready, Drove}
+use Rattle.run.specs.Inner.Steps.{Prepared, Drove}
 use Rattle.run.specs.Inner.Carried.{openIn, Carries, Going}
 use Rattle.run.proofs.Start.{args-long, counted, start-holds}
 
-module _ {s args out : List ℕ} (r : Ready s args out) where
+module _ {s args out : List ℕ} (r : Prepared s args out) where
   abbrev h : Header
   h = r .valid .header
 

@@ -20,7 +20,7 @@ use Rattle.instr.proofs.Ranges.{stands-inside}
 use Rattle.machine.specs.Value.{Value, I32, I64, V128}
 use Rattle.machine.specs.Memory.{part}
 use Rattle.machine.specs.Exec.{State, done, stuck, ofKinds}
-use Rattle.machine.specs.Inner.Flat.{Holds, slotAt, topOf, low32}
+use Rattle.machine.specs.Inner.Flat.{HasOperands, slotAt, topOf, low32}
 use Rattle.machine.specs.Inner.Rep.{Rep, Slots}
 use Rattle.machine.proofs.Laws.Rep.{low-i32}
 use Rattle.rules.specs.Header.{Header}
@@ -285,7 +285,7 @@ module _ {s : List ℕ} (v : Valid s) {c : Config} {at depth nest : ℕ} {stack 
         by (inl e) = (omega (arith, br-group e), omega (arith, br-group e))
         by (inr e) = (omega (arith, if-group e), omega (arith, if-group e, above e .depth))
 
-    pub asks-top : (((group ≡ 27 → ⊥) → 1 ≤ depth)) × Holds 0 stack depth
+    pub asks-top : (((group ≡ 27 → ⊥) → 1 ≤ depth)) × HasOperands 0 stack depth
     asks-top = (by which, (omega arith, C .rep .deep, C .rep .stack-long))
       where
         by : (S .code ≡ control Br) ⊎ (S .code ≡ control BrIf) → (group ≡ 27 → ⊥) → 1 ≤ depth

@@ -21,7 +21,7 @@ use Rattle.instr.proofs.Ranges.{stands-inside}
 use Rattle.machine.specs.Value.{Value}
 use Rattle.machine.specs.Memory.{part}
 use Rattle.machine.specs.Inner.Fit.{Fits, DidBy, boundsOf}
-use Rattle.machine.specs.Inner.Fit.{Ready as Apt}
+use Rattle.machine.specs.Inner.Fit.{Ready}
 use Rattle.machine.specs.declared.access.Bounds.{Bounds}
 use Rattle.machine.specs.declared.access.Bounds.the-variants.{Clear, Past}
 use Rattle.rules.specs.Header.{Header}
@@ -210,10 +210,10 @@ module _ {s : List ℕ} {v : Valid s} {c₀ : Config} {mem₀ out : List ℕ} {b
           module _ (b : Bounds) (told : (c : Code) → rowOf id ≡ carried c → b ≡ boundsOf c i stack depth (length mem)) where
             -- within the memory: asked of `exec`, and what it leaves
             module _ (clear : b ≡ Clear) where
-              pub exec-apt : (f .entry ≡ entryOf (rowOf id)) × Apt id i stack depth locals mem
-              exec-apt = (entry-is, subst (λ (n : ℕ). Apt n i stack depth locals mem) (sym id-is) (by stands))
+              pub exec-apt : (f .entry ≡ entryOf (rowOf id)) × Ready id i stack depth locals mem
+              exec-apt = (entry-is, subst (λ (n : ℕ). Ready n i stack depth locals mem) (sym id-is) (by stands))
                 where
-                  by : Way s h c i (d .len) → Apt number i stack depth locals mem
+                  by : Way s h c i (d .len) → Ready number i stack depth locals mem
                   by (turning r e) = both (sort r ∙ e) ordinary
                   by (goes-to r e q x) = ready r (h .results) (D .carries .rep) q
                   by (traps-at r e q x) = absurd (is-past r (h .results) (D .carries .rep) q b (told _ (row r)) clear)

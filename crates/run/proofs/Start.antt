@@ -21,7 +21,7 @@ use Rattle.machine.proofs.Laws.Rep.{sixteen-bytes}
 use Rattle.rules.specs.Header.{Header}
 use Rattle.standard.specs.Standard.{begin, zeroOf}
 use Rattle.standard.specs.Safety.{Sound}
-use Rattle.run.specs.Run.{Holds}
+use Rattle.run.specs.Run.{Arguments}
 
 -- ---- slots
 
@@ -69,7 +69,7 @@ zeros = replicate localBytes 0
 zeros-long : length zeros ≡ localBytes
 zeros-long = length-replicate {A = ℕ} localBytes 0
 
-module _ (h : Header) (args : List ℕ) (vs : List Value) (g : Holds (h .parameters) args vs) (few : length (h .parameters) + length (h .further) ≤ localCount) where
+module _ (h : Header) (args : List ℕ) (vs : List Value) (g : Arguments (h .parameters) args vs) (few : length (h .parameters) + length (h .further) ≤ localCount) where
   pub counted : length vs ≡ length (h .parameters)
   counted = sym (length-map vs kindOf) ∙ ap length (g .kinds)
 

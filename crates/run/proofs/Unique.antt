@@ -22,7 +22,7 @@ use Rattle.rules.proofs.Ranks.{asked, Kept, none-asked, more, Stop, stop-once}
 use Rattle.rules.proofs.Verdicts.{one-breach, valid-no-breach}
 use Rattle.standard.specs.Standard.{begin}
 use Rattle.run.specs.Meter.{Left, leaves, meter}
-use Rattle.run.specs.Run.{Holds, Slots, Runs, refused, room, arguments, outsized, malformed, metered}
+use Rattle.run.specs.Run.{Arguments, Slots, Runs, refused, room, arguments, outsized, malformed, metered}
 use Rattle.run.proofs.Start.{all-long}
 use Rattle.run.proofs.run.Reads as run
 
@@ -49,11 +49,11 @@ values-once (v ∷ vs) (w ∷ ws) k p q e =
     let parts = parts-once (bytesOf v) (bytesOf w) (allBytes vs) (allBytes ws) (sixteen-bytes v (p .0) .long ∙ sym (sixteen-bytes w (q .0) .long)) e in
     ap₂ _∷_ (value-once v w first (p .0) (q .0) (parts .0)) (values-once vs ws (cc) (p .1) (q .1) (parts .1))
 
-holds-once : {ks : List Kind} {args : List ℕ} {vs ws : List Value} → Holds ks args vs → Holds ks args ws → vs ≡ ws
+holds-once : {ks : List Kind} {args : List ℕ} {vs ws : List Value} → Arguments ks args vs → Arguments ks args ws → vs ≡ ws
 holds-once {vs = vs} {ws = ws} a b = values-once vs ws (a .kinds ∙ sym (b .kinds)) (a .range) (b .range) (sym (a .bytes) ∙ b .bytes)
 
 -- as many bytes as the kinds take
-holds-slots : {ks : List Kind} {args : List ℕ} {vs : List Value} → Holds ks args vs → Slots ks args
+holds-slots : {ks : List Kind} {args : List ℕ} {vs : List Value} → Arguments ks args vs → Slots ks args
 holds-slots {vs = vs} a = ap length (a .bytes) ∙ all-long vs (a .range) ∙ ap (λ (n : ℕ). slot * n) (sym (length-map vs kindOf) ∙ ap length (a .kinds))
 
 -- a strip that keeps the rules has one header
@@ -67,7 +67,7 @@ module _ (s args mem out : List ℕ) (budget : ℕ) where
   Question =
       asked
       (Valid s ∷ (length mem ≤ memoryLimit) ∷ ((v : Valid s) → Slots (v .header .parameters) args) ∷ ((v : Valid s) → Slots (v .header .results) out)
-      ∷ ((v : Valid s) → (vs : List Value) × Holds (v .header .parameters) args vs) ∷ [])
+      ∷ ((v : Valid s) → (vs : List Value) × Arguments (v .header .parameters) args vs) ∷ [])
 
   -- what is left where the k-th is the first
   abbrev Settled : ℕ → Left → Type 0
@@ -75,7 +75,7 @@ module _ (s args mem out : List ℕ) (budget : ℕ) where
       asked
       (((c : ℕ) × (p : ℕ) × Breach s c p × (leaves c p 0 mem out ≡ x)) ∷ (leaves ROOM 0 0 mem out ≡ x) ∷ (leaves ARGS 0 0 mem out ≡ x) ∷ (leaves OUT 0 0 mem out ≡ x)
       ∷ (leaves FORM 0 0 mem out ≡ x)
-      ∷ ((v : Valid s) × (vs : List Value) × Holds (v .header .parameters) args vs × (meter s (v .header) budget 0 (begin (v .header) vs mem) out ≡ x)) ∷ [])
+      ∷ ((v : Valid s) × (vs : List Value) × Arguments (v .header .parameters) args vs × (meter s (v .header) budget 0 (begin (v .header) vs mem) out ≡ x)) ∷ [])
       k
 
   record First (x : Left) : Type 0 where
@@ -99,8 +99,8 @@ module _ (s args mem out : List ℕ) (budget : ℕ) where
     results-kept : Slots (v .header .results) out → Kept Question 4
     results-kept o = more Question 3 args-kept (λ w. same-slots v w (λ h. h .results) out o)
 
-  holds-for : (v w : Valid s) {vs : List Value} → Holds (v .header .parameters) args vs → Holds (w .header .parameters) args vs
-  holds-for v w {vs} = subst (λ (h : Header). Holds (h .parameters) args vs) (header-once v w)
+  holds-for : (v w : Valid s) {vs : List Value} → Arguments (v .header .parameters) args vs → Arguments (w .header .parameters) args vs
+  holds-for v w {vs} = subst (λ (h : Header). Arguments (h .parameters) args vs) (header-once v w)
 
   first : {x : Left} → Runs s args mem out budget x → First x
   first (refused {c} {p} b) = record { question = 0; stop = record { kept = none-asked Question; broken = λ v. valid-no-breach v b }; settled = (c, p, b, refl) }

@@ -13,7 +13,7 @@ use Rattle.standard.specs.Standard.{begin}
 use Rattle.run.specs.Meter.{Left, leaves, meter}
 
 -- the arguments are the bytes of these values, of these kinds: what a value does not use of its sixteen bytes is zero
-pub record Holds (ks : List Kind) (args : List ℕ) (vs : List Value) : Type 0 where
+pub record Arguments (ks : List Kind) (args : List ℕ) (vs : List Value) : Type 0 where
   pub kinds : map kindOf vs ≡ ks
   pub range : AllInRange vs
   pub bytes : args ≡ allBytes vs
@@ -30,6 +30,6 @@ module _ (s args mem out : List ℕ) (budget : ℕ) where
     arguments : (v : Valid s) → length mem ≤ memoryLimit → (Slots (v .header .parameters) args → ⊥) → Runs (leaves ARGS 0 0 mem out)
     outsized : (v : Valid s) → length mem ≤ memoryLimit → Slots (v .header .parameters) args → (Slots (v .header .results) out → ⊥) → Runs (leaves OUT 0 0 mem out)
     malformed : (v : Valid s) → length mem ≤ memoryLimit → Slots (v .header .parameters) args → Slots (v .header .results) out
-        → ((vs : List Value) → Holds (v .header .parameters) args vs → ⊥) → Runs (leaves FORM 0 0 mem out)
-    metered : (v : Valid s) (vs : List Value) → length mem ≤ memoryLimit → Holds (v .header .parameters) args vs → Slots (v .header .results) out
+        → ((vs : List Value) → Arguments (v .header .parameters) args vs → ⊥) → Runs (leaves FORM 0 0 mem out)
+    metered : (v : Valid s) (vs : List Value) → length mem ≤ memoryLimit → Arguments (v .header .parameters) args vs → Slots (v .header .results) out
         → Runs (meter s (v .header) budget 0 (begin (v .header) vs mem) out)

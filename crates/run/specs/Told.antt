@@ -11,7 +11,7 @@ use Rattle.rules.specs.Header.{Header}
 use Rattle.rules.specs.Strip.{Valid}
 use Rattle.standard.specs.Standard.{Config, going, ended, trapped, step, runs, begin}
 use Rattle.run.specs.Meter.{Left, leaves}
-use Rattle.run.specs.Run.{Holds, Slots}
+use Rattle.run.specs.Run.{Arguments, Slots}
 
 -- the machine starts from b; the results' buffer was out
 module _ (s : List ℕ) (h : Header) (b : Config) (out : List ℕ) (budget : ℕ) where
@@ -32,5 +32,5 @@ OnCard c = (c ≤ LABEL) ⊎ ((ROOM ≤ c) × (c ≤ FORM)) ⊎ (c ≡ TRAP) ⊎
 module _ (s args mem out : List ℕ) (budget : ℕ) where
   pub data Ran : Left → Type 0 where
     turned-away : {code place : ℕ} → LONG ≤ code → code ≤ SMALL → Ran (leaves code place 0 mem out)
-    ran : (v : Valid s) (vs : List Value) {x : Left} → Holds (v .header .parameters) args vs → Slots (v .header .results) out
+    ran : (v : Valid s) (vs : List Value) {x : Left} → Arguments (v .header .parameters) args vs → Slots (v .header .results) out
         → Told s (v .header) (begin (v .header) vs mem) out budget x → Ran x

@@ -7,14 +7,14 @@ ghost use Rattle.limits.specs.Limits.{localBytes};
 ghost use Rattle.rules.specs.Header.{Header, Declares};
 ghost use Rattle.machine.specs.Value.{Value};
 ghost use Rattle.machine.specs.Memory.{stored};
-ghost use Rattle.run.specs.Run.{Holds};
+ghost use Rattle.run.specs.Run.{Arguments};
 ghost use Rattle.run.specs.Inner.Steps.{Tells, Zeros, Sized, usedBy};
 use crate::Locals;
 
 // Whether the arguments have the form that the header declares.
 pub(crate) fn formed(strip: &[u8], args: &[u8], count: usize) -> bool
     requires { ⌜ Sized (now strip) (now args) count ⌝ }
-    ensures { λ r. ⌜ ((h : Header) → Declares (now (strip .entry)) h → Tells ((vs : List Value) × Holds (h .parameters) (now (args .entry)) vs) r) ⌝ }
+    ensures { λ r. ⌜ ((h : Header) → Declares (now (strip .entry)) h → Tells ((vs : List Value) × Arguments (h .parameters) (now (args .entry)) vs) r) ⌝ }
 {
     let mut j: usize = 0;
     while j < count {

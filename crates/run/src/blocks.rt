@@ -7,7 +7,7 @@ ghost use lib.Dec.{eqb};
 ghost use lib.ListN.{length, set};
 ghost use Rattle.limits.specs.Limits.{nestLimit};
 ghost use Rattle.opcode.specs.BlockType.{blockResults};
-ghost use Rattle.machine.specs.Inner.Flat.{Holds, topOf, low32};
+ghost use Rattle.machine.specs.Inner.Flat.{HasOperands, topOf, low32};
 ghost use Rattle.rules.specs.Strip.{Valid};
 ghost use Rattle.standard.specs.Standard.{Config, step};
 ghost use Rattle.run.specs.Inner.Carried.{openIn, Carries, Stacked, Seen, Led, turnsAt, Branching, Branched};
@@ -115,7 +115,7 @@ fn results_of(block: u8) -> usize
 
 // br; or br_if, and the number on top is not 0.
 fn taken(group: u8, stack: &[u8], depth: usize) -> bool
-    requires { ⌜ (((group ≡ 27 → ⊥) → 1 ≤ depth)) × Holds 0 (now stack) depth ⌝ }
+    requires { ⌜ (((group ≡ 27 → ⊥) → 1 ≤ depth)) × HasOperands 0 (now stack) depth ⌝ }
     ensures { λ r. ⌜ r ≡ cond (eqb group 27) true (not (eqb (low32 (topOf (now (stack .entry)) depth 1)) 0)) ⌝ }
 {
     if group == opcode::GROUP_BR {

@@ -2,7 +2,7 @@
 ghost use mathlib.Core.Path.{_≡_};
 ghost use Prim.Native.Nat.{_+_, _*_, _≤_};
 ghost use lib.ListN.{length};
-ghost use Rattle.run.specs.Inner.Steps.{Ready, Drove};
+ghost use Rattle.run.specs.Inner.Steps.{Prepared, Drove};
 ghost use Rattle.run.specs.Inner.Carried.{openIn, Carries, Going};
 ghost use Rattle.run.specs.Inner.Ends.{Kept};
 ghost use Rattle.run.specs.Meter.{leaves, meter};
@@ -10,7 +10,7 @@ ghost use Rattle.limits.specs.Limits.{slot, stackLimit, stackBytes};
 ghost use Rattle.opcode.specs.Number.{rowOf};
 ghost use Rattle.opcode.specs.Entry.{entryOf};
 ghost use Rattle.machine.specs.Memory.{part};
-ghost use Rattle.machine.specs.Inner.Fit.{Ready as Apt, DidBy};
+ghost use Rattle.machine.specs.Inner.Fit.{Ready, DidBy};
 ghost use Rattle.rules.specs.Strip.{Valid};
 ghost use Rattle.standard.specs.Standard.{Config};
 use crate::Closings;
@@ -30,7 +30,7 @@ pub(crate) fn drive(
     results: &mut [u8],
     budget: u32,
 ) -> Answer
-    requires { ⌜ Ready (now strip) (now args) (now results) ⌝ }
+    requires { ⌜ Prepared (now strip) (now args) (now results) ⌝ }
     ensures { λ r. ⌜ Drove (now (strip .entry)) (now (args .entry)) (now (mem .entry)) (now (results .entry)) budget (leaves (r .code) (r .place) (r .steps) (now (mem .exit)) (now (results .exit))) ⌝ }
 {
     let count = strip[5] as usize + strip[6] as usize;

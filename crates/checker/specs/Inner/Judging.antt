@@ -15,7 +15,7 @@ use Rattle.opcode.specs.Number.{packed}
 use Rattle.opcode.specs.Entry.{entryOf, groupIn}
 use Rattle.instr.specs.declared.Instr.{Instr}
 use Rattle.rules.specs.Typing.{Frame, allValues, Target, Local, Typed, Has, Types, Names, Opens, Branches, Ends}
-use Rattle.checker.specs.Walk.{Holds, Framed}
+use Rattle.checker.specs.Walk.{KindBytes, Framed}
 use Rattle.checker.specs.Inner.Stack.{Small}
 use Rattle.checker.specs.Inner.Blocks.{topFirst}
 
@@ -44,7 +44,7 @@ pub data Gives (ls : List Kind) (n : ℕ) (c : Code) (outer : List Kind) (f : Fr
   overfull : {d : ℕ} {ins outs : List Kind} (below : List Kind) → Typed ls n c ins outs → Has f below ins → stackLimit < length (outer ++ (below ++ outs))
       → Gives ls n c outer f kinds DEEP d
   does : {d : ℕ} {ins outs : List Kind} (below : List Kind) → Typed ls n c ins outs → Has f below ins → length (outer ++ (below ++ outs)) ≤ stackLimit
-      → Holds kinds d (outer ++ (below ++ outs)) → Gives ls n c outer f kinds DONE d
+      → KindBytes kinds d (outer ++ (below ++ outs)) → Gives ls n c outer f kinds DONE d
 
 -- any instruction: a code, and the state then
 pub data Judges (ls rs : List Kind) (i : Instr) (c : Code) (fs : List Frame) (kinds blocks : List ℕ) (depth nest floor : ℕ) (dead : Bool) : ℕ → Type 0 where
@@ -62,13 +62,13 @@ pub record Faces (s : List ℕ) (locals results entry index : ℕ) (kinds blocks
   pub row : entry ≡ entryOf (carried c)
   pub names : (Opens c → ⊥) → index ≡ i .index
   pub types : Opens c → (index ≡ i .block) × (isBlockType (i .block) ≡ true)
-  pub locals-are : Holds (drop 8 s) locals ls
+  pub locals-are : KindBytes (drop 8 s) locals ls
   pub results-are : topFirst rs ≡ results
   pub few : length rs ≤ resultLimit
   pub framed : Framed rs kinds blocks depth nest floor dead fs
 
 -- what the code must know to be safe
-pub record Ready (s : List ℕ) (locals results entry index : ℕ) (kinds blocks : List ℕ) (depth nest floor : ℕ) : Type 0 where
+pub record AtTurn (s : List ℕ) (locals results entry index : ℕ) (kinds blocks : List ℕ) (depth nest floor : ℕ) : Type 0 where
   pub inside : 8 + locals ≤ length s
   pub small : results < 2 ^ 32
   pub type-in : 25 ≤ groupIn entry → groupIn entry < 27 → index < 256

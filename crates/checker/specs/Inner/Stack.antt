@@ -11,7 +11,7 @@ use Rattle.opcode.specs.Kind.{Kind}
 use Rattle.opcode.specs.Effect.{_⇒_}
 use Rattle.opcode.specs.Number.{packed}
 use Rattle.rules.specs.Typing.{Frame, Has}
-use Rattle.checker.specs.Walk.{Holds}
+use Rattle.checker.specs.Walk.{KindBytes}
 
 -- where it is done, an array is as it was from n on
 abbrev pub Keeps : ℕ → ℕ → List ℕ → List ℕ → Type 0
@@ -19,7 +19,7 @@ Keeps code n before after = code ≡ DONE → drop n after ≡ drop n before
 
 -- the innermost block's values are on top of the others', which reach up to the floor
 pub record Top (kinds : List ℕ) (depth floor : ℕ) (dead : Bool) (outer : List Kind) (f : Frame) : Type 0 where
-  pub holds : Holds kinds depth (outer ++ f .values)
+  pub holds : KindBytes kinds depth (outer ++ f .values)
   pub floor-is : length outer ≡ floor
   pub dead-is : f .dead ≡ dead
 
@@ -37,11 +37,11 @@ pub record Small (ins outs : List Kind) : Type 0 where
 -- kinds left over those below: a code, and the stack's depth then
 pub data Leaves (below outs : List Kind) (kinds : List ℕ) : ℕ → ℕ → Type 0 where
   too-many : {d : ℕ} → stackLimit < length (below ++ outs) → Leaves below outs kinds DEEP d
-  left : {d : ℕ} → length (below ++ outs) ≤ stackLimit → Holds kinds d (below ++ outs) → Leaves below outs kinds DONE d
+  left : {d : ℕ} → length (below ++ outs) ≤ stackLimit → KindBytes kinds d (below ++ outs) → Leaves below outs kinds DONE d
 
 -- operands taken and results left: the same
 pub data Applies (outer : List Kind) (f : Frame) (ins outs : List Kind) (kinds : List ℕ) : ℕ → ℕ → Type 0 where
   lacks : {d : ℕ} → ((below : List Kind) → Has f below ins → ⊥) → Applies outer f ins outs kinds OPERAND d
   over : {d : ℕ} (below : List Kind) → Has f below ins → stackLimit < length (outer ++ (below ++ outs)) → Applies outer f ins outs kinds DEEP d
-  fits : {d : ℕ} (below : List Kind) → Has f below ins → length (outer ++ (below ++ outs)) ≤ stackLimit → Holds kinds d (outer ++ (below ++ outs))
+  fits : {d : ℕ} (below : List Kind) → Has f below ins → length (outer ++ (below ++ outs)) ≤ stackLimit → KindBytes kinds d (outer ++ (below ++ outs))
       → Applies outer f ins outs kinds DONE d

@@ -14,7 +14,7 @@ use Rattle.opcode.specs.Number.{idOf}
 use Rattle.opcode.specs.Entry.{entryOf}
 use Rattle.instr.specs.declared.Instr.{Instr}
 use Rattle.instr.specs.Layout.{rowIn, Typed}
-use Rattle.checker.specs.Walk.{Holds}
+use Rattle.checker.specs.Walk.{KindBytes}
 use Rattle.listing.specs.Walk.{longest}
 
 -- each word with a blank before it
@@ -44,7 +44,7 @@ pub record Adds (most : ℕ) (text out : List ℕ) (at next : ℕ) (out′ : Lis
 -- an instruction that was fetched, as a line shows it
 pub record Shows (kinds : List ℕ) (depth id entry : ℕ) (i : Instr) (room : ℕ) : Type 0 where
   pub stack : List Kind
-  pub holds : Holds kinds depth stack
+  pub holds : KindBytes kinds depth stack
   pub most : depth ≤ stackLimit
   pub typed : Typed i
   pub code : Code

@@ -16,7 +16,7 @@ use Rattle.machine.specs.Inner.Flat.{slotAt}
 use Rattle.machine.specs.Inner.Rep.{Slots}
 use Rattle.machine.proofs.Laws.Rep.{state}
 
-pub record Holds (bs : List ℕ) (vs : List Value) : Type 0 where
+pub record HasOperands (bs : List ℕ) (vs : List Value) : Type 0 where
   pub slots : Slots vs bs
   pub range : AllInRange vs
 
@@ -27,7 +27,7 @@ pub record Popped {A : Type 0} (bs : List ℕ) (vs : List Value) (mk : A → Val
   pub next : f value rest ≡ o
   pub at : slotAt bs (length rest) ≡ bytesOf (mk value)
   pub ok : InRange (mk value)
-  pub under : Holds bs rest
+  pub under : HasOperands bs rest
   pub long : length vs ≡ suc (length rest)
 
 -- a scalar of a lane's width
@@ -39,33 +39,33 @@ scalarOf w64 x = I64 x
 scalarOf w128 x = I64 x
 
 module _ (bs : List ℕ) (o : Outcome) (moves : o ≡ stuck → ⊥) where
-  pub pop-i32 : (vs : List Value) (f : ℕ → List Value → Outcome) → Holds bs vs → popI32 vs f ≡ o → Popped bs vs I32 f o
+  pub pop-i32 : (vs : List Value) (f : ℕ → List Value → Outcome) → HasOperands bs vs → popI32 vs f ≡ o → Popped bs vs I32 f o
   unfolding popI32
   pop-i32 [] f h e = absurd (moves (sym e))
   pop-i32 (I32 n ∷ vs) f h e = record { value = n; rest = vs; next = e; at = h .slots .0; ok = h .range .0; under = record { slots = h .slots .1; range = h .range .1 }; long = refl }
   pop-i32 (I64 n ∷ vs) f h e = absurd (moves (sym e))
   pop-i32 (V128 v ∷ vs) f h e = absurd (moves (sym e))
 
-  pub pop-i64 : (vs : List Value) (f : ℕ → List Value → Outcome) → Holds bs vs → popI64 vs f ≡ o → Popped bs vs I64 f o
+  pub pop-i64 : (vs : List Value) (f : ℕ → List Value → Outcome) → HasOperands bs vs → popI64 vs f ≡ o → Popped bs vs I64 f o
   unfolding popI64
   pop-i64 [] f h e = absurd (moves (sym e))
   pop-i64 (I32 n ∷ vs) f h e = absurd (moves (sym e))
   pop-i64 (I64 n ∷ vs) f h e = record { value = n; rest = vs; next = e; at = h .slots .0; ok = h .range .0; under = record { slots = h .slots .1; range = h .range .1 }; long = refl }
   pop-i64 (V128 v ∷ vs) f h e = absurd (moves (sym e))
 
-  pub pop-v128 : (vs : List Value) (f : List ℕ → List Value → Outcome) → Holds bs vs → popV128 vs f ≡ o → Popped bs vs V128 f o
+  pub pop-v128 : (vs : List Value) (f : List ℕ → List Value → Outcome) → HasOperands bs vs → popV128 vs f ≡ o → Popped bs vs V128 f o
   unfolding popV128
   pop-v128 [] f h e = absurd (moves (sym e))
   pop-v128 (I32 n ∷ vs) f h e = absurd (moves (sym e))
   pop-v128 (I64 n ∷ vs) f h e = absurd (moves (sym e))
   pop-v128 (V128 v ∷ vs) f h e = record { value = v; rest = vs; next = e; at = h .slots .0; ok = h .range .0; under = record { slots = h .slots .1; range = h .range .1 }; long = refl }
 
-  pub pop-any : (vs : List Value) (f : Value → List Value → Outcome) → Holds bs vs → popAny vs f ≡ o → Popped bs vs (λ v. v) f o
+  pub pop-any : (vs : List Value) (f : Value → List Value → Outcome) → HasOperands bs vs → popAny vs f ≡ o → Popped bs vs (λ v. v) f o
   unfolding popAny
   pop-any [] f h e = absurd (moves (sym e))
   pop-any (v ∷ vs) f h e = record { value = v; rest = vs; next = e; at = h .slots .0; ok = h .range .0; under = record { slots = h .slots .1; range = h .range .1 }; long = refl }
 
-  pub pop-scalar : (w : Width) (vs : List Value) (f : ℕ → List Value → Outcome) → Holds bs vs → popScalar w vs f ≡ o → Popped bs vs (scalarOf w) f o
+  pub pop-scalar : (w : Width) (vs : List Value) (f : ℕ → List Value → Outcome) → HasOperands bs vs → popScalar w vs f ≡ o → Popped bs vs (scalarOf w) f o
   pop-scalar w8 vs f h e = pop-i32 vs f h e
   pop-scalar w16 vs f h e = pop-i32 vs f h e
   pop-scalar w32 vs f h e = pop-i32 vs f h e

@@ -15,11 +15,11 @@ use Rattle.machine.specs.Exec.{State, goes, goOn}
 use Rattle.machine.specs.Inner.Flat.{slotAt, putSlot}
 use Rattle.machine.specs.Inner.Rep.{Rep}
 use Rattle.machine.proofs.Laws.Rep.{state, sixteen-bytes, length-put, slot-same, slot-other, rep-push, rep-pop}
-use Rattle.machine.proofs.Laws.Pops.{Holds, going}
+use Rattle.machine.proofs.Laws.Pops.{HasOperands, going}
 use Rattle.machine.proofs.Laws.Ranges.{range-set}
 
 module _ {σ : State} {st : List ℕ} {d : ℕ} {ls m : List ℕ} (rep : Rep σ st d ls m) where
-  pub all-held : Holds st (σ .stack)
+  pub all-held : HasOperands st (σ .stack)
   all-held = record { slots = rep .slots; range = rep .stack-range }
 
   pub with-memory : (m′ : List ℕ) → Bytes m′ → Rep (state (σ .stack) (σ .locals) m′) st d ls m′
@@ -73,14 +73,14 @@ module _ {σ : State} {st : List ℕ} {d : ℕ} {ls m : List ℕ} (rep : Rep σ 
 
   module _ {σ′ : State} where
     -- a value pushed on vs
-    pub pushed : (vs : List Value) → Holds st vs → (v : Value) (x : List ℕ) (k d′ : ℕ) → InRange v → x ≡ bytesOf v → k ≡ length vs → d′ ≡ suc (length vs)
+    pub pushed : (vs : List Value) → HasOperands st vs → (v : Value) (x : List ℕ) (k d′ : ℕ) → InRange v → x ≡ bytesOf v → k ≡ length vs → d′ ≡ suc (length vs)
         → goOn (v ∷ vs) (σ .locals) (σ .memory) ≡ goes σ′ → Rep σ′ (putSlot st k x) d′ ls m
     pushed vs h v x k d′ ok e ek ed g =
         let w = going (v ∷ vs) (σ .locals) (σ .memory) σ′ g in
         subst (λ (s : State). Rep s (putSlot st k x) d′ ls m) (w .1) (rep-push rep vs (h .slots) (h .range) v x k d′ ok e ek ed (subst (λ (j : ℕ). j ≤ stackLimit) (sym ed) (w .0)))
 
     -- only vs are left, with the locals and the memory as they were
-    pub popped : (vs : List Value) → Holds st vs → (d′ : ℕ) → d′ ≡ length vs → goOn vs (σ .locals) (σ .memory) ≡ goes σ′ → Rep σ′ st d′ ls m
+    pub popped : (vs : List Value) → HasOperands st vs → (d′ : ℕ) → d′ ≡ length vs → goOn vs (σ .locals) (σ .memory) ≡ goes σ′ → Rep σ′ st d′ ls m
     popped vs h d′ ed g =
         let w = going vs (σ .locals) (σ .memory) σ′ g in
         subst (λ (s : State). Rep s st d′ ls m) (w .1) (rep-pop rep vs (h .slots) (h .range) d′ ed (subst (λ (j : ℕ). j ≤ stackLimit) (sym ed) (w .0)))

@@ -27,8 +27,8 @@ abbrev pub topOf : List ℕ → ℕ → ℕ → List ℕ
 topOf st d j = slotAt st (d - j)
 
 -- a stack of d values, with n there to take
-abbrev pub Holds : ℕ → List ℕ → ℕ → Type 0
-Holds n st d = (n ≤ d) × (d ≤ stackLimit) × (length st ≡ stackBytes)
+abbrev pub HasOperands : ℕ → List ℕ → ℕ → Type 0
+HasOperands n st d = (n ≤ d) × (d ≤ stackLimit) × (length st ≡ stackBytes)
 
 -- the scalar in a slot
 abbrev pub low32 : List ℕ → ℕ

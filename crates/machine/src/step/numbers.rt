@@ -8,7 +8,7 @@ ghost use mir.Syntax.{w32};
 ghost use Rattle.limits.specs.Limits.{stackLimit, stackBytes, localBytes, localCount};
 ghost use Rattle.scalar.specs.Scalar.{iadd, isub};
 ghost use Rattle.operation.specs.Vector.{le};
-ghost use Rattle.machine.specs.Inner.Flat.{Holds, slotAt, putSlot, topOf, low32};
+ghost use Rattle.machine.specs.Inner.Flat.{HasOperands, slotAt, putSlot, topOf, low32};
 use crate::slot;
 
 // A number as a new value.
@@ -20,7 +20,7 @@ pub(crate) fn push_number(x: u64, stack: &mut [u8], depth: usize)
 }
 
 pub(crate) fn add(stack: &mut [u8], depth: usize)
-    requires { ⌜ Holds 2 (now stack) depth ⌝ }
+    requires { ⌜ HasOperands 2 (now stack) depth ⌝ }
     ensures { λ r. ⌜ now (stack .exit) ≡ putSlot (now (stack .entry)) (depth - 2) (le 16 (iadd w32 (low32 (topOf (now (stack .entry)) depth 2)) (low32 (topOf (now (stack .entry)) depth 1)))) ⌝ }
 {
     let b = slot::word(slot::top(stack, depth, 1));
@@ -33,7 +33,7 @@ pub(crate) fn add(stack: &mut [u8], depth: usize)
 }
 
 pub(crate) fn sub(stack: &mut [u8], depth: usize)
-    requires { ⌜ Holds 2 (now stack) depth ⌝ }
+    requires { ⌜ HasOperands 2 (now stack) depth ⌝ }
     ensures { λ r. ⌜ now (stack .exit) ≡ putSlot (now (stack .entry)) (depth - 2) (le 16 (isub w32 (low32 (topOf (now (stack .entry)) depth 2)) (low32 (topOf (now (stack .entry)) depth 1)))) ⌝ }
 {
     let b = slot::word(slot::top(stack, depth, 1)) as u64;
@@ -46,7 +46,7 @@ pub(crate) fn sub(stack: &mut [u8], depth: usize)
 }
 
 pub(crate) fn eqz(stack: &mut [u8], depth: usize)
-    requires { ⌜ Holds 1 (now stack) depth ⌝ }
+    requires { ⌜ HasOperands 1 (now stack) depth ⌝ }
     ensures { λ r. ⌜ now (stack .exit) ≡ putSlot (now (stack .entry)) (depth - 1) (le 16 (cond (eqb (low32 (topOf (now (stack .entry)) depth 1)) 0) 1 0)) ⌝ }
 {
     let a = slot::word(slot::top(stack, depth, 1));
@@ -60,7 +60,7 @@ fn is_zero(a: u32) -> u64
 }
 
 pub(crate) fn lt_u(stack: &mut [u8], depth: usize)
-    requires { ⌜ Holds 2 (now stack) depth ⌝ }
+    requires { ⌜ HasOperands 2 (now stack) depth ⌝ }
     ensures { λ r. ⌜ now (stack .exit) ≡ putSlot (now (stack .entry)) (depth - 2) (le 16 (cond (ltb (low32 (topOf (now (stack .entry)) depth 2)) (low32 (topOf (now (stack .entry)) depth 1))) 1 0)) ⌝ }
 {
     let b = slot::word(slot::top(stack, depth, 1));

@@ -4,7 +4,7 @@ ghost use Prim.Native.Nat.{_≤_, _<_};
 ghost use Rattle.operation.specs.Op.{Binop, Binary, binary};
 ghost use Rattle.opcode.specs.Table.{carried, vector};
 ghost use Rattle.opcode.specs.Number.{rowOf};
-ghost use Rattle.machine.specs.Inner.Flat.{Holds, topOf};
+ghost use Rattle.machine.specs.Inner.Flat.{HasOperands, topOf};
 use crate::vector::operands::left;
 use crate::vector::operands::right;
 use lane::V128;
@@ -15,7 +15,7 @@ use lane::i64x2;
 
 // The numbers go by shape, 32 to each from 0x160 on.
 pub(crate) fn binary(id: u32, s: &[u8], d: usize) -> V128
-    requires { ⌜ Holds 2 (now s) d ⌝ }
+    requires { ⌜ HasOperands 2 (now s) d ⌝ }
     ensures { λ r. ⌜ ((o : Binop) → rowOf id ≡ carried (vector (Binary o)) → r .bytes ≡ binary o (topOf (now (s .entry)) d 2) (topOf (now (s .entry)) d 1)) ⌝ }
 {
     if id < 0x141 {
@@ -35,7 +35,7 @@ pub(crate) fn binary(id: u32, s: &[u8], d: usize) -> V128
 
 // Swizzle and the comparisons of the first three shapes.
 fn compare(id: u32, s: &[u8], d: usize) -> V128
-    requires { ⌜ Holds 2 (now s) d ⌝ }
+    requires { ⌜ HasOperands 2 (now s) d ⌝ }
     ensures { λ r. ⌜ (id < 0x141 → (o : Binop) → rowOf id ≡ carried (vector (Binary o)) → r .bytes ≡ binary o (topOf (now (s .entry)) d 2) (topOf (now (s .entry)) d 1)) ⌝ }
 {
     match id {
@@ -76,7 +76,7 @@ fn compare(id: u32, s: &[u8], d: usize) -> V128
 
 // Of all the bits at once.
 fn bits(id: u32, s: &[u8], d: usize) -> V128
-    requires { ⌜ Holds 2 (now s) d ⌝ }
+    requires { ⌜ HasOperands 2 (now s) d ⌝ }
     ensures { λ r. ⌜ (0x141 ≤ id → id < 0x160 → (o : Binop) → rowOf id ≡ carried (vector (Binary o)) → r .bytes ≡ binary o (topOf (now (s .entry)) d 2) (topOf (now (s .entry)) d 1)) ⌝ }
 {
     match id {
@@ -90,7 +90,7 @@ fn bits(id: u32, s: &[u8], d: usize) -> V128
 
 // Of i8x16.
 fn arith8(id: u32, s: &[u8], d: usize) -> V128
-    requires { ⌜ Holds 2 (now s) d ⌝ }
+    requires { ⌜ HasOperands 2 (now s) d ⌝ }
     ensures { λ r. ⌜ (0x160 ≤ id → id < 0x180 → (o : Binop) → rowOf id ≡ carried (vector (Binary o)) → r .bytes ≡ binary o (topOf (now (s .entry)) d 2) (topOf (now (s .entry)) d 1)) ⌝ }
 {
     match id {
@@ -113,7 +113,7 @@ fn arith8(id: u32, s: &[u8], d: usize) -> V128
 
 // Of i16x8.
 fn arith16(id: u32, s: &[u8], d: usize) -> V128
-    requires { ⌜ Holds 2 (now s) d ⌝ }
+    requires { ⌜ HasOperands 2 (now s) d ⌝ }
     ensures { λ r. ⌜ (0x180 ≤ id → id < 0x1A0 → (o : Binop) → rowOf id ≡ carried (vector (Binary o)) → r .bytes ≡ binary o (topOf (now (s .entry)) d 2) (topOf (now (s .entry)) d 1)) ⌝ }
 {
     match id {
@@ -142,7 +142,7 @@ fn arith16(id: u32, s: &[u8], d: usize) -> V128
 
 // Of i32x4.
 fn arith32(id: u32, s: &[u8], d: usize) -> V128
-    requires { ⌜ Holds 2 (now s) d ⌝ }
+    requires { ⌜ HasOperands 2 (now s) d ⌝ }
     ensures { λ r. ⌜ (0x1A0 ≤ id → id < 0x1C0 → (o : Binop) → rowOf id ≡ carried (vector (Binary o)) → r .bytes ≡ binary o (topOf (now (s .entry)) d 2) (topOf (now (s .entry)) d 1)) ⌝ }
 {
     match id {
@@ -164,7 +164,7 @@ fn arith32(id: u32, s: &[u8], d: usize) -> V128
 
 // Of i64x2, with its comparisons.
 fn arith64(id: u32, s: &[u8], d: usize) -> V128
-    requires { ⌜ Holds 2 (now s) d ⌝ }
+    requires { ⌜ HasOperands 2 (now s) d ⌝ }
     ensures { λ r. ⌜ (0x1C0 ≤ id → (o : Binop) → rowOf id ≡ carried (vector (Binary o)) → r .bytes ≡ binary o (topOf (now (s .entry)) d 2) (topOf (now (s .entry)) d 1)) ⌝ }
 {
     match id {

@@ -1,19 +1,19 @@
 // The operands of an operation, from their places on the stack. Each arm of a `match` over the operations reads its own: read before the
 // `match`, a vector would reach the arms byte by byte.
 ghost use mathlib.Core.Path.{_≡_};
-ghost use Rattle.machine.specs.Inner.Flat.{Holds, topOf, low32};
+ghost use Rattle.machine.specs.Inner.Flat.{HasOperands, topOf, low32};
 use crate::slot;
 use lane::V128;
 
 pub(crate) fn only(s: &[u8], d: usize) -> V128
-    requires { ⌜ Holds 1 (now s) d ⌝ }
+    requires { ⌜ HasOperands 1 (now s) d ⌝ }
     ensures { λ r. ⌜ r .bytes ≡ topOf (now (s .entry)) d 1 ⌝ }
 {
     slot::top(s, d, 1)
 }
 
 pub(crate) fn left(s: &[u8], d: usize) -> V128
-    requires { ⌜ Holds 2 (now s) d ⌝ }
+    requires { ⌜ HasOperands 2 (now s) d ⌝ }
     ensures { λ r. ⌜ r .bytes ≡ topOf (now (s .entry)) d 2 ⌝ }
 {
     slot::top(s, d, 2)
@@ -21,7 +21,7 @@ pub(crate) fn left(s: &[u8], d: usize) -> V128
 
 // On top.
 pub(crate) fn right(s: &[u8], d: usize) -> V128
-    requires { ⌜ Holds 2 (now s) d ⌝ }
+    requires { ⌜ HasOperands 2 (now s) d ⌝ }
     ensures { λ r. ⌜ r .bytes ≡ topOf (now (s .entry)) d 1 ⌝ }
 {
     slot::top(s, d, 1)
@@ -29,7 +29,7 @@ pub(crate) fn right(s: &[u8], d: usize) -> V128
 
 // Of a shift.
 pub(crate) fn count(s: &[u8], d: usize) -> u32
-    requires { ⌜ Holds 2 (now s) d ⌝ }
+    requires { ⌜ HasOperands 2 (now s) d ⌝ }
     ensures { λ r. ⌜ r ≡ low32 (topOf (now (s .entry)) d 1) ⌝ }
 {
     slot::word(right(s, d))

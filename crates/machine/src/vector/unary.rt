@@ -3,7 +3,7 @@ ghost use mathlib.Core.Path.{_≡_};
 ghost use Rattle.operation.specs.Op.{Unop, Testop, Shiftop, Unary, Test, Shift, unary, test, shift};
 ghost use Rattle.opcode.specs.Table.{carried, vector};
 ghost use Rattle.opcode.specs.Number.{rowOf};
-ghost use Rattle.machine.specs.Inner.Flat.{Holds, topOf, low32};
+ghost use Rattle.machine.specs.Inner.Flat.{HasOperands, topOf, low32};
 use crate::vector::operands::count;
 use crate::vector::operands::left;
 use crate::vector::operands::only;
@@ -14,7 +14,7 @@ use lane::i32x4;
 use lane::i64x2;
 
 pub(crate) fn unary(id: u32, s: &[u8], d: usize) -> V128
-    requires { ⌜ Holds 1 (now s) d ⌝ }
+    requires { ⌜ HasOperands 1 (now s) d ⌝ }
     ensures { λ r. ⌜ ((o : Unop) → rowOf id ≡ carried (vector (Unary o)) → r .bytes ≡ unary o (topOf (now (s .entry)) d 1)) ⌝ }
 {
     match id {
@@ -49,7 +49,7 @@ pub(crate) fn unary(id: u32, s: &[u8], d: usize) -> V128
 }
 
 pub(crate) fn test(id: u32, s: &[u8], d: usize) -> u32
-    requires { ⌜ Holds 1 (now s) d ⌝ }
+    requires { ⌜ HasOperands 1 (now s) d ⌝ }
     ensures { λ r. ⌜ ((o : Testop) → rowOf id ≡ carried (vector (Test o)) → r ≡ test o (topOf (now (s .entry)) d 1)) ⌝ }
 {
     match id {
@@ -67,7 +67,7 @@ pub(crate) fn test(id: u32, s: &[u8], d: usize) -> u32
 }
 
 pub(crate) fn shift(id: u32, s: &[u8], d: usize) -> V128
-    requires { ⌜ Holds 2 (now s) d ⌝ }
+    requires { ⌜ HasOperands 2 (now s) d ⌝ }
     ensures { λ r. ⌜ ((o : Shiftop) → rowOf id ≡ carried (vector (Shift o)) → r .bytes ≡ shift o (topOf (now (s .entry)) d 2) (low32 (topOf (now (s .entry)) d 1))) ⌝ }
 {
     match id {

@@ -16,7 +16,7 @@ put true out at bs = sets out at bs
 put false out at bs = out
 
 -- instructions of a version stand from a place on, and what is written has room
-pub record Ready (ver : ℕ) (s : List ℕ) (start : ℕ) (writing : Bool) (size : ℕ) : Type 0 where
+pub record AtPass (ver : ℕ) (s : List ℕ) (start : ℕ) (writing : Bool) (size : ℕ) : Type 0 where
   pub versioned : Version ver
   pub instrs : List Instr
   pub stand : Instructions ver s start instrs

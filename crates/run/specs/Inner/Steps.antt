@@ -11,7 +11,7 @@ use Rattle.rules.specs.Header.{Header, Declares}
 use Rattle.rules.specs.Strip.{Valid}
 use Rattle.standard.specs.Standard.{begin}
 use Rattle.run.specs.Meter.{Left, meter}
-use Rattle.run.specs.Run.{Holds, Slots}
+use Rattle.run.specs.Run.{Arguments, Slots}
 
 -- the answer to whether P
 pub data Tells (P : Type 0) : Bool → Type 0 where
@@ -34,13 +34,13 @@ pub record Sized (s args : List ℕ) (count : ℕ) : Type 0 where
   pub slots : Slots (header .parameters) args
 
 -- all that is asked before the first instruction is in order
-pub record Ready (s args out : List ℕ) : Type 0 where
+pub record Prepared (s args out : List ℕ) : Type 0 where
   pub valid : Valid s
   pub values : List Value
-  pub given : Holds (valid .header .parameters) args values
+  pub given : Arguments (valid .header .parameters) args values
   pub slots : Slots (valid .header .results) out
 
 -- then this is left
 pub record Drove (s args mem out : List ℕ) (budget : ℕ) (l : Left) : Type 0 where
-  pub ready : Ready s args out
+  pub ready : Prepared s args out
   pub same : l ≡ meter s (ready .valid .header) budget 0 (begin (ready .valid .header) (ready .values) mem) out
