@@ -2,6 +2,7 @@
 use Prim.Native.Nat.{ℕ, _+_, _^_, _<_}
 use mathlib.Core.Path.{_≡_}
 use mathlib.Core.Bool.{false}
+use mathlib.Core.Option.{some}
 use mathlib.Core.List.{List, [], _∷_, reverse, map}
 use lib.ListN.{length, getD}
 use Rattle.opcode.specs.Table.{BrIf, control}
@@ -10,6 +11,7 @@ use Rattle.machine.specs.Value.{Value, I32, kindOf, AllInRange}
 use Rattle.rules.specs.Header.{Header, locals}
 use Rattle.rules.specs.Typing.{Frame, opened}
 use Rattle.rules.specs.Strip.{Reads, Reaches}
+use Rattle.standard.specs.Closing.{close}
 use Rattle.standard.specs.Standard.{Label, Config, Stage, going, ended, trapped, halted, step, runs}
 
 -- no code here is dead
@@ -23,6 +25,11 @@ pub data Nested (s : List ℕ) (h : Header) : List Frame → List Label → Type
   inside : {f g : Frame} {fs : List Frame} {l : Label} {ls : List Label} → l .loop ≡ f .loop → l .results ≡ f .results
       → map kindOf (l .under) ≡ reverse (g .values) → AllInRange (l .under) → Reaches s h (l .body) (opened (f .loop) (f .results) ∷ g ∷ fs)
       → Nested s h (g ∷ fs) ls → Nested s h (f ∷ g ∷ fs) (l ∷ ls)
+
+-- from the body of each label the `end` of its block is found
+abbrev pub AllEnd : List ℕ → Header → List Label → Type 0
+AllEnd s h [] = Unit {0}
+AllEnd s h (l ∷ ls) = ((q : ℕ) × (close (h .version) s (l .body) ≡ some q)) × AllEnd s h ls
 
 -- kinds on the stack, the last on top, labels, kinds of the locals, and all values in range
 pub record Fits (s : List ℕ) (h : Header) (f : Frame) (fs : List Frame) (c : Config) : Type 0 where
