@@ -7,8 +7,8 @@ use lib.Arith.{digits-div, digits-mod}
 use lib.Bits.{bitAnd, bitOr, and-shr, or-shr, xor-shr, and-mod, or-mod, xor-mod, and-lt}
 use lib.Pow.{pow-pos, split, ones-split, shr-lt, ones-sub-lt}
 use Rattle.operation.specs.Vector.{number, le}
+use Rattle.operation.proofs.Laws.Number.{fieldOf, number-le}
 use Rattle.lane.specs.Inner.Scalars.{bitwise}
-use Rattle.lane.proofs.Laws.Number.{fieldOf, number-le}
 
 -- turning over the bits of a, above and below bit k
 complement : (j k a : ℕ) → a < 2 ^ (j + k) → 2 ^ (j + k) - 1 - a ≡ (2 ^ j - 1 - a / 2 ^ k) * 2 ^ k + (2 ^ k - 1 - a % 2 ^ k)

@@ -11,9 +11,9 @@ use lib.Pow.{pow-pos, pow-mono, split, high, low, field, shr-shr, shr-lt, mod-mo
 use mir.Syntax.{Width, w8, w16, w32, w64}
 use mir.Val.{bits}
 use Rattle.operation.specs.Vector.{number, lane, build, Sixteen}
+use Rattle.operation.proofs.Laws.Number.{fieldOf, field-low}
+use Rattle.operation.proofs.Laws.Build.{build-same, in-lanes, field-build}
 use Rattle.lane.specs.Inner.Words.{fieldwise}
-use Rattle.lane.proofs.Laws.Number.{fieldOf, field-low}
-use Rattle.lane.proofs.Laws.Build.{build-same, in-lanes, field-build}
 
 -- ---- one field after the other
 

@@ -5,7 +5,8 @@ use mir.Syntax.{w8, w32}
 use Rattle.scalar.specs.Scalar.{U}
 use Rattle.operation.specs.Shape.{i8x16}
 use Rattle.operation.specs.Op.{extracted}
-use Rattle.lane.proofs.Laws.Answers.{scalar-in, scalar-out, unsigned-lane}
+use Rattle.operation.proofs.Laws.Lane.{unsigned-lane}
+use Rattle.lane.proofs.Laws.Answers.{scalar-in, scalar-out}
 use Rattle.lane.proofs.i8x16.extract_lane_u.Statement.{statement}
 use Rattle.lane.proofs.i8x16.extract_lane_u.Tie as tie
 

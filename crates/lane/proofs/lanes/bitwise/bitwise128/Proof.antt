@@ -6,9 +6,11 @@ use native.Mathlib.Omega.{arith}
 use borrow.Author.Needs.{needs}
 use mir.Syntax.{w8}
 use Rattle.operation.specs.Vector.{number, lane, Sixteen}
+use Rattle.operation.proofs.Laws.Build.{build-same, build-fields}
+use Rattle.operation.proofs.Laws.Vectors.{sixteen-zeros}
+use Rattle.operation.proofs.Laws.Number.{number-lt, fieldOf}
 use Rattle.lane.specs.Inner.Scalars.{bitwise}
-use Rattle.lane.proofs.Laws.Build.{Built, built-none, built-more, built-all, build-same, build-fields, sixteen-zeros}
-use Rattle.lane.proofs.Laws.Number.{number-lt, fieldOf}
+use Rattle.lane.proofs.Laws.Build.{Built, built-none, built-more, built-all}
 use Rattle.lane.proofs.Laws.Bitwise.{bitwise-field}
 use Rattle.lane.proofs.lanes.bitwise.bitwise128.Statement.{statement}
 use Rattle.lane.proofs.lanes.bitwise.bitwise128.Tie as tie

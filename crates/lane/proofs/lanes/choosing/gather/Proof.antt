@@ -8,8 +8,9 @@ use borrow.Author.Tests.{ltb-true}
 use lib.Dec.{ltb}
 use Rattle.operation.specs.Shape.{i8x16}
 use Rattle.operation.specs.Vector.{lane}
-use Rattle.lane.proofs.Laws.Build.{Built, built-none, built-more, built-all, sixteen-zeros}
-use Rattle.lane.proofs.Laws.Scan.{all-each}
+use Rattle.operation.proofs.Laws.Vectors.{sixteen-zeros}
+use Rattle.operation.proofs.Laws.Scan.{all-each}
+use Rattle.lane.proofs.Laws.Build.{Built, built-none, built-more, built-all}
 use Rattle.lane.proofs.lanes.choosing.gather.Statement.{statement}
 use Rattle.lane.proofs.lanes.choosing.gather.Tie as tie
 

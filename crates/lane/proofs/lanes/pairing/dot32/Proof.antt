@@ -6,7 +6,8 @@ use borrow.Author.Needs.{needs}
 use mir.Syntax.{w16, w32}
 use Rattle.scalar.specs.Scalar.{idot}
 use Rattle.operation.specs.Vector.{lane}
-use Rattle.lane.proofs.Laws.Build.{Built, built-none, built-more, built-all, sixteen-zeros}
+use Rattle.operation.proofs.Laws.Vectors.{sixteen-zeros}
+use Rattle.lane.proofs.Laws.Build.{Built, built-none, built-more, built-all}
 use Rattle.lane.proofs.lanes.pairing.dot32.Statement.{statement}
 use Rattle.lane.proofs.lanes.pairing.dot32.Tie as tie
 
