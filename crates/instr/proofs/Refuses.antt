@@ -31,7 +31,7 @@ use Rattle.instr.specs.declared.Instr.{Instr}
 use Rattle.instr.specs.declared.Decoded.{Decoded}
 use Rattle.instr.proofs.Parts.{passes-wrong, wrong-once, byte-same, u32-same, wrong-coded, Falls, falls-once, Through, none-left, passing, through-falls}
 use Rattle.instr.proofs.Places.{past, first-of, others-of, byte-here}
-use Rattle.instr.proofs.Stands.{decoded-stands}
+use Rattle.instr.proofs.Stands.{decoded-stands, decoded-place}
 
 -- ---- one refusal at most
 
@@ -405,6 +405,10 @@ module _ (s : List ℕ) (b : bytes s) where
       (λ e. subst (λ (x : ℕ). Refuses ver s at x l) (e .0) (subst (Refuses ver s at (decodeAt ver s at .code)) (e .1) (decoded-refuses (λ z. e .2 (sym (e .0) ∙ z))))),
       λ r. let t = refuses-decoded r in (t .0, t .1, refuses-coded ver s at r),
     )
+
+    -- a place lies in the file, or is its length
+    pub refuses-place : {c l : ℕ} → Refuses ver s at c l → l ≤ length s
+    refuses-place r = omega (arith, refuses-decoded r .1, decoded-place s b ver at)
 
     -- one of the two holds
     pub refuses-or-stands : ((c : ℕ) × (l : ℕ) × Refuses ver s at c l) ⊎ ((i : Instr) × (n : ℕ) × Stands ver s at i n)
