@@ -18,13 +18,13 @@ use Rattle.rules.specs.Header.{Header, locals}
 use Rattle.rules.specs.Typing.{Frame, opened, holding, branchKinds, allValues, Target, Typed, Types, ordinary, branches, may-branch, opens-block, opens-loop, closes, Ends, ends}
 use Rattle.rules.specs.Strip.{Reads, Within, Reaches, past, Valid}
 use Rattle.rules.proofs.Typings.{end-untyped, control-untyped}
-use Rattle.standard.specs.Standard.{Label, Config, Stage, going, halted, withStack, countUnder, after, enter, branch, branchIf, stepPlain, stepCode, step, runs}
-use Rattle.standard.specs.Safety.{Live, Nested, outermost, inside, Fits, Sound, Safe, safe-going, safe-ended, safe-trapped}
+use Rattle.standard.specs.Standard.{Label, Config, Stage, going, trapped, halted, withStack, countUnder, after, enter, branch, branchIf, stepPlain, stepCode, step, runs}
+use Rattle.standard.specs.Safety.{Live, Nested, outermost, inside, Fits, Sound, Strays, Safe, safe-going, safe-ended, safe-trapped}
 use Rattle.standard.proofs.ValueKinds.{reverse-kinds, reverse-range, kinds-fit}
 use Rattle.standard.proofs.Fine.{Kept, Fine, on, past as trapped-past}
 use Rattle.standard.proofs.Typeds.{Ranged, typed-fine}
 use Rattle.standard.proofs.Steps.{step-does, does-ordinary, apt}
-use Rattle.standard.proofs.Straying.{strays-there}
+use Rattle.standard.proofs.Straying.{strays-there, reads-strays}
 use Rattle.standard.proofs.Nestings.{nested-many, nested-under, nested-same, live-has}
 use Rattle.standard.proofs.Unwinding.{Next, last, goes-on, what-next}
 use Rattle.standard.proofs.Tops.{kinds-append, range-append}
@@ -184,3 +184,11 @@ module _ {s : List ℕ} (v : Valid s) (c : Config) where
 
   pub safe-step : Sound s h c → Safe s h c (step s h c)
   safe-step sound = next-safe (sound .fits) (sound .live) (sound .reached) (what-next v (sound .reached))
+
+  -- a step that traps is one at an access past the memory's end
+  pub sound-strays : Sound s h c → {a m : ℕ} → step s h c ≡ trapped a m → Strays s h c a m
+  sound-strays sound {a} {m} e = by (what-next v (sound .reached))
+    where
+      by : {fs : List Frame} → Next s h (c .place) fs → Strays s h c a m
+      by (last r x) = reads-strays s h a m c r e
+      by (goes-on r t w) = reads-strays s h a m c r e
