@@ -17,10 +17,10 @@ use Rattle.instr.specs.Layout.{rowIn}
 use Rattle.instr.specs.Decode.{decodeAt}
 use Rattle.machine.specs.Value.{Value}
 use Rattle.machine.specs.Exec.{State, Outcome, goes, done, trap, stuck, goOn, exec}
+use Rattle.machine.proofs.Outcomes.{of-exec}
 use Rattle.rules.specs.Header.{Header, headerBytes}
 use Rattle.standard.specs.Standard.{Config, Stage, going, ended, trapped, halted, after, stepRow, step, onward, runs, begin}
 use Rattle.standard.specs.One.{ConfigOne, StageOne, going-one, ended-one, trapped-one, halted-one, afterOne, rowOne, byOne, stepOne, onwardOne, runsOne, beginOne, bare, bareStage}
-use Rattle.standard.proofs.Outcomes.{of-exec}
 
 -- the stack is full where it was
 module _ (c : ConfigOne) (n : ℕ) where
@@ -37,7 +37,7 @@ module _ (c : ConfigOne) (n : ℕ) where
           ap (λ (t : Bool). cond t halted (going (record { place = c .place + n; state = next; labels = [] }))) (ap (ltb stackLimit) (add-zero (length st)) ∙ e)
 
   same-after : (rs : List Kind) (k : Code) (i : Instr) → after (bare c) n (exec rs k i (c .state)) ≡ bareStage (afterOne c n (exec rs k i (c .state)))
-  same-after rs k i = of-exec (λ o. after (bare c) n o ≡ bareStage (afterOne c n o)) refl (λ a m. refl) (λ vs. refl) full-alike i (c .state) rs k
+  same-after rs k i = of-exec i (c .state) (λ o. after (bare c) n o ≡ bareStage (afterOne c n o)) refl (λ vs. refl) full-alike rs k (λ a m at past. refl)
 
 module _ (s : List ℕ) (h : Header) where
   same-row : (c : ConfigOne) (d : Decoded) (r : Row) → rowIn 1 (d .instr) ≡ r → stepRow s h (bare c) d r ≡ bareStage (rowOne h c d r)
