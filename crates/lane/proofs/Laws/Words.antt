@@ -2,7 +2,8 @@
 use mathlib.Core.Path.{_≡_, refl, sym, ap, ap₂, _∙_, subst}
 use mathlib.Core.List.{List}
 use Prim.Native.Nat.{ℕ, zero, suc, _+_, _*_, _-_, _/_, _%_, _^_, _≤_, _<_}
-use native.Mathlib.Nat.{add-zero, add-comm, mul-comm, mul-assoc, mul-add, add-mul, mul-suc, mul-zero, zero-mul, div-one, mod-lt, mod-eq-of-lt, lt-of-le-of-lt, not-suc-le-zero, le-of-suc-le-suc, mul-le-mul-left, sub-add-cancel}
+use native.Mathlib.Nat.{add-zero, add-comm, mul-comm, mul-assoc, mul-add, add-mul, mul-suc, mul-zero, zero-mul}
+use native.Mathlib.Nat.{div-one, mod-lt, mod-eq-of-lt, lt-of-le-of-lt, not-suc-le-zero, le-of-suc-le-suc, mul-le-mul-left, sub-add-cancel}
 use native.Mathlib.Omega.{arith}
 use lib.Arith.{lt-one}
 use lib.Dec.{lit<}

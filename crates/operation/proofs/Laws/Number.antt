@@ -2,7 +2,8 @@
 use mathlib.Core.Path.{_≡_, refl, sym, ap, ap₂, _∙_, subst}
 use mathlib.Core.List.{List, [], _∷_, _++_}
 use Prim.Native.Nat.{ℕ, zero, suc, _+_, _*_, _-_, _/_, _%_, _^_, _≤_, _<_}
-use native.Mathlib.Nat.{zero-add, suc-add, add-comm, mul-comm, mul-assoc, mul-add, add-mul, mul-suc, mul-one, two-mul, pow-zero, div-one, mod-one, mod-lt, zero-lt-suc, add-mul-mod-self-right, div-add-mod'}
+use native.Mathlib.Nat.{zero-add, suc-add, add-comm, mul-comm, mul-assoc, mul-add, add-mul, mul-suc, mul-one}
+use native.Mathlib.Nat.{two-mul, pow-zero, div-one, mod-one, mod-lt, zero-lt-suc, add-mul-mod-self-right, div-add-mod'}
 use native.Mathlib.Omega.{arith}
 use lib.Arith.{digits-div, digits-mod}
 use lib.ListN.{length, take, drop, set, getD}

@@ -14,7 +14,12 @@ use Rattle.scalar.specs.Scalar.{Sign, value, iextend}
 use Rattle.scalar.proofs.Laws.Integers.{wrap-lt}
 use Rattle.operation.specs.Shape.{lanes}
 use Rattle.operation.specs.Vector.{number, le, lane, build, vec, Sixteen}
-use Rattle.operation.specs.Op.{Unop, Not, Abs, Neg, Popcnt, Extend, ExtaddPairwise, unary, Binop, And, Andnot, Or, Xor, Swizzle, Eq, Ne, Lt, Gt, Le, Ge, Add, Sub, Mul, AddSat, SubSat, Min, Max, AvgrU, Q15mulrSatS, DotS, Narrow, Extmul, binary, bitselect, Testop, AnyTrue, AllTrue, Bitmask, truth, all, test, Shiftop, Shl, Shr, shift, splat, unpack, extracted, replaced, shuffled, Loadop, Whole, Widen, Repeat, ZeroPad, loaded, laneIn, laneOut}
+use Rattle.operation.specs.Op.{Unop, Not, Abs, Neg, Popcnt, Extend, ExtaddPairwise, unary}
+use Rattle.operation.specs.Op.{Binop, And, Andnot, Or, Xor, Swizzle, Eq, Ne, Lt, Gt, Le, Ge, Add, Sub, Mul, AddSat, SubSat, Min, Max, AvgrU, Q15mulrSatS, DotS, Narrow, Extmul, binary}
+use Rattle.operation.specs.Op.{bitselect, Testop, AnyTrue, AllTrue, Bitmask, truth, all, test}
+use Rattle.operation.specs.Op.{Shiftop, Shl, Shr, shift}
+use Rattle.operation.specs.Op.{splat, unpack, extracted, replaced}
+use Rattle.operation.specs.Op.{shuffled, Loadop, Whole, Widen, Repeat, ZeroPad, loaded, laneIn, laneOut}
 use Rattle.operation.proofs.Laws.Number.{Bytes, length-le, bytes-le, bytes-append, bytes-set, fieldOf}
 use Rattle.operation.proofs.Laws.Build.{length-build, field-build, in-lanes}
 use Rattle.operation.proofs.Laws.Scan.{tally-lt}

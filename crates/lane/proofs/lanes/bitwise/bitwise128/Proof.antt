@@ -26,10 +26,13 @@ loop-holds c = (omega arith, built-none 1 _ _ sixteen-zeros)
 
 loop-again : tie.Need-loop-again Inv-loop μ-loop
 loop-again c =
-    let l = c .before .before .before .before .before .before .before .before .before .before .loop in let s = c .before .before .before .before .before .before .before .before .before .before .before in (
+    let l = c .before .before .before .before .before .before .before .before .before .before .loop in
+    let s = c .before .before .before .before .before .before .before .before .before .before .before in (
       omega arith,
       built-more 1 (l .i) _ (l .r .bytes) _ (c .before .bitwise8 .result) (omega arith) (l .inv .1)
-          (c .before .bitwise8 .ensures ∙ ap₂ (bitwise (2 ^ 8 - 1) (s .args .op)) (c .before .before .before .before .before .get8 .ensures) (c .before .before .get82 .ensures)) (c .put8 .ensures .sixteen) (c .put8 .ensures .same),
+          (c .before .bitwise8 .ensures
+          ∙ ap₂ (bitwise (2 ^ 8 - 1) (s .args .op)) (c .before .before .before .before .before .get8 .ensures) (c .before .before .get82 .ensures))
+          (c .put8 .ensures .sixteen) (c .put8 .ensures .same),
     )
 
 below : (v : List ℕ) → Sixteen v → number v < 2 ^ 128

@@ -25,15 +25,23 @@ loop-holds c = (omega arith, built-none 1 _ _ sixteen-zeros)
 
 byte-of-two-requires : tie.Need-byte-of-two-requires Inv-loop μ-loop
 byte-of-two-requires c κs =
-    let l = c .before .before .before .before .before .before .before .before .before .loop in let s = c .before .before .before .before .before .before .before .before .before .before in let v = s .args .t3 .bytes in (
-      omega (arith, c .get8 .ensures, ltb-true (lane i8x16 v (l .i)) 32 (all-each 16 (l .i) (λ n. ltb (lane i8x16 v n) 32) (s .pre) (c .before .before .before .before .before .before .before .before .loop-test .taken))),
+    let l = c .before .before .before .before .before .before .before .before .before .loop in
+    let s = c .before .before .before .before .before .before .before .before .before .before in let v = s .args .t3 .bytes in (
+      omega (
+        arith,
+        c .get8 .ensures,
+        ltb-true (lane i8x16 v (l .i)) 32
+            (all-each 16 (l .i) (λ n. ltb (lane i8x16 v n) 32) (s .pre)
+            (c .before .before .before .before .before .before .before .before .loop-test .taken)),
+      ),
       search needs,
       search needs,
     )
 
 loop-again : tie.Need-loop-again Inv-loop μ-loop
 loop-again c =
-    let l = c .before .before .before .before .before .before .before .before .before .before .before .loop in let s = c .before .before .before .before .before .before .before .before .before .before .before .before in (
+    let l = c .before .before .before .before .before .before .before .before .before .before .before .loop in
+    let s = c .before .before .before .before .before .before .before .before .before .before .before .before in (
       omega arith,
       built-more 1 (l .i) _ (l .r .bytes) _ (c .before .byte-of-two .result) (omega arith) (l .inv .1)
           (c .before .byte-of-two .ensures ∙ ap (lane i8x16 (s .args .t1 .bytes ++ s .args .t2 .bytes)) (c .before .before .get8 .ensures)) (c .put8 .ensures .sixteen) (c .put8 .ensures .same),
