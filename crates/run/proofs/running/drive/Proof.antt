@@ -41,10 +41,11 @@ add-at-2 c = omega (arith, counts-read (declared (c .before .before .before .bef
 go-on-requires : tie.Need-go-on-requires
 go-on-requires c κs =
     let called = c .before .before .before .before .before .before .before in let start = called .before .before .before .before .before .before .before in
-    let counts = counts-read (declared (start .pre .valid .reached)) in
-    (may-begin (start .pre) (start .args .mem .now) (λ k. called .before .before .before .before .slice-known .given k) (called .locals-of .ensures .0)
-    (omega (arith, called .locals-of .ensures .1, counts .body)),
-    none-kept _)
+    let counts = counts-read (declared (start .pre .valid .reached)) in (
+      may-begin (start .pre) (start .args .mem .now) (λ k. called .before .before .before .before .slice-known .given k) (called .locals-of .ensures .0)
+          (omega (arith, called .locals-of .ensures .1, counts .body)),
+      none-kept _,
+    )
 
 same-length : tie.Need-same-length
 same-length c = search needs
