@@ -104,18 +104,18 @@ module _ (i : Instr) (σ : State) (P : Outcome → Type 0) (sticks : P stuck) (e
 
   -- ---- the instructions
 
-  of-plain : (rs : List Kind) (p : Plain) → P (execPlain rs p i σ)
-  of-plain rs End = either (ofKinds (σ .stack) (reverse rs)) (ends (reverse (σ .stack))) sticks
-  of-plain rs Drop = pop-any (σ .stack) _ (λ v st. on st _ _)
-  of-plain rs LocalGet = named (i .index) _ (λ v. on _ _ _)
-  of-plain rs LocalSet = pop-any (σ .stack) _ (λ v st. named (i .index) _ (λ w. same-kind v w (on _ _ _)))
-  of-plain rs LocalTee = pop-any (σ .stack) _ (λ v st. named (i .index) _ (λ w. same-kind v w (on _ _ _)))
-  of-plain rs I32Const = on _ _ _
-  of-plain rs I64Const = on _ _ _
-  of-plain rs I32Add = pop-i32 (σ .stack) _ (λ b st e. pop-i32 st _ (λ a st e. on _ _ _))
-  of-plain rs I32Sub = pop-i32 (σ .stack) _ (λ b st e. pop-i32 st _ (λ a st e. on _ _ _))
-  of-plain rs I32Eqz = pop-i32 (σ .stack) _ (λ a st e. on _ _ _)
-  of-plain rs I32LtU = pop-i32 (σ .stack) _ (λ b st e. pop-i32 st _ (λ a st e. on _ _ _))
+  of-plain : (rs : List Kind) (p : Plain) → Traps (plain p) → P (execPlain rs p i σ)
+  of-plain rs End traps = either (ofKinds (σ .stack) (reverse rs)) (ends (reverse (σ .stack))) sticks
+  of-plain rs Drop traps = pop-any (σ .stack) _ (λ v st. on st _ _)
+  of-plain rs LocalGet traps = named (i .index) _ (λ v. on _ _ _)
+  of-plain rs LocalSet traps = pop-any (σ .stack) _ (λ v st. named (i .index) _ (λ w. same-kind v w (on _ _ _)))
+  of-plain rs LocalTee traps = pop-any (σ .stack) _ (λ v st. named (i .index) _ (λ w. same-kind v w (on _ _ _)))
+  of-plain rs I32Const traps = on _ _ _
+  of-plain rs I64Const traps = on _ _ _
+  of-plain rs I32Add traps = pop-i32 (σ .stack) _ (λ b st e. pop-i32 st _ (λ a st e. on _ _ _))
+  of-plain rs I32Sub traps = pop-i32 (σ .stack) _ (λ b st e. pop-i32 st _ (λ a st e. on _ _ _))
+  of-plain rs I32Eqz traps = pop-i32 (σ .stack) _ (λ a st e. on _ _ _)
+  of-plain rs I32LtU traps = pop-i32 (σ .stack) _ (λ b st e. pop-i32 st _ (λ a st e. on _ _ _))
 
   of-vector : (o : Op) → Traps (vector o) → P (execVector o i σ)
   of-vector (Load Whole) traps = on-top _ 16 _ (λ x st. load) traps (λ x st. on _ _ _)
@@ -137,6 +137,6 @@ module _ (i : Instr) (σ : State) (P : Outcome → Type 0) (sticks : P stuck) (e
   of-vector (Shift o) traps = pop-i32 (σ .stack) _ (λ n st e. pop-v128 st _ (λ a st e. on _ _ _))
 
   pub of-exec : (rs : List Kind) (c : Code) → Traps c → P (exec rs c i σ)
-  of-exec rs (plain p) traps = of-plain rs p
+  of-exec rs (plain p) traps = of-plain rs p traps
   of-exec rs (control k) traps = sticks
   of-exec rs (vector o) traps = of-vector o traps

@@ -8,6 +8,7 @@ use lib.Dec.{T, leb}
 use lib.ListN.{length}
 use borrow.Author.Tests.{leb-true}
 use Rattle.operation.specs.Op.{Load, LoadLane, Store, StoreLane, Const, Shuffle, Splat, ExtractLane, ReplaceLane, Unary, Binary, Bitselect, Test, Shift}
+use Rattle.card.specs.Card.{DONE, TRAP}
 use Rattle.limits.specs.Limits.{stackLimit}
 use Rattle.opcode.specs.Table.{End, Drop, LocalGet, LocalSet, LocalTee, I32Const, I64Const, I32Add, I32Sub, I32Eqz, I32LtU, Code, plain, control, vector, carried}
 use Rattle.opcode.specs.Immediate.{movedBy}
@@ -21,15 +22,15 @@ use Rattle.opcode.proofs.Arms.{anyKey}
 use Rattle.instr.specs.declared.Instr.{Instr}
 use Rattle.machine.specs.Inner.Flat.{flat, flatOf}
 use Rattle.machine.specs.Inner.Fit.{Fit, Fits, Named, Ready, Did, DidBy, boundsAt, boundsOf}
-use Rattle.machine.specs.declared.access.Bounds.the-variants.{Clear, Past}
+use Rattle.machine.specs.Answer.{Told, inReach, outOfReach}
 
 -- an access that is clear lies within the memory
-pub within : (at n len : ℕ) → boundsAt at n len ≡ Clear → at + n ≤ len
+pub within : (at n len : ℕ) → boundsAt at n len ≡ inReach → at + n ≤ len
 within at n len e = go (leb (at + n) len) refl e
   where
-    go : (t : Bool) → leb (at + n) len ≡ t → cond t Clear (Past (max at len)) ≡ Clear → at + n ≤ len
+    go : (t : Bool) → leb (at + n) len ≡ t → cond t inReach (outOfReach (max at len)) ≡ inReach → at + n ≤ len
     go true q e = leb-true (at + n) len q
-    go false q e = let wrong : _≡_ {A = ℕ} 0 1 = cc in omega arith
+    go false q e = let wrong : TRAP ≡ DONE = ap (λ (x : Told). x .code) e in absurd (omega (arith, wrong))
 
 -- the keys of arms of one number each
 abbrev pub alone : List ℕ → List (List ℕ)
@@ -65,7 +66,7 @@ idle i st d ls m (vector (Test o)) h = absurd (h tt)
 idle i st d ls m (vector (Shift o)) h = absurd (h tt)
 
 -- past the arms of 9 to 12 is what leaves the memory alone
-pub untouched : (i : Instr) (st : List ℕ) (d len : ℕ) (c : Code) → (T (anyKey (alone (9 to 12)) (groupOfCode c)) → ⊥) → Clear ≡ boundsOf c i st d len
+pub untouched : (i : Instr) (st : List ℕ) (d len : ℕ) (c : Code) → (T (anyKey (alone (9 to 12)) (groupOfCode c)) → ⊥) → inReach ≡ boundsOf c i st d len
 untouched i st d len (plain p) h = refl
 untouched i st d len (control k) h = refl
 untouched i st d len (vector (Load l)) h = absurd (h tt)
@@ -107,7 +108,7 @@ pub record Asks (c : Code) (i : Instr) (st : List ℕ) (d : ℕ) (ls m : List �
   pub fit : Fit c st d
   pub named : Named c i
   pub room : flat c i st d ls m .depth ≤ stackLimit
-  pub clear : boundsOf c i st d (length m) ≡ Clear
+  pub clear : boundsOf c i st d (length m) ≡ inReach
 
 module _ {id e : ℕ} {i : Instr} {st : List ℕ} {d : ℕ} {ls m : List ℕ} (pre : (e ≡ entryOf (rowOf id)) × Ready id i st d ls m) {g : ℕ} (group : g ≡ groupIn e) where
   asks : Asks (pre .1 .code) i st d ls m

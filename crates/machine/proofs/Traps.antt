@@ -15,7 +15,7 @@ use Rattle.instr.specs.declared.Instr.{Instr}
 use Rattle.machine.specs.Value.{Value, I32, V128}
 use Rattle.machine.specs.Exec.{State, Outcome, goes, done, trap, stuck, popI32, popV128, goOn, access, exec}
 use Rattle.machine.specs.Accesses.{Accesses, load, load-extend, load-splat, load-zero, load-lane, store, store-lane}
-use Rattle.machine.proofs.Fits.{on-not-trap}
+use Rattle.machine.proofs.Laws.Pops.{on-not-trap}
 use Rattle.machine.proofs.Outcomes.{of-exec}
 
 takes-i32 : (vs : List Value) (x : ℕ) (st : List Value) (f : ℕ → List Value → Outcome) → vs ≡ I32 x ∷ st → popI32 vs f ≡ f x st

@@ -20,3 +20,19 @@ pub data Accesses (i : Instr) : Code → List Value → ℕ → ℕ → Type 0 w
   load-lane : {w : Width} {v : List ℕ} {x : ℕ} {st : List Value} → Accesses i (vector (LoadLane w)) (V128 v ∷ I32 x ∷ st) (x + i .offset) (bytes w)
   store : {v : List ℕ} {x : ℕ} {st : List Value} → Accesses i (vector Store) (V128 v ∷ I32 x ∷ st) (x + i .offset) 16
   store-lane : {w : Width} {v : List ℕ} {x : ℕ} {st : List Value} → Accesses i (vector (StoreLane w)) (V128 v ∷ I32 x ∷ st) (x + i .offset) (bytes w)
+
+-- the same instruction with another alignment exponent, which no access asks for (proofs/Aligned, aligned-alike)
+abbrev pub aligned : ℕ → Instr → Instr
+aligned e i =
+    record {
+      first = i .first;
+      number = i .number;
+      index = i .index;
+      word = i .word;
+      long = i .long;
+      align = e;
+      offset = i .offset;
+      lane = i .lane;
+      block = i .block;
+      bytes = i .bytes;
+    }

@@ -24,6 +24,7 @@ use Rattle.machine.specs.Inner.Fit.{Fits, DidBy, boundsOf}
 use Rattle.machine.specs.Inner.Fit.{Ready}
 use Rattle.machine.specs.declared.access.Bounds.{Bounds}
 use Rattle.machine.specs.declared.access.Bounds.the-variants.{Clear, Past}
+use Rattle.machine.specs.Answer.{Told, inReach, toldBounds}
 use Rattle.rules.specs.Header.{Header}
 use Rattle.rules.specs.Strip.{Reads, Valid}
 use Rattle.rules.proofs.Onward.{declared}
@@ -41,6 +42,10 @@ use Rattle.run.proofs.Ways.{Way, turning, goes-to, traps-at, way}
 
 pub not-clear : {b : Bounds} {a : ℕ} → b ≡ Past a → b ≡ Clear → ⊥
 not-clear e f = let z : _≡_ {A = ℕ} 0 1 = cc in omega arith
+
+reach-clear : (b : Bounds) → toldBounds b ≡ inReach → b ≡ Clear
+reach-clear Clear e = refl
+reach-clear (Past a) e = absurd (let z : TRAP ≡ DONE = ap (λ (x : Told). x .code) e in omega (arith, z))
 
 -- a strip has one number of results
 results-once : {s : List ℕ} (v w : Valid s) (out : List ℕ) → Slots (v .header .results) out → Slots (w .header .results) out
@@ -207,7 +212,7 @@ module _ {s : List ℕ} {v : Valid s} {c₀ : Config} {mem₀ out : List ℕ} {b
               by (goes-to r e q x) = fits r (h .results) (D .carries .rep) q (λ z. let w : _≡_ {A = ℕ} 0 1 = cc in omega arith)
               by (traps-at r e q x) = fits r (h .results) (D .carries .rep) q (λ z. let w : _≡_ {A = ℕ} 0 1 = cc in omega arith)
 
-          module _ (b : Bounds) (told : (c : Code) → rowOf id ≡ carried c → b ≡ boundsOf c i stack depth (length mem)) where
+          module _ (b : Bounds) (told : (c : Code) → rowOf id ≡ carried c → toldBounds b ≡ boundsOf c i stack depth (length mem)) where
             -- within the memory: asked of `exec`, and what it leaves
             module _ (clear : b ≡ Clear) where
               pub exec-apt : (f .entry ≡ entryOf (rowOf id)) × Ready id i stack depth locals mem
@@ -243,7 +248,7 @@ module _ {s : List ℕ} {v : Valid s} {c₀ : Config} {mem₀ out : List ℕ} {b
               where
                 by : Way s h c i (d .len) → Is (leaves TRAP at steps mem results)
                 by (turning r e) = both (sort r ∙ e) ordinary
-                by (goes-to r e q x) = absurd (out-of-reach (told _ (row r) ∙ is-clear r (h .results) (D .carries .rep) q))
+                by (goes-to r e q x) = absurd (out-of-reach (reach-clear b (told _ (row r) ∙ is-clear r (h .results) (D .carries .rep) q)))
                 by (traps-at {a = a} {m = m} r e q x) = stops (one more (trapped a m) x ∙ here TRAP)
 
   -- ---- what `turn` leaves
