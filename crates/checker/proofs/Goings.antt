@@ -180,7 +180,8 @@ module _ {s : List ℕ} {v n takes : ℕ} {kinds blocks : List ℕ} {depth nest 
     at-end e =
         let it = is-end e .1 in
         let k = alone (w .framed .nested) (is-end e .0) in
-        let framed : Framed (w .header .results) kinds blocks depth nest floor dead (k .strip-frame ∷ []) = subst (Framed (w .header .results) kinds blocks depth nest floor dead) (k .frames) (w .framed) in
+        let framed : Framed (w .header .results) kinds blocks depth nest floor dead (k .strip-frame ∷ []) = subst
+        (Framed (w .header .results) kinds blocks depth nest floor dead) (k .frames) (w .framed) in
         let at-strip : At s (w .header) at (k .strip-frame ∷ []) (decodeAt (w .header .version) s at .instr) (coded .0) =
         subst (λ (x : List Frame). At s (w .header) at x (decodeAt (w .header .version) s at .instr) (coded .0)) (k .frames) here in
         record {
