@@ -38,7 +38,8 @@ module _ {top : Frame} {floor base : ℕ} where
       none [] h e = h
       none (k ∷ below) h e = absurd (let never : ⊥ = omega arith in never)
 
-module _ {rs : List Kind} {kinds blocks : List ℕ} {depth nest floor : ℕ} {dead : Bool} {fs : List Frame} (w : Framed rs kinds blocks depth nest floor dead fs) (k : Closing rs blocks nest floor dead fs) where
+module _ {rs : List Kind} {kinds blocks : List ℕ} {depth nest floor : ℕ} {dead : Bool} {fs : List Frame}
+    (w : Framed rs kinds blocks depth nest floor dead fs) (k : Closing rs blocks nest floor dead fs) where
   framed-here : Framed rs kinds blocks depth nest floor dead (k .top ∷ k .next ∷ k .rest)
   framed-here = subst (Framed rs kinds blocks depth nest floor dead) (k .frames) w
 

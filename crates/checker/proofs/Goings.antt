@@ -131,7 +131,8 @@ goes-of (no-results e f) z = absurd (let never : ⊥ = omega arith in never)
 goes-of (too-deep t big) z = absurd (let never : ⊥ = omega arith in never)
 goes-of (typed {fs′} t g) z = (fs′, t, g)
 
-module _ {s : List ℕ} {v n takes : ℕ} {kinds blocks : List ℕ} {depth nest floor : ℕ} {dead : Bool} {at : ℕ} (w : Going s v n takes kinds blocks depth nest floor dead at) (d : Scanned) (is : d ≡ scanOf (decodeIn v s at)) where
+module _ {s : List ℕ} {v n takes : ℕ} {kinds blocks : List ℕ} {depth nest floor : ℕ} {dead : Bool} {at : ℕ}
+    (w : Going s v n takes kinds blocks depth nest floor dead at) (d : Scanned) (is : d ≡ scanOf (decodeIn v s at)) where
   told : d ≡ scanOf (decodeAt (w .header .version) s at)
   told = is ∙ ap (λ (x : ℕ). scanOf (decodeIn x s at)) (sym (w .version-is)) ∙ ap scanOf (decodes-known (w .header .version) (w .declares .versioned) s at)
 

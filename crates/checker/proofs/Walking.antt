@@ -92,7 +92,8 @@ module _ {s : List ℕ} {p : ℕ} {kinds blocks : List ℕ} {state : State} (w :
         turn-ready = ready going d is b read other
 
         pub next-step : {kinds′ blocks′ : List ℕ} (state′ : State)
-            → ((c : Code) (i : Instr) (ls rs : List Kind) (fs : List Frame) → Faces s (getD s 5 0 + getD s 6 0) takes (d .entry) (d .immediate) kinds blocks (state .depth) (state .nest) (state .floor) (state .dead) c i ls rs fs
+            → ((c : Code) (i : Instr) (ls rs : List Kind) (fs : List Frame)
+            → Faces s (getD s 5 0 + getD s 6 0) takes (d .entry) (d .immediate) kinds blocks (state .depth) (state .nest) (state .floor) (state .dead) c i ls rs fs
             → Judges ls rs i c fs kinds′ blocks′ (state′ .depth) (state′ .nest) (state′ .floor) (state′ .dead) (state′ .code))
             → Keeps (state′ .code) (state′ .depth) kinds kinds′ × Keeps (state′ .code) (state′ .nest) blocks blocks′ → length kinds′ ≡ length kinds
             → length blocks′ ≡ length blocks
