@@ -107,12 +107,19 @@ module _ (s : List ℕ) where
     pub next : Next s is p place part
     pub wrong : Wrong s place part c l
 
+  pub further : {i : Part} {is : List Part} {p q c l : ℕ} → Passes s p i q → Falls is q c l → Falls (i ∷ is) p c l
+  further t f = record { place = f .place; part = f .part; next = after t (f .next); wrong = f .wrong }
+
+  pub falls-here : {i : Part} {is : List Part} {p c l : ℕ} → Wrong s p i c l → Falls (i ∷ is) p c l
+  falls-here {i} {p = p} w = record { place = p; part = i; next = here; wrong = w }
+
   -- all of them pass, up to q
   pub data Through : List Part → ℕ → ℕ → Type 0 where
     none-left : {p : ℕ} → Through [] p p
     passing : {i : Part} {is : List Part} {p q r : ℕ} → Passes s p i q → Through is q r → Through (i ∷ is) p r
 
-  next-once : {is : List Part} {p q r c l c′ l′ : ℕ} {i j : Part} → Next s is p q i → Next s is p r j → Wrong s q i c l → Wrong s r j c′ l′ → (c ≡ c′) × (l ≡ l′)
+  next-once : {is : List Part} {p q r c l c′ l′ : ℕ} {i j : Part} → Next s is p q i → Next s is p r j → Wrong s q i c l → Wrong s r j c′ l′
+      → (c ≡ c′) × (l ≡ l′)
   next-once {p = p} here here a b = wrong-once s p a b
   next-once {p = p} here (after t n) a b = absurd (passes-wrong s p t a)
   next-once {p = p} (after t n) here a b = absurd (passes-wrong s p t b)

@@ -29,7 +29,7 @@ use Rattle.instr.specs.Decode.{Item, got, no, andThen, andRead, itemOf, 
 use Rattle.instr.specs.Refuses.{number, byte, Holds, a-number, a-byte, cut-number, no-byte, bad-number, Part, any, block, lane, exponent, form, Allows, Passes, Wrong, cut, no-block-type, no-number, large-index, large-exponent, Opcode, one-byte, prefixed, parts, partsOf, Next, here, after, Reading, first, after-prefix, immediate, Refuses, item, not-assigned, a-float}
 use Rattle.instr.specs.declared.Instr.{Instr}
 use Rattle.instr.specs.declared.Decoded.{Decoded}
-use Rattle.instr.proofs.Parts.{passes-wrong, wrong-once, byte-same, u32-same, wrong-coded, Falls, falls-once, Through, none-left, passing, through-falls}
+use Rattle.instr.proofs.Parts.{passes-wrong, wrong-once, byte-same, u32-same, wrong-coded, Falls, further, falls-here, falls-once, Through, none-left, passing, through-falls}
 use Rattle.instr.proofs.Places.{past, first-of, others-of, byte-here}
 use Rattle.instr.proofs.Stands.{decoded-stands, decoded-place}
 
@@ -159,7 +159,12 @@ module _ (s : List ℕ) where
         let d = others-of s p bs (o .0) (o .1) rest e (o .2) in (
           _,
           passing (record { value = i .align; holds = number-held p bs (o .0) (o .1) rest e (o .2) false 32 (i .align) (o .3); allowed = a })
-              (passing (record { value = i .offset; holds = number-held _ (o .1) (u .0) (u .1) rest d (u .2) false 32 (i .offset) (u .3); allowed = tt }) none-left),
+              (passing (record {
+                value = i .offset;
+                holds = number-held _ (o .1) (u .0) (u .1) rest d (u .2) false 32 (i .offset)
+                    (u .3);
+                allowed = tt;
+              }) none-left),
         )
     immediates-pass memoryLane m n o a =
         let u = o .4 in
@@ -199,7 +204,8 @@ module _ (s : List ℕ) where
     whole-stage w (at-first a) = first-opcode ver s at a (w .opcode-there)
     whole-stage w (at-number h a) = number-opcode ver s at h a (w .opcode-there)
     whole-stage {c} {l} w (at-body o f) =
-        through-falls s (w .through .1) (body-falls ver s at (subst (λ (r : Row). Body ver s at r (w .q) c l) (w .row) (body-of ver s at (w .opcode-there) o f)))
+        through-falls s (w .through .1) (body-falls ver s at
+        (subst (λ (r : Row). Body ver s at r (w .q) c l) (w .row) (body-of ver s at (w .opcode-there) o f)))
 
     module _ (i : Instr) (t : Typed i) (b n q : ℕ) (o : Opcode s at b n q) (bs rest : List ℕ) (e : drop q s ≡ bs ++ rest) where
       row-whole : (r : Row) → rowAt ver b n ≡ r → Allowed r i → InOrder Writes (fieldsOf r i) bs → Whole
@@ -276,7 +282,8 @@ module _ (s : List ℕ) (b : bytes s) where
   again i (cut a) = cut a
   again i (no-number a) = no-number a
 
-  read-judged : (i : Part) (p : ℕ) (g : Item) (f : ℕ → ℕ → Item) → Judged (any (form i)) p g → ((v q : ℕ) → Holds s p (form i) v q → Judged i p (f v q)) → Judged i p (andRead g f)
+  read-judged : (i : Part) (p : ℕ) (g : Item) (f : ℕ → ℕ → Item) → Judged (any (form i)) p g
+      → ((v q : ℕ) → Holds s p (form i) v q → Judged i p (f v q)) → Judged i p (andRead g f)
   read-judged i p (got v q) f j k = k v q (j .0)
   read-judged i p (no c l) f j k = again i j
 
@@ -304,17 +311,17 @@ module _ (s : List ℕ) (b : bytes s) where
 
   onward : (i : Part) (is : List Part) (p v q : ℕ) (d : Decoded) → Holds s p (form i) v q × Allows i v → Ends is q d → Ends (i ∷ is) p d
   onward i is p v q d j (inl z) = inl z
-  onward i is p v q d j (inr f) =
-      inr (record { place = f .place; part = f .part; next = after (record { value = v; holds = j .0; allowed = j .1 }) (f .next); wrong = f .wrong })
+  onward i is p v q d j (inr f) = inr (further s (record { value = v; holds = j .0; allowed = j .1 }) f)
 
-  then-ends : (i : Part) (is : List Part) (p : ℕ) (g : Item) (f : ℕ → ℕ → Decoded) → Judged i p g → ((v q : ℕ) → Ends is q (f v q)) → Ends (i ∷ is) p (andThen g f)
+  then-ends : (i : Part) (is : List Part) (p : ℕ) (g : Item) (f : ℕ → ℕ → Decoded) → Judged i p g → ((v q : ℕ) → Ends is q (f v q))
+      → Ends (i ∷ is) p (andThen g f)
   then-ends i is p (got v q) f j k = onward i is p v q (f v q) j (k v q)
-  then-ends i is p (no c l) f j k = inr (record { place = p; part = i; next = here; wrong = j })
+  then-ends i is p (no c l) f j k = inr (falls-here s j)
 
   lanes-more : (k p : ℕ) (f : ℕ → ℕ → Decoded) (g : Item) → Judged (lane 32) p g → ((q : ℕ) → Ends (replicate k (lane 32)) q (andThen (lanesAt k s q) f))
       → Ends (replicate (suc k) (lane 32)) p (andThen (andRead g (λ v q. lanesAt k s q)) f)
   lanes-more k p f (got v q) j rest = onward (lane 32) (replicate k (lane 32)) p v q (andThen (lanesAt k s q) f) j (rest q)
-  lanes-more k p f (no c l) j rest = inr (record { place = p; part = lane 32; next = here; wrong = j })
+  lanes-more k p f (no c l) j rest = inr (falls-here s j)
 
   lanes-end : (k p : ℕ) (f : ℕ → ℕ → Decoded) → ((v q : ℕ) → f v q .code ≡ DONE) → Ends (replicate k (lane 32)) p (andThen (lanesAt k s p) f)
   unfolding lanesAt
@@ -326,10 +333,8 @@ module _ (s : List ℕ) (b : bytes s) where
   bytes-cut zero p o h = absurd (omega arith)
   bytes-cut (suc k) p o h =
       either (length s) p
-      (λ l. record { place = p; part = any byte; next = here; wrong = cut (no-byte l) })
-      (λ l.
-      let f = bytes-cut k (p + 1) (omega arith) (omega arith) in
-      record { place = f .place; part = f .part; next = after (record { value = getD s p 0; holds = byte-stands p l; allowed = tt }) (f .next); wrong = f .wrong })
+      (λ l. falls-here s (cut (no-byte l)))
+      (λ l. further s (record { value = getD s p 0; holds = byte-stands p l; allowed = tt }) (bytes-cut k (p + 1) (omega arith) (omega arith)))
 
   sixteen-ends : (p : ℕ) (f : ℕ → ℕ → Decoded) → ((v q : ℕ) → f v q .code ≡ DONE) → Ends (replicate 16 (any byte)) p (andThen (sixteenAt s p) f)
   unfolding sixteenAt
@@ -341,7 +346,8 @@ module _ (s : List ℕ) (b : bytes s) where
   immediates-end : (k : Immediates) (m n at p : ℕ) (h : Head) → Ends (parts k m n) p (immediatesAt k m n s at p h)
   unfolding immediatesAt
   immediates-end nothing m n at p h = inl refl
-  immediates-end index m n at p h = then-ends (any (number false 32)) [] p (numberItem false 32 s p) _ (number-judged false 32 p (omega arith)) (λ v q. inl refl)
+  immediates-end index m n at p h =
+      then-ends (any (number false 32)) [] p (numberItem false 32 s p) _ (number-judged false 32 p (omega arith)) (λ v q. inl refl)
   immediates-end blockType m n at p h = then-ends block [] p (blockAt s p) _ (block-judged p) (λ v q. inl refl)
   immediates-end word m n at p h = then-ends (any (number true 32)) [] p (numberItem true 32 s p) _ (number-judged true 32 p (omega arith)) (λ v q. inl refl)
   immediates-end long m n at p h = then-ends (any (number true 64)) [] p (numberItem true 64 s p) _ (number-judged true 64 p (omega arith)) (λ v q. inl refl)
@@ -360,7 +366,8 @@ module _ (s : List ℕ) (b : bytes s) where
     abbrev Ended : Decoded → Type 0
     Ended d = (d .code ≡ DONE) ⊎ Refuses ver s at (d .code) (d .place)
 
-    then-ended : (i : Part) (p : ℕ) (g : Item) (f : ℕ → ℕ → Decoded) → Judged i p g → Reading ver s at p i → ((v q : ℕ) → Holds s p (form i) v q → Ended (f v q)) → Ended (andThen g f)
+    then-ended : (i : Part) (p : ℕ) (g : Item) (f : ℕ → ℕ → Decoded) → Judged i p g → Reading ver s at p i
+        → ((v q : ℕ) → Holds s p (form i) v q → Ended (f v q)) → Ended (andThen g f)
     then-ended i p (got v q) f j r k = k v q (j .0)
     then-ended i p (no c l) f j r k = inr (item r j)
 
@@ -402,7 +409,8 @@ module _ (s : List ℕ) (b : bytes s) where
     -- EXACTLY
     pub refuses-exact : (c l : ℕ) → ((decodeAt ver s at .code ≡ c) × (decodeAt ver s at .place ≡ l) × (c ≡ DONE → ⊥)) ↔ Refuses ver s at c l
     refuses-exact c l = (
-      (λ e. subst (λ (x : ℕ). Refuses ver s at x l) (e .0) (subst (Refuses ver s at (decodeAt ver s at .code)) (e .1) (decoded-refuses (λ z. e .2 (sym (e .0) ∙ z))))),
+      (λ e. subst (λ (x : ℕ). Refuses ver s at x l) (e .0) (subst (Refuses ver s at (decodeAt ver s at .code)) (e .1)
+          (decoded-refuses (λ z. e .2 (sym (e .0) ∙ z))))),
       λ r. let t = refuses-decoded r in (t .0, t .1, refuses-coded ver s at r),
     )
 

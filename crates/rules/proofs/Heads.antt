@@ -106,7 +106,9 @@ module _ {s : List ℕ} {h : Header} (d : Declares s h) where
   pub whole-header : Stop (HeadAsked s) 8
   whole-header =
       record {
-        kept = more (HeadAsked s) 7 (counts-kept s declared-sized (h .version) (d .versioned) (length (h .parameters)) (length (h .further)) (length (h .results)) (map kindByte (kinds h) ++ d .body) (d .bytes) (d .few)) all-kinds;
+        kept =
+            more (HeadAsked s) 7 (counts-kept s declared-sized (h .version) (d .versioned) (length (h .parameters)) (length (h .further))
+            (length (h .results)) (map kindByte (kinds h) ++ d .body) (d .bytes) (d .few)) all-kinds;
         broken = λ q. q;
       }
     where
