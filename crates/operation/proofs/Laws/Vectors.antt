@@ -15,7 +15,8 @@ use Rattle.scalar.proofs.Laws.Integers.{wrap-lt}
 use Rattle.operation.specs.Shape.{lanes}
 use Rattle.operation.specs.Vector.{number, le, lane, build, vec, Sixteen}
 use Rattle.operation.specs.Op.{Unop, Not, Abs, Neg, Popcnt, Extend, ExtaddPairwise, unary}
-use Rattle.operation.specs.Op.{Binop, And, Andnot, Or, Xor, Swizzle, Eq, Ne, Lt, Gt, Le, Ge, Add, Sub, Mul, AddSat, SubSat, Min, Max, AvgrU, Q15mulrSatS, DotS, Narrow, Extmul, binary}
+use Rattle.operation.specs.Op.{Binop, And, Andnot, Or, Xor, Swizzle, Eq, Ne, Lt, Gt, Le, Ge}
+use Rattle.operation.specs.Op.{Add, Sub, Mul, AddSat, SubSat, Min, Max, AvgrU, Q15mulrSatS, DotS, Narrow, Extmul, binary}
 use Rattle.operation.specs.Op.{bitselect, Testop, AnyTrue, AllTrue, Bitmask, truth, all, test}
 use Rattle.operation.specs.Op.{Shiftop, Shl, Shr, shift}
 use Rattle.operation.specs.Op.{splat, unpack, extracted, replaced}
