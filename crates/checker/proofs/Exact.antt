@@ -11,7 +11,7 @@ use Rattle.limits.specs.Limits.{fileLimit}
 use Rattle.leb128.specs.Bytes.{bytes}
 use Rattle.opcode.specs.Table.{Code}
 use Rattle.instr.specs.declared.Instr.{Instr}
-use Rattle.instr.proofs.Stands.{decoded-place}
+use Rattle.instr.proofs.Refuses.{refuses-place}
 use Rattle.instr.proofs.Ranges.{stands-some, stands-inside}
 use Rattle.rules.specs.Header.{Header}
 use Rattle.rules.specs.Typing.{Frame}
@@ -51,7 +51,7 @@ module _ {s : List ℕ} {r : Answer} (w : Checked s r) where
 
 module _ {s : List ℕ} (b : bytes s) where
   refused-place : {c l : ℕ} → Refused s c l → l ≤ fileLimit
-  refused-place f = omega (arith, f .place-is, decoded-place s b (f .header .version) (f .at), declared (f .reached) .sized)
+  refused-place f = omega (arith, refuses-place s b (f .header .version) (f .at) (f .refuses), declared (f .reached) .sized)
 
   read-place : {h : Header} {p : ℕ} {fs : List Frame} {i : Instr} {c : Code} → At s h p fs i c → p + 1 ≤ fileLimit
   read-place a = omega (arith, stands-some (a .reads .stands), stands-inside (a .reads .stands), declared (a .reached) .sized)

@@ -135,9 +135,9 @@ module _ {s : List ℕ} {v n takes : ℕ} {kinds blocks : List ℕ} {depth nest 
   told : d ≡ scanOf (decodeAt (w .header .version) s at)
   told = is ∙ ap (λ (x : ℕ). scanOf (decodeIn x s at)) (sym (w .version-is)) ∙ ap scanOf (decodes-known (w .header .version) (w .declares .versioned) s at)
 
-  pub refuses : (d .code ≡ DONE → ⊥) → Breach s (d .code) (d .place)
-  refuses z =
-      subst (λ (x : Scanned). Breach s (x .code) (x .place)) (sym told) (refused-breach s (w .reached) (λ e. z (ap (λ (x : Scanned). x .code) told ∙ e)))
+  pub refuses : bytes s → (d .code ≡ DONE → ⊥) → Breach s (d .code) (d .place)
+  refuses b z =
+      subst (λ (x : Scanned). Breach s (x .code) (x .place)) (sym told) (refused-breach (w .reached) b (λ e. z (ap (λ (x : Scanned). x .code) told ∙ e)))
 
   module _ (b : bytes s) (z : d .code ≡ DONE) where
     stands : Stands (w .header .version) s at (decodeAt (w .header .version) s at .instr) (d .len)

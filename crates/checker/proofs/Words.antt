@@ -11,7 +11,8 @@ use lib.ListN.{length}
 use Rattle.operation.specs.Vector.{number}
 use Rattle.opcode.specs.Kind.{Kind, i32, i64, v128, kindByte}
 use Rattle.opcode.specs.BlockType.{isBlockType, blockResults}
-use Rattle.opcode.proofs.BlockTypes.{BlockType, empty, kind, no-other-type}
+use Rattle.opcode.specs.Lists.{BlockType, empty, kind}
+use Rattle.opcode.proofs.BlockTypes.{no-other-type}
 use Rattle.checker.specs.Walk.{bit, word}
 use Rattle.checker.specs.Inner.Blocks.{topFirst}
 

@@ -72,7 +72,7 @@ module _ (s : List ℕ) where
     unfoldable pub NumIs : Bool → ℕ → ℕ → ℕ → ℕ → Type 0
     NumIs sign N p v q = (v < 2 ^ N) × (p < q) × (q ≤ length s) × Here s p q (λ bs. Written sign N bs (integer sign N v))
 
-    num-from : (sign : Bool) (N p : ℕ) (r : Leb) → numberAt sign N s p ≡ r → Says sign N s p r → GotP (NumIs sign N p) (itemOf (length s) p r)
+    num-from : (sign : Bool) (N p : ℕ) (r : Leb) → numberAt sign N s p ≡ r → Says sign N s p r → GotP (NumIs sign N p) (itemOf s p r)
     unfolding NumIs
     num-from sign N p (Val v n) e f =
         let t = f .stands in
@@ -81,7 +81,7 @@ module _ (s : List ℕ) where
     num-from sign N p Number e f =
         (omega arith, either (length s) p (λ h. let o : _≡_ {A = ℕ} 0 1 = cc (at-end sign N s p h) in absurd (omega arith)) (λ h. omega arith))
 
-    pub num-got : (sign : Bool) (N p : ℕ) → 0 < N → GotP (NumIs sign N p) (itemOf (length s) p (numberAt sign N s p))
+    pub num-got : (sign : Bool) (N p : ℕ) → 0 < N → GotP (NumIs sign N p) (itemOf s p (numberAt sign N s p))
     num-got sign N p h = num-from sign N p (numberAt sign N s p) refl (says sign N s p b h)
 
     pub item-got : (sign : Bool) (N p : ℕ) → 0 < N → GotP (NumIs sign N p) (numberItem sign N s p)

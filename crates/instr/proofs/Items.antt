@@ -14,9 +14,9 @@ use Rattle.instr.specs.Layout.{head}
 use Rattle.instr.specs.Decode.{refusal, got, no, itemOf, numberItem, byteAt, laneAt, blockAt, bodyOf, opcodeNumber, decodeAt}
 
 module _ (s : List ℕ) where
-  pub number-item : (sign : Bool) (N p : ℕ) (r : Leb) → numberAt sign N s p ≡ r → numberItem sign N s p ≡ itemOf (length s) p r
+  pub number-item : (sign : Bool) (N p : ℕ) (r : Leb) → numberAt sign N s p ≡ r → numberItem sign N s p ≡ itemOf s p r
   unfolding numberItem
-  number-item sign N p r e = ap (itemOf (length s) p) e
+  number-item sign N p r e = ap (itemOf s p) e
 
   module _ (p : ℕ) where
     pub byte-there : p < length s → byteAt s p ≡ got (getD s p 0) (p + 1)
@@ -59,11 +59,11 @@ module _ (ver : ℕ) (s : List ℕ) (at : ℕ) where
   decode-cut l = rw (byte-cut s at l)
 
   module _ (l : at < length s) where
-    pub decode-number : (c p : ℕ) → itemOf (length s) (at + 1) (opcodeNumber (getD s at 0) s (at + 1)) ≡ no c p → decodeAt ver s at ≡ refusal c p
+    pub decode-number : (c p : ℕ) → itemOf s (at + 1) (opcodeNumber (getD s at 0) s (at + 1)) ≡ no c p → decodeAt ver s at ≡ refusal c p
     unfolding decodeAt
     decode-number c p o = rw (byte-there s at l, o)
 
-    pub decode-body : (n p : ℕ) → itemOf (length s) (at + 1) (opcodeNumber (getD s at 0) s (at + 1)) ≡ got n p
+    pub decode-body : (n p : ℕ) → itemOf s (at + 1) (opcodeNumber (getD s at 0) s (at + 1)) ≡ got n p
         → decodeAt ver s at ≡ bodyOf (rowAt ver (getD s at 0) n) s at p (head (getD s at 0) n)
     unfolding decodeAt
     decode-body n p o = rw (byte-there s at l, o)

@@ -1,5 +1,6 @@
 -- For those who call: exactness, round trip, what encoding does not read, bounds, one answer.
 pub mod Stands
+pub mod Refuses
 pub mod Encodes
 pub mod Lacking
 pub mod Ranges
@@ -20,3 +21,4 @@ pub mod Fields
 pub mod Places
 pub mod Decodes
 pub mod Finds
+pub mod Parts

@@ -16,22 +16,22 @@ use Rattle.opcode.specs.Table.{PREFIX}
 use Rattle.instr.specs.Decode.{got, no, itemOf, numberItem, exponentAt, opcodeNumber}
 
 -- the number and its length
-item-there : (end p v q : ℕ) (r : Leb) → itemOf end p r ≡ got v q → (n : ℕ) × (r ≡ Val v n) × (q ≡ p + n)
-item-there end p v q (Val w n) e = let same : w ≡ v = cc in (n, ap (λ (x : ℕ). Val x n) same, cc)
-item-there end p v q Short e = absurd (let z : _≡_ {A = ℕ} 0 1 = cc in omega arith)
-item-there end p v q Number e = absurd (let z : _≡_ {A = ℕ} 0 1 = cc in omega arith)
+item-there : (s : List ℕ) (p v q : ℕ) (r : Leb) → itemOf s p r ≡ got v q → (n : ℕ) × (r ≡ Val v n) × (q ≡ p + n)
+item-there s p v q (Val w n) e = let same : w ≡ v = cc in (n, ap (λ (x : ℕ). Val x n) same, cc)
+item-there s p v q Short e = absurd (let z : _≡_ {A = ℕ} 0 1 = cc in omega arith)
+item-there s p v q Number e = absurd (let z : _≡_ {A = ℕ} 0 1 = cc in omega arith)
 
 module _ (sign : Bool) (s : List ℕ) (p : ℕ) (b : bytes s) (v q : ℕ) where
   pub number-32 : numberItem sign 32 s p ≡ got v q → (v < 2 ^ 32) × (p < q) × (q ≤ length s)
   unfolding numberItem
   number-32 e =
-      let t = item-there (length s) p v q (numberAt sign 32 s p) e in
+      let t = item-there s p v q (numberAt sign 32 s p) e in
       omega (arith, found-32 sign s p b v (t .0) (t .1), t .2)
 
   pub number-64 : numberItem sign 64 s p ≡ got v q → (v < 2 ^ 64) × (p < q) × (q ≤ length s)
   unfolding numberItem
   number-64 e =
-      let t = item-there (length s) p v q (numberAt sign 64 s p) e in
+      let t = item-there s p v q (numberAt sign 64 s p) e in
       omega (arith, found-64 sign s p b v (t .0) (t .1), t .2)
 
 module _ (m : ℕ) (s : List ℕ) (p : ℕ) where
@@ -49,10 +49,10 @@ module _ (m : ℕ) (s : List ℕ) (p : ℕ) where
     exponent-bad t = rw (f, t)
 
 -- FD's number, or 0 of no bytes
-pub opcode-there : (s : List ℕ) → bytes s → (first p v q : ℕ) → p ≤ length s → itemOf (length s) p (opcodeNumber first s p) ≡ got v q
+pub opcode-there : (s : List ℕ) → bytes s → (first p v q : ℕ) → p ≤ length s → itemOf s p (opcodeNumber first s p) ≡ got v q
     → (v < 2 ^ 32) × (p ≤ q) × (q ≤ length s)
 unfolding opcodeNumber
-opcode-there s b first p v q h e = by (eqb first PREFIX) (item-there (length s) p v q (opcodeNumber first s p) e)
+opcode-there s b first p v q h e = by (eqb first PREFIX) (item-there s p v q (opcodeNumber first s p) e)
   where
     by : (t : Bool) → (n : ℕ) × (cond t (numberAt false 32 s p) (Val 0 0) ≡ Val v n) × (q ≡ p + n) → (v < 2 ^ 32) × (p ≤ q) × (q ≤ length s)
     by true w = omega (arith, found-32 false s p b v (w .0) (w .1), w .2)

@@ -31,7 +31,7 @@ module _ (at : ℕ) where
     unfolding numberItem
     number-onward sign N p h = by (numberAt sign N s p)
       where
-        by : (r : Leb) → Onward at (itemOf (length s) p r)
+        by : (r : Leb) → Onward at (itemOf s p r)
         by (Val v n) = omega arith
         by Short = λ z. omega (arith, z)
         by Number = λ z. omega (arith, z)

@@ -189,7 +189,7 @@ module _ (ver : ℕ) (s : List ℕ) (at p first n : ℕ) (l : first < 256) where
       scan-either (rowAt ver first n) (λ c f. row-of-id first n l ∙ row-latest ver first n f) ∙ sym (scan-row at (head first n) s p (rowAt ver first n))
 
 -- a byte, a number and the rest were read
-pub scanned : (ver : ℕ) (s : List ℕ) (at : ℕ) → at < length s → bytes s → (n p : ℕ) → itemOf (length s) (at + 1) (opcodeNumber (getD s at 0) s (at + 1)) ≡ got n p
+pub scanned : (ver : ℕ) (s : List ℕ) (at : ℕ) → at < length s → bytes s → (n p : ℕ) → itemOf s (at + 1) (opcodeNumber (getD s at 0) s (at + 1)) ≡ got n p
     → (e : ℕ) → e ≡ entryOf (rowAt ver (getD s at 0) n) → (i : Item) → overRow (rowAt ver (getD s at 0) n) s at p ≡ i → answered at e i ≡ scanOf (decodeAt ver s at)
 scanned ver s at l b n p o e is i t =
     ap (λ (x : ℕ). answered at x i) is

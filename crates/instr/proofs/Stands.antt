@@ -196,9 +196,9 @@ module _ (s : List ℕ) (b : bytes s) where
         )
 
     after-first : (at p v : ℕ) (t : Bool) → eqb v PREFIX ≡ t → ByteIs s b at v p
-        → Good s (Whole at) (andThen (itemOf (length s) p (cond t (numberAt false 32 s p) (Val 0 0))) (λ n q. bodyOf (rowAt ver v n) s at q (head v n)))
+        → Good s (Whole at) (andThen (itemOf s p (cond t (numberAt false 32 s p) (Val 0 0))) (λ n q. bodyOf (rowAt ver v n) s at q (head v n)))
     after-first at p v true e a =
-        then-got s (NumIs s b false 32 p) (Whole at) (itemOf (length s) p (numberAt false 32 s p)) _ (num-got s b false 32 p (omega arith))
+        then-got s (NumIs s b false 32 p) (Whole at) (itemOf s p (numberAt false 32 s p)) _ (num-got s b false 32 p (omega arith))
         (λ n q c. after-vector at p q v n e a c)
     after-first at p v false e a = rw (add-zero p) (after-plain at p v e a)
 

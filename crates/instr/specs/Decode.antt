@@ -5,7 +5,8 @@ use mathlib.Core.Bool.{Bool, true, false, cond}
 use mathlib.Core.List.{List}
 use lib.Dec.{ltb, leb, eqb}
 use lib.ListN.{length, getD, take, drop}
-use Rattle.card.specs.Card.{SHORT, VERSION, KIND, OPCODE, FLOAT, NUMBER, LANE, ALIGN}
+use Rattle.card.specs.Card.{SHORT, VERSION, KIND, OPCODE, FLOAT, LANE, ALIGN}
+use Rattle.leb128.specs.Answer.{toldRead}
 use Rattle.leb128.specs.Number.{numberAt}
 use Rattle.leb128.specs.declared.read.Leb.{Leb}
 use Rattle.leb128.specs.declared.read.Leb.the-variants.{Val, Short, Number}
@@ -38,14 +39,14 @@ abbrev pub andRead : Item → (ℕ → ℕ → Item) → Item
 andRead (got v next) f = f v next
 andRead (no c p) f = no c p
 
--- a number: SHORT at the file's length, NUMBER at its first byte
-abbrev pub itemOf : ℕ → ℕ → Leb → Item
-itemOf end at (Val v n) = got v (at + n)
-itemOf end at Short = no SHORT end
-itemOf end at Number = no NUMBER at
+-- a number, or its refusal as leb128 tells it
+abbrev pub itemOf : List ℕ → ℕ → Leb → Item
+itemOf s at (Val v n) = got v (at + n)
+itemOf s at Short = no (toldRead s at Short .code) (toldRead s at Short .place)
+itemOf s at Number = no (toldRead s at Number .code) (toldRead s at Number .place)
 
 unfoldable pub numberItem : Bool → ℕ → List ℕ → ℕ → Item
-numberItem sign N s at = itemOf (length s) at (numberAt sign N s at)
+numberItem sign N s at = itemOf s at (numberAt sign N s at)
 
 abbrev pub u32At : List ℕ → ℕ → Item
 u32At = numberItem false 32
@@ -112,7 +113,7 @@ opcodeNumber first s p = cond (eqb first PREFIX) (numberAt false 32 s p) (Val 0 
 unfoldable pub decodeAt : ℕ → List ℕ → ℕ → Decoded
 decodeAt ver s at =
     andThen (byteAt s at) (λ b p.
-    andThen (itemOf (length s) p (opcodeNumber b s p)) (λ n q.
+    andThen (itemOf s p (opcodeNumber b s p)) (λ n q.
     bodyOf (rowAt ver b n) s at q (head b n)))
 
 -- decoding one instruction, told the version: 4 is asked first

@@ -1,5 +1,6 @@
 pub mod Layout
 pub mod Decode
+pub mod Refuses
 pub mod Fetch
 pub mod Scan
 pub mod Encode

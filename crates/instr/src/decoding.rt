@@ -127,7 +127,7 @@ pub(crate) fn whole(
 
 // The number after FD; after another byte there is none, and it is 0.
 pub(crate) fn opcode_number(s: &[u8], p: usize, first: u8) -> Read
-    ensures { λ r. ⌜ item r ≡ itemOf (length (now (s .entry))) p (opcodeNumber first (now (s .entry)) p) ⌝ }
+    ensures { λ r. ⌜ item r ≡ itemOf (now (s .entry)) p (opcodeNumber first (now (s .entry)) p) ⌝ }
 {
     if first == opcode::PREFIX {
         u32_at(s, p)

@@ -24,6 +24,9 @@ use Rattle.leb128.proofs.Widths.{integer-back, bits-back}
 is-wrong : {z : ℤ} {n : ℕ} (r : Read) → r ≡ is z n → r ≡ wrong → ⊥
 is-wrong r e f = let o : _≡_ {A = ℕ} 0 1 = cc in omega arith
 
+is-cut : {z : ℤ} {n : ℕ} (r : Read) → r ≡ is z n → r ≡ cut → ⊥
+is-cut r e f = let o : _≡_ {A = ℕ} 0 1 = cc in omega arith
+
 cut-wrong : (r : Read) → r ≡ cut → r ≡ wrong → ⊥
 cut-wrong r e f = let o : _≡_ {A = ℕ} 0 1 = cc in omega arith
 
@@ -33,6 +36,13 @@ module _ (sign : Bool) (N : ℕ) (s : List ℕ) (at : ℕ) where
 
   cut-is : Cut sign N s at → intOf sign N (drop at s) ≡ cut
   cut-is c = begun (c .writes) (drop at s) (c .missing) refl (c .some)
+
+  -- one integer stands at a place at most, and where one stands none is cut
+  pub stands-same : {z z′ : ℤ} {n n′ : ℕ} → Stands sign N s at z n → Stands sign N s at z′ n′ → (z ≡ z′) × (n ≡ n′)
+  stands-same a b = let e = sym (stands-is a) ∙ stands-is b in (cc (e), cc (e))
+
+  pub stands-cut : {z : ℤ} {n : ℕ} → Stands sign N s at z n → Cut sign N s at → ⊥
+  stands-cut a c = is-cut _ (stands-is a) (cut-is c)
 
   -- a finding, in the words of the grammar
   abbrev Is : Read → Type 0

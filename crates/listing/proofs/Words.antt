@@ -13,7 +13,8 @@ use Rattle.opcode.specs.Kind.{Kind, i32, i64, v128, kindName}
 use Rattle.instr.specs.declared.Instr.{Instr}
 use Rattle.rules.specs.Strip.{Reads}
 use Rattle.opcode.specs.Table.{Code}
-use Rattle.mnemonic.proofs.Letters.{Letter, Letters, are-letters}
+use Rattle.mnemonic.specs.Letters.{Letter, Letters}
+use Rattle.mnemonic.proofs.Letters.{are-letters}
 use Rattle.mnemonic.proofs.Names.{name-letters}
 use Rattle.listing.specs.Line.{bracketed, mnemonic, immediates}
 use Rattle.listing.proofs.Spellings.{spelled-all}

@@ -29,7 +29,7 @@ use Rattle.machine.proofs.Laws.Update.{all-held}
 
 -- ---- what a push leads to
 
-on-not-trap : (vs ws : List Value) (m : List ℕ) (a n : ℕ) → goOn vs ws m ≡ trap a n → ⊥
+pub on-not-trap : (vs ws : List Value) (m : List ℕ) (a n : ℕ) → goOn vs ws m ≡ trap a n → ⊥
 unfolding goOn
 on-not-trap vs ws m a n e = at (ltb stackLimit (length vs)) e
   where

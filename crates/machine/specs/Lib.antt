@@ -1,4 +1,5 @@
 pub mod Value
 pub mod Memory
 pub mod Exec
+pub mod Accesses
 pub mod Inner

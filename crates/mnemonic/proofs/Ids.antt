@@ -14,7 +14,8 @@ use Rattle.opcode.specs.Table.{unassigned, _is_, name, lines, vectorName, plain
 use Rattle.opcode.specs.Number.{nameOf}
 use Rattle.opcode.specs.Lists.{upFrom}
 use Rattle.opcode.proofs.Every.{every, below, below-or-past}
-use Rattle.mnemonic.proofs.Letters.{Letters, letters, are-letters}
+use Rattle.mnemonic.specs.Letters.{Letters}
+use Rattle.mnemonic.proofs.Letters.{letters, are-letters}
 
 pub vector-nameless : (n : ℕ) → 256 ≤ n → vectorName n ≡ ""
 unfolding vectorName

@@ -2,21 +2,12 @@
 use Prim.Native.Nat.{ℕ, zero, suc, _≤_, _<_}
 use mathlib.Core.Bool.{Bool, true, _&&_, _||_}
 use mathlib.Core.List.{List, [], _∷_}
-use mathlib.Core.Logic.{_≢_, ⊎-elim}
+use mathlib.Core.Logic.{⊎-elim}
 use native.Mathlib.Omega.{arith}
 use lib.Dec.{T, leb, leb→le}
 use lib.ListN.{length, getD}
 use mir.Facts.{and-yes, or-yes}
-
-pub record Letter (b : ℕ) : Type 0 where
-  pub low : 46 ≤ b
-  pub high : b ≤ 122
-  pub no-opening : b ≢ 91
-  pub no-closing : b ≢ 93
-
-abbrev pub Letters : List ℕ → Type 0
-Letters [] = Unit {0}
-Letters (b ∷ bs) = Letter b × Letters bs
+use Rattle.mnemonic.specs.Letters.{Letter, Letters}
 
 pub letters-at : (n : List ℕ) → Letters n → (k : ℕ) → k < length n → Letter (getD n k 0)
 letters-at [] t k l = let none : ⊥ = omega arith in absurd none

@@ -17,7 +17,7 @@ use Rattle.opcode.specs.Lists.{upFrom}
 use Rattle.opcode.proofs.Every.{every, below, below-or-past}
 use Rattle.opcode.proofs.Rows.{row-beyond}
 use Rattle.opcode.proofs.Id.{Way, byte, number, beyond, way, row-of-id, id-once}
-use Rattle.mnemonic.proofs.Letters.{Letters}
+use Rattle.mnemonic.specs.Letters.{Letters}
 use Rattle.mnemonic.proofs.Ids.{vector-nameless, short, all-letters}
 
 -- ---- the name of an id is the name of its first byte and number

@@ -1,2 +1,3 @@
 pub mod Padded
+pub mod Letters
 pub mod Inner

@@ -8,6 +8,7 @@ use lib.Dec.{eqb}
 use borrow.Author.Tests.{eqb-true}
 use Rattle.opcode.specs.Kind.{Kind, i32, i64, v128, kindByte}
 use Rattle.opcode.specs.BlockType.{isBlockType, blockResults}
+use Rattle.opcode.specs.Lists.{BlockType, empty, kind}
 
 pub kind-type : (k : Kind) → (isBlockType (kindByte k) ≡ true) × (blockResults (kindByte k) ≡ k ∷ [])
 kind-type i32 = (refl, refl)
@@ -16,10 +17,6 @@ kind-type v128 = (refl, refl)
 
 pub empty-type : (isBlockType 0x40 ≡ true) × (blockResults 0x40 ≡ [])
 empty-type = (refl, refl)
-
-pub data BlockType : ℕ → Type 0 where
-  empty : BlockType 0x40
-  kind : (k : Kind) → BlockType (kindByte k)
 
 pub no-other-type : (b : ℕ) → isBlockType b ≡ true → BlockType b
 no-other-type b e = by (eqb b 0x40) (eqb b 0x7F) (eqb b 0x7E) (eqb b 0x7B) refl refl refl refl e

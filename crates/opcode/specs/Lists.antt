@@ -1,8 +1,9 @@
--- 01's two lists of numbers after FD ("Instructions"), as it writes them, and the opcodes outside the prefix by version (01; 02, C-13): a second
--- source, to which the table is held.
+-- 01's two lists of numbers after FD ("Instructions"), as it writes them, the opcodes outside the prefix by version and the block types (01; 02,
+-- C-13): a second source, to which the tables are held.
 use Prim.Native.Nat.{ℕ, zero, suc, _-_}
 use mathlib.Core.Bool.{Bool, true, false}
 use mathlib.Core.List.{List, [], _∷_, _++_}
+use Rattle.opcode.specs.Kind.{Kind, kindByte}
 use Rattle.opcode.specs.Table.{Row, carried, float, unassigned, vectorAt, plainAt}
 
 infix 70 _to_
@@ -58,3 +59,8 @@ plainsOfTwo =
 abbrev pub plainsIn : ℕ → List ℕ → List ℕ
 plainsIn ver [] = []
 plainsIn ver (b ∷ bs) = keep (isCarried (plainAt ver b)) b (plainsIn ver bs)
+
+-- a block type: 40, which leaves nothing, or the byte of the kind that it leaves (02, C-13)
+pub data BlockType : ℕ → Type 0 where
+  empty : BlockType 0x40
+  kind : (k : Kind) → BlockType (kindByte k)

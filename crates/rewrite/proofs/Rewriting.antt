@@ -13,7 +13,7 @@ use Rattle.rules.specs.Strip.{Valid}
 use Rattle.rules.proofs.Verdicts.{one-breach, valid-no-breach, breach-coded}
 use Rattle.rules.specs.Consists.{Consists}
 use Rattle.rewrite.specs.Rewrite.{encodings, shortest, answer, Rewrites, refused, small, done}
-use Rattle.rewrite.specs.Shortened.{layouts, Shortened}
+use Rattle.rewrite.specs.Shortened.{written, layouts, Shortened}
 use Rattle.rewrite.specs.declared.Rewritten.{Rewritten}
 use Rattle.rules.proofs.Strips.{holds-once, instrs, valid-holds}
 use Rattle.rewrite.proofs.Again.{holds-again, valid-again}
@@ -75,30 +75,26 @@ went (small v a l) e = absurd (let z : ⊥ = omega arith in z)
 went (done {h = h} {is = is} v a l) e = record { header = h; list = is; valid = v; holds = a; fits = l; result = refl; bytes = refl }
 
 module _ {s out : List ℕ} {r : Rewritten} {out′ : List ℕ} (w : Rewrites s out r out′) (z : r .code ≡ DONE) where
-  -- the bytes that were written
-  abbrev pub written : List ℕ
-  written = take (r .len) out′
-
   len : r .len ≡ length (shortest (went w z .header) (went w z .list))
   len = ap (λ (x : Rewritten). x .len) (went w z .result)
 
-  is-shortest : written ≡ shortest (went w z .header) (went w z .list)
+  is-shortest : written r out′ ≡ shortest (went w z .header) (went w z .list)
   is-shortest = let t = shortest (went w z .header) (went w z .list) in ap₂ take len (went w z .bytes) ∙ take-append-seam t (drop (length t) out)
 
-  pub written-length : length written ≡ r .len
+  pub written-length : length (written r out′) ≡ r .len
   written-length = ap length is-shortest ∙ sym len
 
-  not-longer : length written ≤ length s
+  not-longer : length (written r out′) ≤ length s
   not-longer = omega (arith, ap length is-shortest, holds-least (went w z .holds) (went w z .holds))
 
-  still-valid : Valid written
+  still-valid : Valid (written r out′)
   still-valid =
       let v = went w z .valid in
       let same = holds-once (went w z .holds) (valid-holds v) in
-      valid-again v written (is-shortest ∙ ap₂ shortest (same .0) (same .1)) not-longer
+      valid-again v (written r out′) (is-shortest ∙ ap₂ shortest (same .0) (same .1)) not-longer
 
   -- THE SAME STRIP, every number shortest, and none shorter
-  pub shortened : Shortened s written
+  pub shortened : Shortened s (written r out′)
   shortened =
       let h = went w z .header in
       let is = went w z .list in
@@ -108,7 +104,7 @@ module _ {s out : List ℕ} {r : Rewritten} {out′ : List ℕ} (w : Rewrites s 
         header = h;
         instrs = is;
         before = a;
-        after = holds-again a written e not-longer;
+        after = holds-again a (written r out′) e not-longer;
         valid = still-valid;
         numbers =
             subst (InOrder Shortest (layouts (h .version) is)) (sym (ap (drop (length (headerBytes h))) e ∙ drop-append-seam (headerBytes h) (encodings is)))
@@ -119,13 +115,13 @@ module _ {s out : List ℕ} {r : Rewritten} {out′ : List ℕ} (w : Rewrites s 
       }
 
   -- A SECOND TIME: the same bytes
-  pub again : {out₂ : List ℕ} {q : Rewritten} {out₃ : List ℕ} → Rewrites written out₂ q out₃ → r .len ≤ length out₂
-      → (q ≡ r) × (out₃ ≡ written ++ drop (r .len) out₂)
+  pub again : {out₂ : List ℕ} {q : Rewritten} {out₃ : List ℕ} → Rewrites (written r out′) out₂ q out₃ → r .len ≤ length out₂
+      → (q ≡ r) × (out₃ ≡ written r out′ ++ drop (r .len) out₂)
   again {out₂ = out₂} v l =
       let h = went w z .header in
       let is = went w z .list in
       let e = is-shortest in
-      let twice : Rewrites written out₂ (doneAnswer h is) (doneOut out₂ h is) = done still-valid (holds-again (went w z .holds) written e not-longer) (omega (arith, len)) in
+      let twice : Rewrites (written r out′) out₂ (doneAnswer h is) (doneOut out₂ h is) = done still-valid (holds-again (went w z .holds) (written r out′) e not-longer) (omega (arith, len)) in
       let same = rewrites-once v twice in
       (same .0 ∙ sym (went w z .result), same .1 ∙ ap₂ (λ (x : List ℕ) (k : ℕ). x ++ drop k out₂) (sym e) (sym len))
 

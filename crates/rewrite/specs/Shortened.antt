@@ -2,12 +2,17 @@
 use Prim.Native.Nat.{ℕ, _≤_}
 use mathlib.Core.Path.{_≡_}
 use mathlib.Core.List.{List, [], _∷_, _++_}
-use lib.ListN.{length, drop}
+use lib.ListN.{length, take, drop}
 use Rattle.instr.specs.declared.Instr.{Instr}
 use Rattle.instr.specs.Layout.{Field, Shortest, InOrder, layout}
 use Rattle.rules.specs.Header.{Header, headerBytes}
 use Rattle.rules.specs.Strip.{Valid}
 use Rattle.rules.specs.Consists.{Consists}
+use Rattle.rewrite.specs.declared.Rewritten.{Rewritten}
+
+-- the bytes of the output that were written
+abbrev pub written : Rewritten → List ℕ → List ℕ
+written r out = take (r .len) out
 
 -- the fields of all of them, in a strip of this version
 abbrev pub layouts : ℕ → List Instr → List Field

@@ -1,11 +1,12 @@
 -- Among the instructions the check ends at one place, for one reason.
-use Prim.Native.Nat.{ℕ, _+_}
+use Prim.Native.Nat.{ℕ, suc, _+_}
 use mathlib.Core.Path.{_≡_, refl, sym}
 use mathlib.Core.List.{List, [], _∷_}
 use mathlib.Core.Logic.{⊎-elim}
 use lib.ListN.{getD}
 use Rattle.card.specs.Card.{DONE, LOCAL, OPERAND, DEEP, RESULT, TRAILING, NEST, LABEL}
-use Rattle.instr.specs.Decode.{decodeAt}
+use Rattle.instr.specs.Refuses.{Refuses}
+use Rattle.instr.proofs.Refuses.{refuses-once}
 use Rattle.rules.specs.Header.{Header}
 use Rattle.rules.specs.Typing.{Frame}
 use Rattle.rules.specs.Strip.{Reaches}
@@ -19,12 +20,21 @@ pub record Ended (s : List ℕ) (h : Header) (p : ℕ) (κs : List Frame) (k : �
   pub stop : Stop (Asked s h p κs) k
   pub last : k ≡ 7 → ⊥
 
--- code and place at a rank
-abbrev pub codeAt : ℕ → List ℕ → ℕ → ℕ → ℕ
-codeAt v s p k = getD (decodeAt v s p .code ∷ LOCAL ∷ NEST ∷ LABEL ∷ OPERAND ∷ RESULT ∷ DEEP ∷ DONE ∷ TRAILING ∷ []) k DONE
+-- code and place at a rank after the first
+abbrev codeAt : ℕ → ℕ
+codeAt k = getD (LOCAL ∷ NEST ∷ LABEL ∷ OPERAND ∷ RESULT ∷ DEEP ∷ DONE ∷ TRAILING ∷ []) k DONE
 
-abbrev pub placeAt : ℕ → List ℕ → ℕ → ℕ → ℕ
-placeAt v s p k = getD (decodeAt v s p .place ∷ p ∷ p ∷ p ∷ p ∷ p ∷ p ∷ 0 ∷ (p + 1) ∷ []) k 0
+abbrev placeAt : ℕ → ℕ → ℕ
+placeAt p k = getD (p ∷ p ∷ p ∷ p ∷ p ∷ p ∷ 0 ∷ (p + 1) ∷ []) k 0
+
+-- and at each: the first is the instruction's refusal
+pub data Tells (v : ℕ) (s : List ℕ) (p : ℕ) : ℕ → ℕ → ℕ → Type 0 where
+  refusal : {c l : ℕ} → Refuses v s p c l → Tells v s p 0 c l
+  later : (k : ℕ) → Tells v s p (suc k) (codeAt k) (placeAt p k)
+
+pub tells-once : {v : ℕ} {s : List ℕ} {p k c l c′ l′ : ℕ} → Tells v s p k c l → Tells v s p k c′ l′ → (c ≡ c′) × (l ≡ l′)
+tells-once {v} {s} {p} (refusal a) (refusal b) = refuses-once v s p a b
+tells-once (later k) (later j) = (refl, refl)
 
 pub record SameEnd (s : List ℕ) (h : Header) (p q k : ℕ) (λs : List Frame) : Type 0 where
   pub place : p ≡ q

@@ -1,18 +1,16 @@
 -- What is asked at a place of the instructions, in 01's order: each line of the card is one rank.
-use Prim.Native.Nat.{ℕ, suc, _+_, _≤_, _<_}
+use Prim.Native.Nat.{ℕ, _+_, _≤_, _<_}
 use mathlib.Core.Path.{_≡_, refl, ap, subst}
 use mathlib.Core.List.{List, [], _∷_}
 use mathlib.Core.Logic.{_⊎_, inl, inr}
 use native.Mathlib.Omega.{arith}
 use lib.ListN.{length}
-use Rattle.card.specs.Card.{DONE}
 use Rattle.limits.specs.Limits.{stackLimit, nestLimit}
 use Rattle.opcode.specs.Kind.{Kind}
 use Rattle.opcode.specs.Table.{End, Code, plain}
 use Rattle.instr.specs.declared.Instr.{Instr}
-use Rattle.instr.specs.declared.Decoded.{Decoded}
-use Rattle.instr.specs.Decode.{decodeAt}
-use Rattle.instr.proofs.Decodes.{stands-decodes}
+use Rattle.instr.specs.Refuses.{Refuses}
+use Rattle.instr.proofs.Refuses.{stands-refuses}
 use Rattle.rules.specs.Header.{Header, locals}
 use Rattle.rules.specs.Typing.{Frame, allValues, Target, Local, Types, Names, Opens, Branches, Ends}
 use Rattle.rules.specs.Strip.{Reads, Within}
@@ -50,7 +48,7 @@ module _ (s : List ℕ) (h : Header) (p : ℕ) (fs : List Frame) where
   abbrev pub Asked : ℕ → Type 0
   Asked =
       asked (
-      (decodeAt (h .version) s p .code ≡ DONE)  -- it is read
+      ((c l : ℕ) → Refuses (h .version) s p c l → ⊥)  -- it is read
       ∷ Every DeclaredP  -- its local is declared
       ∷ Every NestP  -- it is no block too many
       ∷ Every LabelP  -- its block is there
@@ -63,12 +61,12 @@ module _ (s : List ℕ) (h : Header) (p : ℕ) (fs : List Frame) where
 
   -- ---- each line of the card at its rank
 
-  pub unread : {code : ℕ} → decodeAt (h .version) s p .code ≡ suc code → Stop Asked 0
-  unread e = record { kept = none-asked Asked; broken = λ q. omega arith }
+  pub unread : {code place : ℕ} → Refuses (h .version) s p code place → Stop Asked 0
+  unread {code} {place} f = record { kept = none-asked Asked; broken = λ q. q code place f }
 
   module _ {i : Instr} {c : Code} {n : ℕ} (r : Reads (h .version) s p i c n) where
     read : Kept Asked 1
-    read = more Asked 0 (none-asked Asked) (ap (λ (d : Decoded). d .code) (stands-decodes (h .version) s p i n (r .stands)))
+    read = more Asked 0 (none-asked Asked) (λ code place f. stands-refuses s (h .version) p (r .stands) f)
 
     pub undeclared : Names c → ((k : Kind) → Local (locals h) (i .index) k → ⊥) → Stop Asked 1
     undeclared names no-local = record { kept = read; broken = λ q. let it = q i c n r names in no-local (it .0) (it .1) }

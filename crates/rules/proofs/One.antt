@@ -1,4 +1,4 @@
--- A strip of version 1 is typed as before C-13: one stack, no blocks, no dead code. The relation of version 1 by itself, and that it is the same.
+-- A strip of version 1 is typed as before C-13: the relation of version 1 and that of all versions say the same of it.
 use Prim.Native.Nat.{ℕ, _+_, _≤_}
 use mathlib.Core.Path.{_≡_, refl, ap, sym, _∙_, subst}
 use mathlib.Core.Bool.{false}
@@ -11,33 +11,10 @@ use Rattle.opcode.specs.Table.{Control, Code, control, carried}
 use Rattle.opcode.proofs.Versions.{one-straight}
 use Rattle.instr.specs.declared.Instr.{Instr}
 use Rattle.instr.specs.Layout.{rowIn}
-use Rattle.rules.specs.Header.{Header, Declares, headerBytes, locals}
-use Rattle.rules.specs.Typing.{Frame, opened, holding, allValues, Typed, Has, all-known, any, Types, ordinary, branches, may-branch, opens-block, opens-loop, closes}
+use Rattle.rules.specs.Header.{Header, locals}
+use Rattle.rules.specs.Typing.{Frame, opened, holding, allValues, Has, all-known, any, Types, ordinary, branches, may-branch, opens-block, opens-loop, closes}
 use Rattle.rules.specs.Strip.{Reads, Within, Reaches, front, past}
-
--- over any stack below, as version 1 had it
-pub record TypesOne (ls : List Kind) (n : ℕ) (c : Code) (before after : List Kind) : Type 0 where
-  pub below : List Kind
-  pub ins : List Kind
-  pub outs : List Kind
-  pub typed : Typed ls n c ins outs
-  pub had : before ≡ below ++ ins
-  pub has : after ≡ below ++ outs
-
--- and the places that it reached
-pub data ReachesOne (s : List ℕ) (h : Header) : ℕ → List Kind → Type 0 where
-  front-one : Declares s h → ReachesOne s h (length (headerBytes h)) []
-  past-one : {p n : ℕ} {i : Instr} {c : Code} {κs κs′ : List Kind} → ReachesOne s h p κs → Reads (h .version) s p i c n → TypesOne (locals h) (i .index) c κs κs′
-      → length κs′ ≤ stackLimit → ReachesOne s h (p + n) κs′
-
--- the strip itself with these values
-abbrev pub alone : Header → List Kind → List Frame
-alone h κs = holding (opened false (h .results)) κs ∷ []
-
-pub record Straight (s : List ℕ) (h : Header) (p : ℕ) (fs : List Frame) : Type 0 where
-  pub stack : List Kind
-  pub one : fs ≡ alone h stack
-  pub reached : ReachesOne s h p stack
+use Rattle.rules.specs.One.{ReachesOne, front-one, past-one, alone, Straight}
 
 module _ (s : List ℕ) (h : Header) (old : h .version ≡ 1) where
   no-control : {p n : ℕ} {i : Instr} {k : Code} {x : Control} → Reads (h .version) s p i k n → k ≡ control x → ⊥

@@ -14,7 +14,7 @@ use Rattle.rules.proofs.Ranks.{Stop, stop-once}
 use Rattle.rules.proofs.Headers.{declares-once}
 use Rattle.rules.proofs.Onward.{declared, reached-within}
 use Rattle.rules.proofs.Events.{unread, undeclared, too-nested, no-label, missing, too-deep, other-results, followed, ends-well}
-use Rattle.rules.proofs.Ends.{Ended, codeAt, placeAt, ended-once}
+use Rattle.rules.proofs.Ends.{Ended, Tells, refusal, later, tells-once, ended-once}
 use Rattle.rules.proofs.Heads.{NoKind, none-left, other, kinds-part, HeadAsked, too-long, a-stub, no-mark, no-version, many-parameters, many-further, many-results, bad-kinds, whole-header}
 
 -- code and place of a rank of the header
@@ -60,7 +60,7 @@ kind-end-once {s} a b =
 data Verdict (s : List ℕ) (c l : ℕ) : Type 0 where
   in-head : (k : ℕ) → k < 7 → Stop (HeadAsked s) k → c ≡ headCode k → l ≡ headPlace s k → Verdict s c l
   in-kinds : KindEnd s c l → Verdict s c l
-  in-body : {h : Header} {p k : ℕ} {κs : List Frame} → Ended s h p κs k → c ≡ codeAt (h .version) s p k → l ≡ placeAt (h .version) s p k → Verdict s c l
+  in-body : {h : Header} {p k : ℕ} {κs : List Frame} → Ended s h p κs k → Tells (h .version) s p k c l → Verdict s c l
 
 body-stop : {s : List ℕ} {h : Header} {p k : ℕ} {κs : List Frame} → Ended s h p κs k → Stop (HeadAsked s) 8
 body-stop e = whole-header (declared (e .reached))
@@ -69,24 +69,25 @@ verdict-once : {s : List ℕ} {c l c′ l′ : ℕ} → Verdict s c l → Verdic
 verdict-once {s} (in-head j lj a cj pj) (in-head k lk b ck pk) =
     let same = stop-once a b in (cj ∙ ap headCode same ∙ sym ck, pj ∙ ap (headPlace s) same ∙ sym pk)
 verdict-once (in-head j lj a cj pj) (in-kinds b) = absurd (let same = stop-once a (kind-end-stop b) in let z : ⊥ = omega arith in z)
-verdict-once (in-head j lj a cj pj) (in-body b ck pk) = absurd (let same = stop-once a (body-stop b) in let z : ⊥ = omega arith in z)
+verdict-once (in-head j lj a cj pj) (in-body b w) = absurd (let same = stop-once a (body-stop b) in let z : ⊥ = omega arith in z)
 verdict-once (in-kinds a) (in-head k lk b ck pk) = absurd (let same = stop-once (kind-end-stop a) b in let z : ⊥ = omega arith in z)
 verdict-once (in-kinds a) (in-kinds b) = kind-end-once a b
-verdict-once (in-kinds a) (in-body b ck pk) = absurd (let same = stop-once (kind-end-stop a) (body-stop b) in let z : ⊥ = omega arith in z)
-verdict-once (in-body a ca pa) (in-head k lk b ck pk) = absurd (let same = stop-once (body-stop a) b in let z : ⊥ = omega arith in z)
-verdict-once (in-body a ca pa) (in-kinds b) = absurd (let same = stop-once (body-stop a) (kind-end-stop b) in let z : ⊥ = omega arith in z)
-verdict-once {s} (in-body {h = h} {p = p} {k = j} a ca pa) (in-body {h = h′} {p = q} {k = k} {κs = λs} b cb pb) =
+verdict-once (in-kinds a) (in-body b w) = absurd (let same = stop-once (kind-end-stop a) (body-stop b) in let z : ⊥ = omega arith in z)
+verdict-once (in-body a w) (in-head k lk b ck pk) = absurd (let same = stop-once (body-stop a) b in let z : ⊥ = omega arith in z)
+verdict-once (in-body a w) (in-kinds b) = absurd (let same = stop-once (body-stop a) (kind-end-stop b) in let z : ⊥ = omega arith in z)
+verdict-once {s} {c′ = c′} {l′} (in-body {h = h} {p = p} {k = j} a w) (in-body {h = h′} {p = q} {k = k} {κs = λs} b w′) =
     let same-header : h′ ≡ h = declares-once s h′ h (declared (b .reached)) (declared (a .reached)) in
     let same = ended-once a (subst (λ (x : Header). Ended s x q λs k) same-header b) in
-    let code : codeAt (h .version) s q k ≡ codeAt (h′ .version) s q k = ap (λ (x : Header). codeAt (x .version) s q k) (sym same-header) in
-    let place : placeAt (h .version) s q k ≡ placeAt (h′ .version) s q k = ap (λ (x : Header). placeAt (x .version) s q k) (sym same-header) in
-    (ca ∙ ap₂ (codeAt (h .version) s) (same .0) (same .1) ∙ code ∙ sym cb, pa ∙ ap₂ (placeAt (h .version) s) (same .0) (same .1) ∙ place ∙ sym pb)
+    tells-once w
+    (subst (λ (x : ℕ). Tells (h .version) s x j c′ l′) (sym (same .0))
+    (subst (λ (x : ℕ). Tells (h .version) s q x c′ l′) (sym (same .1))
+    (subst (λ (x : Header). Tells (x .version) s q k c′ l′) same-header w′)))
 
 -- ---- each thing that is said is a verdict
 
-refused : {s : List ℕ} {code place : ℕ} → Refused s (suc code) place → Verdict s (suc code) place
+refused : {s : List ℕ} {code place : ℕ} → Refused s code place → Verdict s code place
 refused {s} f =
-    in-body (record { reached = f .reached; stop = unread s (f .header) (f .at) (f .frames) (f .code-is); last = λ e. omega arith }) (sym (f .code-is)) (sym (f .place-is))
+    in-body (record { reached = f .reached; stop = unread s (f .header) (f .at) (f .frames) (f .refuses); last = λ e. omega arith }) (refusal (f .refuses))
 
 of-breach : {s : List ℕ} {c l : ℕ} → Breach s c l → Verdict s c l
 of-breach {s} (long g) = in-head 0 (omega arith) (too-long s g) refl refl
@@ -137,18 +138,18 @@ of-breach (float f) = refused f
 of-breach (number f) = refused f
 of-breach (lane f) = refused f
 of-breach (align f) = refused f
-of-breach {s} (local {h} {p} {fs} a names f) = in-body (record { reached = a .reached; stop = undeclared s h p fs (a .reads) names f; last = λ e. omega arith }) refl refl
-of-breach {s} (nest {h} {p} {fs} a o g) = in-body (record { reached = a .reached; stop = too-nested s h p fs (a .reads) o g; last = λ e. omega arith }) refl refl
-of-breach {s} (label {h} {p} {fs} a b f) = in-body (record { reached = a .reached; stop = no-label s h p fs (a .reads) b f; last = λ e. omega arith }) refl refl
-of-breach {s} (operand {h} {p} {fs} a o d l f) = in-body (record { reached = a .reached; stop = missing s h p fs (a .reads) o d l f; last = λ e. omega arith }) refl refl
+of-breach {s} (local {h} {p} {fs} a names f) = in-body (record { reached = a .reached; stop = undeclared s h p fs (a .reads) names f; last = λ e. omega arith }) (later 0)
+of-breach {s} (nest {h} {p} {fs} a o g) = in-body (record { reached = a .reached; stop = too-nested s h p fs (a .reads) o g; last = λ e. omega arith }) (later 1)
+of-breach {s} (label {h} {p} {fs} a b f) = in-body (record { reached = a .reached; stop = no-label s h p fs (a .reads) b f; last = λ e. omega arith }) (later 2)
+of-breach {s} (operand {h} {p} {fs} a o d l f) = in-body (record { reached = a .reached; stop = missing s h p fs (a .reads) o d l f; last = λ e. omega arith }) (later 3)
 of-breach {s} (deep {h} {p} {fs} a t g) =
-    in-body (record { reached = a .reached; stop = too-deep s h p fs (a .reads) t (reached-within (a .reached) .values) g; last = λ e. omega arith }) refl refl
-of-breach {s} (result {h} {p} {fs} a f) = in-body (record { reached = a .reached; stop = other-results s h p fs (a .reads) f; last = λ e. omega arith }) refl refl
-of-breach {s} (trailing {h} {p} {f} a m g) = in-body (record { reached = a .reached; stop = followed s h p (f ∷ []) (a .reads) refl m g; last = λ e. omega arith }) refl refl
+    in-body (record { reached = a .reached; stop = too-deep s h p fs (a .reads) t (reached-within (a .reached) .values) g; last = λ e. omega arith }) (later 5)
+of-breach {s} (result {h} {p} {fs} a f) = in-body (record { reached = a .reached; stop = other-results s h p fs (a .reads) f; last = λ e. omega arith }) (later 4)
+of-breach {s} (trailing {h} {p} {f} a m g) = in-body (record { reached = a .reached; stop = followed s h p (f ∷ []) (a .reads) refl m g; last = λ e. omega arith }) (later 7)
 
 verdict : {s : List ℕ} {c l : ℕ} → Says s c l → Verdict s c l
 verdict {s} (valid v) =
-    in-body (record { reached = v .reached; stop = ends-well s (v .header) (v .place) (v .strip ∷ []) (v .ends) refl (v .whole) (v .last); last = λ e. omega arith }) refl refl
+    in-body (record { reached = v .reached; stop = ends-well s (v .header) (v .place) (v .strip ∷ []) (v .ends) refl (v .whole) (v .last); last = λ e. omega arith }) (later 8)
 verdict (breach b) = of-breach b
 
 -- whatever is said, it is one code at one place

@@ -8,7 +8,7 @@ use Rattle.limits.specs.Limits.{fileLimit, parameterLimit, localLimit, resultLi
 use Rattle.opcode.specs.Kind.{Kind, kindByte}
 use Rattle.opcode.specs.Table.{End, Code, plain}
 use Rattle.instr.specs.declared.Instr.{Instr}
-use Rattle.instr.specs.Decode.{decodeAt}
+use Rattle.instr.specs.Refuses.{Refuses}
 use Rattle.rules.specs.Header.{Version, Header, Few, mark, versionBytes, locals}
 use Rattle.rules.specs.Typing.{Frame, allValues, Target, Local, Types, Names, Opens, Branches, Ends}
 use Rattle.rules.specs.Strip.{Reads, Reaches, Valid}
@@ -22,14 +22,13 @@ pub record Sized (s : List ℕ) : Type 0 where
   pub most : length s ≤ fileLimit
   pub least : 8 ≤ length s
 
--- reading at p, which all before it reaches, is refused with this code
+-- an instruction is refused, at a place which all before it reaches
 pub record Refused (s : List ℕ) (code place : ℕ) : Type 0 where
   pub header : Header
   pub at : ℕ
   pub frames : List Frame
   pub reached : Reaches s header at frames
-  pub code-is : decodeAt (header .version) s at .code ≡ code
-  pub place-is : decodeAt (header .version) s at .place ≡ place
+  pub refuses : Refuses (header .version) s at code place
 
 -- an instruction is read at p, which all before it reaches
 pub record At (s : List ℕ) (h : Header) (p : ℕ) (fs : List Frame) (i : Instr) (c : Code) : Type 0 where

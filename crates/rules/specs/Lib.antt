@@ -4,3 +4,4 @@ pub mod Strip
 pub mod Consists
 pub mod Breach
 pub mod Core
+pub mod One

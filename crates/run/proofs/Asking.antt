@@ -14,7 +14,7 @@ use Rattle.rules.proofs.Onward.{declared}
 use Rattle.checker.specs.Check.{Checked}
 use Rattle.checker.proofs.Exact.{done-exact, breach-exact}
 use Rattle.run.specs.Meter.{leaves}
-use Rattle.run.specs.Run.{Arguments, Runs, refused, room, arguments, outsized, malformed, metered}
+use Rattle.run.specs.Run.{Arguments, TurnsAway, breaks, room, arguments, outsized, malformed, Runs, refused, metered}
 use Rattle.run.specs.Inner.Steps.{Tells, Sized, Prepared, Drove}
 use Rattle.run.proofs.HeaderBytes.{Counts, counts-read, parameter-count, result-count}
 use Rattle.run.proofs.Upto.{told-yes, told-no}
@@ -34,15 +34,15 @@ module _ {s : List ℕ} {w : Answer} (checked : Checked s w) where
     pub checked-first : (w .code ≡ DONE → ⊥) → Runs s args mem out budget (leaves (w .code) (w .place) (w .steps) mem out)
     checked-first ne =
         subst (λ (n : ℕ). Runs s args mem out budget (leaves (w .code) (w .place) n mem out)) (sym (checked .steps))
-        (refused (breach-exact checked (w .code) (w .place) ne .0 (refl, refl)))
+        (refused (breaks (breach-exact checked (w .code) (w .place) ne .0 (refl, refl))))
 
     module _ (done : w .code ≡ DONE) where
-      early : {code : ℕ} {r : Answer} → (r .code ≡ code) × (r .place ≡ 0) × (r .steps ≡ 0) → Runs s args mem out budget (leaves code 0 0 mem out)
+      early : {code : ℕ} {r : Answer} → (r .code ≡ code) × (r .place ≡ 0) × (r .steps ≡ 0) → TurnsAway s args mem out code 0
           → Runs s args mem out budget (leaves (r .code) (r .place) (r .steps) mem out)
       early {code} {r} e x =
           subst (λ (n : ℕ). Runs s args mem out budget (leaves (r .code) (r .place) n mem out)) (sym (e .2))
           (subst (λ (p : ℕ). Runs s args mem out budget (leaves (r .code) p 0 mem out)) (sym (e .1))
-          (subst (λ (c : ℕ). Runs s args mem out budget (leaves c 0 0 mem out)) (sym (e .0)) x))
+          (subst (λ (c : ℕ). Runs s args mem out budget (leaves c 0 0 mem out)) (sym (e .0)) (refused x)))
 
       parameters-told : slot * getD s 5 0 ≡ slot * length (passed done .header .parameters)
       parameters-told = ap (λ (n : ℕ). slot * n) (parameter-count (header-of done))

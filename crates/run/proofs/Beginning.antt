@@ -4,8 +4,8 @@ use mathlib.Core.Path.{_≡_, refl, sym, subst}
 use mathlib.Core.List.{List}
 use native.Mathlib.Omega.{arith}
 use lib.ListN.{length, replicate, length-replicate}
-use Rattle.lane.proofs.Laws.Number.{Bytes}
 use Rattle.limits.specs.Limits.{localCount, stackBytes, localBytes, nestLimit}
+use Rattle.operation.proofs.Laws.Number.{Bytes}
 use Rattle.machine.specs.Memory.{stored}
 use Rattle.machine.specs.Inner.Rep.{Rep}
 use Rattle.rules.specs.Header.{Header, headerBytes}

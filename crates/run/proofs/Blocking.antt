@@ -79,7 +79,7 @@ block-few b = by (eqb b 0x40) (eqb b (kindByte i32)) (eqb b (kindByte i64)) (eqb
     by false false false false = omega arith
 
 -- the strip's `end`, not stuck
-ended-by : {s : List ℕ} {h : Header} {m : ℕ} (c : Config) (n : ℕ) (t : Bool) (vs : List Value) → Safe s h m (after c n (cond t (done vs) stuck)) → after c n (cond t (done vs) stuck) ≡ ended vs (c .state .memory)
+ended-by : {s : List ℕ} {h : Header} {b : Config} (c : Config) (n : ℕ) (t : Bool) (vs : List Value) → Safe s h b (after c n (cond t (done vs) stuck)) → after c n (cond t (done vs) stuck) ≡ ended vs (c .state .memory)
 ended-by c n true vs safe = refl
 ended-by c n false vs safe = absurd (safe-unhalted safe refl)
 
@@ -105,8 +105,8 @@ module _ {s : List ℕ} (v : Valid s) {c : Config} {at depth nest : ℕ} {stack 
   stepped : (k : Code) → S .code ≡ k → step s h c ≡ stepCode s h c len i k
   stepped k e = step-does h c reads ∙ ap (stepCode s h c len i) e
 
-  safe : {g : Stage} → step s h c ≡ g → Safe s h (length (σ .memory)) g
-  safe e = subst (Safe s h (length (σ .memory))) e (safe-step v c (length (σ .memory)) (C .sound) refl)
+  safe : {g : Stage} → step s h c ≡ g → Safe s h c g
+  safe e = subst (Safe s h c) e (safe-step v c (C .sound))
 
   onward-place : c .place + len ≡ at + len
   onward-place = ap (λ (p : ℕ). p + len) (C .place)
@@ -130,7 +130,7 @@ module _ {s : List ℕ} (v : Valid s) {c : Config} {at depth nest : ℕ} {stack 
         by (l ∷ ls) f = absurd (let w : ⊥ = omega (arith, C .many, ap length f, z) in w)
         by [] f =
             let there : step s h c ≡ ended (reverse (σ .stack)) (σ .memory) =
-            ends-step [] f ∙ ended-by {s = s} {h = h} {m = length (σ .memory)} c len (ofKinds (σ .stack) (reverse (h .results))) (reverse (σ .stack)) (safe (ends-step [] f)) in
+            ends-step [] f ∙ ended-by {s = s} {h = h} {b = c} c len (ofKinds (σ .stack) (reverse (h .results))) (reverse (σ .stack)) (safe (ends-step [] f)) in
             leads-out (there ∙ ap (ended (reverse (σ .stack))) (C .rep .memory)) refl (ended-many (safe there)) (omega (arith, whole-many, length-reverse (σ .stack), C .rep .deep)) (C .rep .stack-long)
             (ap (λ (k : ℕ). part (slot * k) (slot * 0) stack) (length-reverse (σ .stack))
             ∙ part-bytes (σ .stack) [] stack (subst (λ (ls : List Label). Slots (σ .stack ++ underAll ls) stack) f (C .rep .slots)))
@@ -143,7 +143,7 @@ module _ {s : List ℕ} (v : Valid s) {c : Config} {at depth nest : ℕ} {stack 
         by (l ∷ ls) f =
             let next : Config = record { place = c .place + len; state = withStack σ (σ .stack ++ l .under); labels = ls } in
             let there : step s h c ≡ going next =
-            ends-step (l ∷ ls) f ∙ unhalted {s = s} {h = h} {m = length (σ .memory)} (ofKinds (σ .stack) (reverse (l .results))) (safe (ends-step (l ∷ ls) f)) in
+            ends-step (l ∷ ls) f ∙ unhalted {s = s} {h = h} {b = c} (ofKinds (σ .stack) (reverse (l .results))) (safe (ends-step (l ∷ ls) f)) in
             leads-on there
             (record {
               place = onward-place;
@@ -164,12 +164,12 @@ module _ {s : List ℕ} (v : Valid s) {c : Config} {at depth nest : ℕ} {stack 
     entered = record { place = c .place + len; state = withStack σ []; labels = label ∷ c .labels }
 
     few : nest < nestLimit
-    few = omega (arith, C .many, ltb-true (length (c .labels)) nestLimit (unhalted-if {s = s} {h = h} {m = length (σ .memory)} (ltb (length (c .labels)) nestLimit) (going entered) (safe e)))
+    few = omega (arith, C .many, ltb-true (length (c .labels)) nestLimit (unhalted-if {s = s} {h = h} {b = c} (ltb (length (c .labels)) nestLimit) (going entered) (safe e)))
 
     enters : {way : ℕ} {marks′ : List ℕ} → way ≡ wayOf label → marks′ ≡ set (set (set marks (3 * nest) depth) (3 * nest + 1) way) (3 * nest + 2) (at + len)
         → Led s h (step s h c) (at + len) depth (nest + 1) stack marks′ locals mem
     enters {way} {marks′} w m =
-        let there : step s h c ≡ going entered = e ∙ unhalted {s = s} {h = h} {m = length (σ .memory)} (ltb (length (c .labels)) nestLimit) (safe e) in
+        let there : step s h c ≡ going entered = e ∙ unhalted {s = s} {h = h} {b = c} (ltb (length (c .labels)) nestLimit) (safe e) in
         leads-on there
         (record {
           place = onward-place;
@@ -219,9 +219,9 @@ module _ {s : List ℕ} (v : Valid s) {c : Config} {at depth nest : ℕ} {stack 
       pub step-is : step s h c ≡ branch s h state index (c .labels)
       pub leads : Leads s h state (c .labels) index (depth - (group - 27)) nest stack marks locals mem
 
-    takes : (τ : State) → σ .memory ≡ τ .memory → step s h c ≡ branch s h τ (i .index) (c .labels) → {d : ℕ} → Rep (withStack τ (τ .stack ++ underAll (c .labels))) stack d locals mem
+    takes : (τ : State) → step s h c ≡ branch s h τ (i .index) (c .labels) → {d : ℕ} → Rep (withStack τ (τ .stack ++ underAll (c .labels))) stack d locals mem
         → d ≡ depth - (group - 27) → Taken
-    takes τ same e rep f =
+    takes τ e rep f =
         let there : step s h c ≡ branch s h τ index (c .labels) = e ∙ ap (λ (n : ℕ). branch s h τ n (c .labels)) (sym (S .index-is)) in
         record {
           state = τ;
@@ -234,7 +234,8 @@ module _ {s : List ℕ} (v : Valid s) {c : Config} {at depth nest : ℕ} {stack 
                 marks-long = C .marks-long;
                 frames = C .sound .frame ∷ C .sound .outer;
                 nested = C .sound .fits .nested;
-                safe = subst (λ (m : List ℕ). Safe s h (length m) (branch s h τ index (c .labels))) same (safe there);
+                from = c;
+                safe = safe there;
               };
         }
 
@@ -253,11 +254,11 @@ module _ {s : List ℕ} (v : Valid s) {c : Config} {at depth nest : ℕ} {stack 
     asks : S .code ≡ control BrIf → If
     asks e = by (σ .stack) refl (safe (stepped (control BrIf) e))
       where
-        by : (vs : List Value) → σ .stack ≡ vs → Safe s h (length (σ .memory)) (branchIf s h c len (i .index) (σ .stack)) → If
-        by [] f w = absurd (safe-unhalted (subst (λ (x : List Value). Safe s h (length (σ .memory)) (branchIf s h c len (i .index) x)) f w) refl)
+        by : (vs : List Value) → σ .stack ≡ vs → Safe s h c (branchIf s h c len (i .index) (σ .stack)) → If
+        by [] f w = absurd (safe-unhalted (subst (λ (x : List Value). Safe s h c (branchIf s h c len (i .index) x)) f w) refl)
         by (I32 a ∷ st) f w = record { number = a; under = st; stack-is = f }
-        by (I64 a ∷ st) f w = absurd (safe-unhalted (subst (λ (x : List Value). Safe s h (length (σ .memory)) (branchIf s h c len (i .index) x)) f w) refl)
-        by (V128 a ∷ st) f w = absurd (safe-unhalted (subst (λ (x : List Value). Safe s h (length (σ .memory)) (branchIf s h c len (i .index) x)) f w) refl)
+        by (I64 a ∷ st) f w = absurd (safe-unhalted (subst (λ (x : List Value). Safe s h c (branchIf s h c len (i .index) x)) f w) refl)
+        by (V128 a ∷ st) f w = absurd (safe-unhalted (subst (λ (x : List Value). Safe s h c (branchIf s h c len (i .index) x)) f w) refl)
 
     module _ (e : S .code ≡ control BrIf) where
       q : If
@@ -310,10 +311,10 @@ module _ {s : List ℕ} (v : Valid s) {c : Config} {at depth nest : ℕ} {stack 
       is-taken tr = by which
         where
           by : (S .code ≡ control Br) ⊎ (S .code ≡ control BrIf) → Taken
-          by (inl e) = takes σ refl (stepped (control Br) e) (C .rep) (omega (arith, br-group e))
+          by (inl e) = takes σ (stepped (control Br) e) (C .rep) (omega (arith, br-group e))
           by (inr e) =
               let unequal : eqb (q e .number) 0 ≡ false = not-yes (eqb (q e .number) 0) (sym tr ∙ if-test e) in
-              takes (withStack σ (q e .under)) refl
+              takes (withStack σ (q e .under))
               (if-step e ∙ ap (λ (x : Bool). cond x (going (record { place = c .place + len; state = withStack σ (q e .under); labels = c .labels })) (branch s h (withStack σ (q e .under)) (i .index) (c .labels))) unequal)
               (below e {d = depth - 1} refl) (omega (arith, if-group e))
 

@@ -121,8 +121,8 @@ module _ {s : List ℕ} {v : Valid s} {c₀ : Config} {mem₀ out : List ℕ} {b
         long = kept ∙ D .long;
       }
 
-  safe : {g : Stage} → step s h c ≡ g → Safe s h (length (c .state .memory)) g
-  safe e = subst (Safe s h (length (c .state .memory))) e (safe-step v c (length (c .state .memory)) (D .carries .sound) refl)
+  safe : {g : Stage} → step s h c ≡ g → Safe s h c g
+  safe e = subst (Safe s h c) e (safe-step v c (D .carries .sound))
 
   pub stacked : Stacked s at depth nest stack marks
   stacked = record { locals = locals; mem = mem; held = record { valid = v; config = c; carries = D .carries } }

@@ -10,7 +10,7 @@ use borrow.Author.Tests.{ltb-true, ltb-false}
 use lib.ListN.{length, getD, take, drop, length-map, length-drop, take-append-drop, List·getD-append}
 use lib.Seq.{length-take-le, getD-take, getD-drop, getD-append-add}
 use Rattle.operation.specs.Vector.{number, le}
-use Rattle.lane.proofs.Laws.Number.{Bytes, length-le, number-append, number-lt, le-number, le-split, bytes-take, bytes-drop}
+use Rattle.operation.proofs.Laws.Number.{Bytes, length-le, number-append, number-lt, le-number, le-split, bytes-take, bytes-drop}
 use Rattle.limits.specs.Limits.{slot}
 use Rattle.opcode.specs.Kind.{Kind, i32, i64, v128, bytesUsed}
 use Rattle.machine.specs.Value.{Value, I32, I64, V128, kindOf, InRange, AllInRange, bytesOf, allBytes}

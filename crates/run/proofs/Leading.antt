@@ -31,10 +31,10 @@ use Rattle.run.proofs.HeaderBytes.{version-read, result-count, Counts, 
 use Rattle.run.proofs.Marking.{count-under, rep-under, rep-same, part-bytes, unhalted, unhalted-if, nested-few, targets, out-of, Target, target}
 
 module _ {s : List ℕ} {h : Header} where
-  pub sound-of : {m : ℕ} {d : Config} → Safe s h m (going d) → Sound s h d
+  pub sound-of : {b d : Config} → Safe s h b (going d) → Sound s h d
   sound-of (safe-going x l) = x
 
-  pub ended-many : {m : ℕ} {vs : List Value} {mem : List ℕ} → Safe s h m (ended vs mem) → length vs ≡ length (h .results)
+  pub ended-many : {b : Config} {vs : List Value} {mem : List ℕ} → Safe s h b (ended vs mem) → length vs ≡ length (h .results)
   ended-many {vs = vs} (safe-ended k r l) = sym (length-map vs kindOf) ∙ ap length k
 
 -- what the second number tells
@@ -79,10 +79,10 @@ module _ {s : List ℕ} (v : Valid s) {σ : State} {ls : List Label} {index dept
     outward = ap (λ (n : ℕ). branch s h σ n ls) (e ∙ sym (L .many)) ∙ out-of s h σ ls
 
     all-out : branch s h σ index ls ≡ ended (reverse along-up) (σ .memory)
-    all-out = outward ∙ unhalted {s = s} {h = h} {m = length (σ .memory)} (ofKinds along-up (reverse (h .results))) (subst (Safe s h (length (σ .memory))) outward (L .safe))
+    all-out = outward ∙ unhalted {s = s} {h = h} {b = L .from} (ofKinds along-up (reverse (h .results))) (subst (Safe s h (L .from)) outward (L .safe))
 
     results-many : length (reverse along-up) ≡ length (h .results)
-    results-many = ended-many (subst (Safe s h (length (σ .memory))) all-out (L .safe))
+    results-many = ended-many (subst (Safe s h (L .from)) all-out (L .safe))
 
     parted : σ .stack ++ underAll ls ≡ along-up ++ left-behind
     parted = ap (λ (vs : List Value). vs ++ underAll ls) (sym (take-append-drop (length (h .results)) (σ .stack))) ∙ append-assoc along-up (drop (length (h .results)) (σ .stack)) (underAll ls)
@@ -143,8 +143,8 @@ module _ {s : List ℕ} (v : Valid s) {σ : State} {ls : List Label} {index dept
     label-rep : Rep (withStack σ (underAll (l ∷ rest))) stack (getD marks (3 * k) 0) locals mem
     label-rep = rep-under σ (σ .stack ++ T .between) (underAll (l ∷ rest)) whole height-is
 
-    safe-jump : Safe s h (length (σ .memory)) (jump s h σ l rest)
-    safe-jump = subst (Safe s h (length (σ .memory))) (T .jumps) (L .safe)
+    safe-jump : Safe s h (L .from) (jump s h σ l rest)
+    safe-jump = subst (Safe s h (L .from)) (T .jumps) (L .safe)
 
     -- a loop begins again
     pub loops : getD marks (3 * k + 1) 0 ≡ LOOP → Led s h (branch s h σ index ls) (getD marks (3 * k + 2) 0) (getD marks (3 * k) 0) (k + 1) stack marks locals mem
@@ -156,7 +156,7 @@ module _ {s : List ℕ} (v : Valid s) {σ : State} {ls : List Label} {index dept
         leads-on (T .jumps ∙ there)
         (record {
           place = sym body-is;
-          sound = sound-of (subst (Safe s h (length (σ .memory))) there safe-jump);
+          sound = sound-of (subst (Safe s h (L .from)) there safe-jump);
           rep = label-rep;
           many = omega (arith, rest-many);
           marked = T .marked;
@@ -205,15 +205,15 @@ module _ {s : List ℕ} (v : Valid s) {σ : State} {ls : List Label} {index dept
           ap (λ (t : Bool). cond t (going (record { place = l .body; state = withStack σ []; labels = l ∷ rest })) (along (l .results) (σ .stack) (λ vs. resume σ l rest vs (close (h .version) s (l .body)))))
           no-loop
 
-      safe-along : Safe s h (length (σ .memory)) (along (l .results) (σ .stack) (λ vs. resume σ l rest vs (close (h .version) s (l .body))))
-      safe-along = subst (Safe s h (length (σ .memory))) block-jump safe-jump
+      safe-along : Safe s h (L .from) (along (l .results) (σ .stack) (λ vs. resume σ l rest vs (close (h .version) s (l .body))))
+      safe-along = subst (Safe s h (L .from)) block-jump safe-jump
 
       there : jump s h σ l rest ≡ going next
-      there = block-jump ∙ unhalted {s = s} {h = h} {m = length (σ .memory)} (ofKinds taken (reverse (l .results))) safe-along ∙ ap (resume σ l rest taken) (to .found)
+      there = block-jump ∙ unhalted {s = s} {h = h} {b = L .from} (ofKinds taken (reverse (l .results))) safe-along ∙ ap (resume σ l rest taken) (to .found)
 
       taken-many : length taken ≡ length (l .results)
       taken-many =
-          sym (length-map taken kindOf) ∙ ap length (fit-kinds taken (reverse (l .results)) (unhalted-if {s = s} {h = h} {m = length (σ .memory)} (ofKinds taken (reverse (l .results))) (resume σ l rest taken (close (h .version) s (l .body))) safe-along))
+          sym (length-map taken kindOf) ∙ ap length (fit-kinds taken (reverse (l .results)) (unhalted-if {s = s} {h = h} {b = L .from} (ofKinds taken (reverse (l .results))) (resume σ l rest taken (close (h .version) s (l .body))) safe-along))
           ∙ length-reverse (l .results)
 
       leaves-block : {stack′ : List ℕ} {depth′ : ℕ} → Rep (withStack σ (taken ++ underAll (l ∷ rest))) stack′ depth′ locals mem
@@ -222,7 +222,7 @@ module _ {s : List ℕ} (v : Valid s) {σ : State} {ls : List Label} {index dept
           leads-on (T .jumps ∙ there)
           (record {
             place = sym q-is;
-            sound = sound-of (subst (Safe s h (length (σ .memory))) there safe-jump);
+            sound = sound-of (subst (Safe s h (L .from)) there safe-jump);
             rep = rep-same σ (sym (append-assoc taken (l .under) (underAll rest))) rep;
             many = rest-many;
             marked = T .marked .4;

@@ -16,4 +16,5 @@ pub mod Beginning
 pub mod Asking
 pub mod Metered
 pub mod Promises
+pub mod NeverStuck
 pub mod Unique

@@ -16,7 +16,7 @@ use Rattle.rules.specs.Header.{Header}
 use Rattle.rules.specs.Typing.{Frame, opened}
 use Rattle.rules.specs.Strip.{Reaches}
 use Rattle.rules.proofs.Onward.{reached-within}
-use Rattle.standard.specs.Standard.{Label, Stage, halted, withStack, countUnder, jump, branch, along, ended}
+use Rattle.standard.specs.Standard.{Label, Config, Stage, halted, withStack, countUnder, jump, branch, along, ended}
 use Rattle.standard.specs.Safety.{Nested, outermost, inside, Safe}
 use Rattle.standard.proofs.Nestings.{nested-many}
 use Rattle.standard.proofs.Never.{safe-unhalted}
@@ -88,11 +88,11 @@ marked-more l ls ms n height way body e few long a b c d m =
 
 -- ---- what is not stuck
 
-pub unhalted : {s : List ℕ} {h : Header} {m : ℕ} (t : Bool) {g : Stage} → Safe s h m (cond t g halted) → cond t g halted ≡ g
+pub unhalted : {s : List ℕ} {h : Header} {b : Config} (t : Bool) {g : Stage} → Safe s h b (cond t g halted) → cond t g halted ≡ g
 unhalted true safe = refl
 unhalted false safe = absurd (safe-unhalted safe refl)
 
-pub unhalted-if : {s : List ℕ} {h : Header} {m : ℕ} (t : Bool) (g : Stage) → Safe s h m (cond t g halted) → t ≡ true
+pub unhalted-if : {s : List ℕ} {h : Header} {b : Config} (t : Bool) (g : Stage) → Safe s h b (cond t g halted) → t ≡ true
 unhalted-if true g safe = refl
 unhalted-if false g safe = absurd (safe-unhalted safe refl)
 
@@ -104,7 +104,7 @@ module _ (s : List ℕ) (h : Header) where
 
   module _ (σ : State) where
     -- a branch has a target
-    pub targets : (x : ℕ) (ls : List Label) {m : ℕ} → Safe s h m (branch s h σ x ls) → x ≤ length ls
+    pub targets : (x : ℕ) (ls : List Label) {b : Config} → Safe s h b (branch s h σ x ls) → x ≤ length ls
     targets zero [] safe = omega arith
     targets (suc x) [] safe = absurd (safe-unhalted safe refl)
     targets zero (l ∷ ls) safe = omega arith

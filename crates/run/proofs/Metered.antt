@@ -11,8 +11,8 @@ use Rattle.machine.specs.Value.{Value, kindOf, allBytes}
 use Rattle.rules.specs.Header.{Header}
 use Rattle.rules.specs.Strip.{Valid}
 use Rattle.standard.specs.Standard.{Config, Stage, going, ended, trapped, halted, step, onward, runs}
-use Rattle.standard.specs.Safety.{Sound, Safe, safe-going, safe-ended, safe-trapped}
-use Rattle.standard.proofs.Turn.{safe-step}
+use Rattle.standard.specs.Safety.{Sound, Safe, safe-going, safe-ended}
+use Rattle.standard.proofs.Turn.{safe-step, sound-strays}
 use Rattle.standard.proofs.Along.{one-more}
 use Rattle.run.specs.Meter.{leaves, meter, meterBy}
 use Rattle.run.specs.Told.{Told, told-done, told-trap, told-budget}
@@ -70,14 +70,14 @@ module _ {s : List ℕ} (v : Valid s) (b : Config) (out : List ℕ) (budget : �
   tells zero k c e r sound =
       let all : k ≡ budget = omega arith in
       subst (λ (n : ℕ). Told s h b out budget (leaves BUDGET (c .place) n (c .state .memory) out)) (sym all) (told-budget (subst (λ (n : ℕ). runs s h n b ≡ going c) all r))
-  tells (suc j) k c e r sound = go (step s h c) refl (safe-step v c (length (c .state .memory)) sound refl) (λ d f D. tells j (suc k) d (omega arith) (one-more s h k b c r ∙ f) D)
+  tells (suc j) k c e r sound = go (step s h c) refl (safe-step v c sound) (λ d f D. tells j (suc k) d (omega arith) (one-more s h k b c r ∙ f) D)
     where
-      go : (g : Stage) → step s h c ≡ g → Safe s h (length (c .state .memory)) g
+      go : (g : Stage) → step s h c ≡ g → Safe s h c g
           → ((d : Config) → step s h c ≡ going d → Sound s h d → Told s h b out budget (meter s h j (suc k) d out)) → Told s h b out budget (meterBy k c out (λ d. meter s h j (suc k) d out) g)
       go (going d) f (safe-going D l) on = on d f D
       go (ended vs m) f (safe-ended kinds range l) on =
           told-done k (omega arith) r f (all-long vs range ∙ ap (λ (n : ℕ). slot * n) (sym (length-map vs kindOf) ∙ ap length kinds))
-      go (trapped a n) f (safe-trapped past) on = told-trap k (omega arith) r f past
+      go (trapped a n) f safe on = told-trap k (omega arith) r f (sound-strays v c sound f)
 
   -- the answer is one of three, and never that the machine is stuck
   pub metered-tells : Sound s h b → Told s h b out budget (meter s h budget 0 b out)

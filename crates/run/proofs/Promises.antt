@@ -5,7 +5,7 @@ use mathlib.Core.List.{List}
 use mathlib.Core.Logic.{inl, inr}
 use native.Mathlib.Omega.{arith}
 use lib.ListN.{length}
-use Rattle.card.specs.Card.{DONE, LONG, LABEL, ROOM, ARGS, OUT, FORM, SMALL}
+use Rattle.card.specs.Card.{DONE, LONG, LABEL, SMALL}
 use Rattle.limits.specs.Limits.{fileLimit}
 use Rattle.leb128.specs.Bytes.{bytes}
 use Rattle.machine.specs.Value.{Value}
@@ -22,7 +22,7 @@ use Rattle.standard.proofs.Begin.{begin-sound}
 use Rattle.standard.proofs.Never.{never-stuck-from-begin}
 use Rattle.standard.proofs.Along.{one-more}
 use Rattle.run.specs.Meter.{Left}
-use Rattle.run.specs.Run.{Slots, Runs, refused, room, arguments, outsized, malformed, metered}
+use Rattle.run.specs.Run.{Slots, breaks, room, arguments, outsized, malformed, Runs, refused, metered}
 use Rattle.run.specs.Told.{Told, told-done, told-trap, told-budget, OnCard, Ran, turned-away, ran}
 use Rattle.run.proofs.HeaderBytes.{inside}
 use Rattle.run.proofs.Metered.{metered-tells}
@@ -59,20 +59,24 @@ reached-inside (past r q t l) = omega (arith, stands-inside (q .stands), declare
 
 -- ---- what is told of the standard's machine from its beginning
 
-module _ {s : List ℕ} (v : Valid s) (vs : List Value) (mem out : List ℕ) (budget : ℕ) (safe : (k : ℕ) → Safe s (v .header) (length mem) (runs s (v .header) k (begin (v .header) vs mem))) where
+module _ {s : List ℕ} (v : Valid s) (vs : List Value) (mem out : List ℕ) (budget : ℕ)
+    (safe : (k : ℕ) → Safe s (v .header) (begin (v .header) vs mem) (runs s (v .header) k (begin (v .header) vs mem))) where
   abbrev h : Header
   h = v .header
 
+  abbrev b : Config
+  b = begin h vs mem
+
   sound-at : (k : ℕ) {c : Config} → runs s h k (begin h vs mem) ≡ going c → Sound s h c × (length (c .state .memory) ≡ length mem)
-  sound-at k {c} e = by (subst (Safe s h (length mem)) e (safe k))
+  sound-at k {c} e = by (subst (Safe s h b) e (safe k))
     where
-      by : Safe s h (length mem) (going c) → Sound s h c × (length (c .state .memory) ≡ length mem)
+      by : Safe s h b (going c) → Sound s h c × (length (c .state .memory) ≡ length mem)
       by (safe-going d l) = (d, l)
 
   ended-long : (k : ℕ) {c : Config} {ws : List Value} {m : List ℕ} → runs s h k (begin h vs mem) ≡ going c → step s h c ≡ ended ws m → length m ≡ length mem
-  ended-long k {c} {ws} {m} e f = by (subst (Safe s h (length mem)) (one-more s h k (begin h vs mem) c e ∙ f) (safe (suc k)))
+  ended-long k {c} {ws} {m} e f = by (subst (Safe s h b) (one-more s h k b c e ∙ f) (safe (suc k)))
     where
-      by : Safe s h (length mem) (ended ws m) → length m ≡ length mem
+      by : Safe s h b (ended ws m) → length m ≡ length mem
       by (safe-ended a b l) = l
 
   told-place : {x : Left} → Told s h (begin h vs mem) out budget x → x .answer .place ≤ fileLimit
@@ -110,11 +114,7 @@ told-late (told-budget e) ne = omega arith
 module _ {s args mem out : List ℕ} {budget : ℕ} (m : bytes mem) where
   -- turned away with everything as it was, or the standard's machine
   pub run-told : {x : Left} → Runs s args mem out budget x → Ran s args mem out budget x
-  run-told (refused {c} b) = let r = breach-range b in turned-away {code = c} (r .0) (omega (arith, r .1))
-  run-told (room v g) = turned-away {code = ROOM} (omega arith) (omega arith)
-  run-told (arguments v g f) = turned-away {code = ARGS} (omega arith) (omega arith)
-  run-told (outsized v g a f) = turned-away {code = OUT} (omega arith) (omega arith)
-  run-told (malformed v g a o f) = turned-away {code = FORM} (omega arith) (omega arith)
+  run-told (refused t) = turned-away t
   run-told (metered v vs g a o) =
       ran v vs a o (metered-tells v (begin (v .header) vs mem) out budget (begin-sound v vs mem (record { kinds = a .kinds; range = a .range; bytes = m })))
 
@@ -124,11 +124,11 @@ module _ {s args mem out : List ℕ} {budget : ℕ} (m : bytes mem) where
     on-card = by r
       where
         by : {x : Left} → Runs s args mem out budget x → OnCard (x .answer .code)
-        by (refused b) = inl (breach-range b .1)
-        by (room v g) = inr (inl (omega arith, omega arith))
-        by (arguments v g f) = inr (inl (omega arith, omega arith))
-        by (outsized v g a f) = inr (inl (omega arith, omega arith))
-        by (malformed v g a o f) = inr (inl (omega arith, omega arith))
+        by (refused (breaks b)) = inl (breach-range b .1)
+        by (refused (room v g)) = inr (inl (omega arith, omega arith))
+        by (refused (arguments v g f)) = inr (inl (omega arith, omega arith))
+        by (refused (outsized v g a f)) = inr (inl (omega arith, omega arith))
+        by (refused (malformed v g a o f)) = inr (inl (omega arith, omega arith))
         by (metered v vs g a o) = told-code (metered-tells v (begin (v .header) vs mem) out budget (begin-sound v vs mem (record { kinds = a .kinds; range = a .range; bytes = m })))
 
     -- DEMAND 1: 1 to 24 have steps 0 and change nothing
@@ -136,7 +136,7 @@ module _ {s args mem out : List ℕ} {budget : ℕ} (m : bytes mem) where
     refusal-changes-nothing ne most = by (run-told r) ne most
       where
         by : {x : Left} → Ran s args mem out budget x → (x .answer .code ≡ DONE → ⊥) → x .answer .code ≤ SMALL → (x .answer .steps ≡ 0) × (x .memory ≡ mem) × (x .results ≡ out)
-        by (turned-away a b) ne most = (refl, refl, refl)
+        by (turned-away t) ne most = (refl, refl, refl)
         by (ran v vs a o t) ne most = absurd (let late = told-late t ne in omega arith)
 
     -- only DONE writes results
@@ -144,21 +144,21 @@ module _ {s args mem out : List ℕ} {budget : ℕ} (m : bytes mem) where
     only-done-writes ne = by (run-told r) ne
       where
         by : {x : Left} → Ran s args mem out budget x → (x .answer .code ≡ DONE → ⊥) → x .results ≡ out
-        by (turned-away a b) ne = refl
+        by (turned-away t) ne = refl
         by (ran v vs a o t) ne = told-results t ne
 
     pub steps-most : x .answer .steps ≤ budget
     steps-most = by (run-told r)
       where
         by : {x : Left} → Ran s args mem out budget x → x .answer .steps ≤ budget
-        by (turned-away a b) = omega arith
+        by (turned-away t) = omega arith
         by (ran v vs a o t) = told-steps t
 
     pub same-lengths : (length (x .memory) ≡ length mem) × (length (x .results) ≡ length out)
     same-lengths = by (run-told r)
       where
         by : {x : Left} → Ran s args mem out budget x → (length (x .memory) ≡ length mem) × (length (x .results) ≡ length out)
-        by (turned-away a b) = (refl, refl)
+        by (turned-away t) = (refl, refl)
         by (ran v vs a o t) = told-long v vs mem out budget (never-stuck-from-begin v vs mem (record { kinds = a .kinds; range = a .range; bytes = m })) o t
 
     -- 24 bits hold every place
@@ -166,11 +166,11 @@ module _ {s args mem out : List ℕ} {budget : ℕ} (m : bytes mem) where
     place-most b = by r
       where
         by : {x : Left} → Runs s args mem out budget x → x .answer .place ≤ fileLimit
-        by (refused {c} {p} f) = Exact.place-most b {r = record { code = c; place = p; steps = 0 }} (record { says = breach f; steps = refl })
-        by (room v g) = omega arith
-        by (arguments v g f) = omega arith
-        by (outsized v g a f) = omega arith
-        by (malformed v g a o f) = omega arith
+        by (refused (breaks {c} {p} f)) = Exact.place-most b {r = record { code = c; place = p; steps = 0 }} (record { says = breach f; steps = refl })
+        by (refused (room v g)) = omega arith
+        by (refused (arguments v g f)) = omega arith
+        by (refused (outsized v g a f)) = omega arith
+        by (refused (malformed v g a o f)) = omega arith
         by (metered v vs g a o) =
             let given : Given (v .header) vs mem = record { kinds = a .kinds; range = a .range; bytes = m } in
             told-place v vs mem out budget (never-stuck-from-begin v vs mem given) (metered-tells v (begin (v .header) vs mem) out budget (begin-sound v vs mem given))

@@ -9,8 +9,8 @@ use lib.Dec.{ltb}
 use borrow.Author.Tests.{ltb-true, ltb-false}
 use lib.ListN.{length, getD, take, drop, replicate, length-append, length-map, length-replicate, length-drop, getD-replicate, List·getD-append}
 use lib.Seq.{length-take-le, getD-take, getD-drop, ext-getD, drop-at, drop-drop, take-at, getD-append-add}
-use Rattle.lane.proofs.Laws.Number.{Bytes}
 use Rattle.limits.specs.Limits.{slot, localCount, stackBytes, localBytes}
+use Rattle.operation.proofs.Laws.Number.{Bytes}
 use Rattle.opcode.specs.Kind.{Kind, i32, i64, v128}
 use Rattle.machine.specs.Value.{Value, I32, kindOf, AllInRange, bytesOf, allBytes}
 use Rattle.machine.specs.Memory.{part, stored}

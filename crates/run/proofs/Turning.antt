@@ -6,7 +6,7 @@ use mathlib.Core.Logic.{inl, inr}
 use native.Mathlib.Omega.{arith}
 use lib.ListN.{length, getD}
 use Rattle.operation.specs.Op.{Op, Load, LoadLane, Store, StoreLane, Const, Shuffle, Splat, ExtractLane, ReplaceLane, Unary, Binary, Bitselect, Test, Shift}
-use Rattle.lane.proofs.Laws.Lane.{lane-byte}
+use Rattle.operation.proofs.Laws.Lane.{lane-byte}
 use Rattle.opcode.specs.Kind.{Kind}
 use Rattle.opcode.specs.Table.{Code, plain, control, vector, carried}
 use Rattle.opcode.specs.Number.{idOf, rowOf}

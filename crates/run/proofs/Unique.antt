@@ -22,7 +22,7 @@ use Rattle.rules.proofs.Ranks.{asked, Kept, none-asked, more, Stop, stop-once}
 use Rattle.rules.proofs.Verdicts.{one-breach, valid-no-breach}
 use Rattle.standard.specs.Standard.{begin}
 use Rattle.run.specs.Meter.{Left, leaves, meter}
-use Rattle.run.specs.Run.{Arguments, Slots, Runs, refused, room, arguments, outsized, malformed, metered}
+use Rattle.run.specs.Run.{Arguments, Slots, breaks, room, arguments, outsized, malformed, Runs, refused, metered}
 use Rattle.run.proofs.Start.{all-long}
 use Rattle.run.proofs.run.Reads as run
 
@@ -103,11 +103,11 @@ module _ (s args mem out : List ℕ) (budget : ℕ) where
   holds-for v w {vs} = subst (λ (h : Header). Arguments (h .parameters) args vs) (header-once v w)
 
   first : {x : Left} → Runs s args mem out budget x → First x
-  first (refused {c} {p} b) = record { question = 0; stop = record { kept = none-asked Question; broken = λ v. valid-no-breach v b }; settled = (c, p, b, refl) }
-  first (room v g) = record { question = 1; stop = record { kept = passed v; broken = λ l. omega arith }; settled = refl }
-  first (arguments v l f) = record { question = 2; stop = record { kept = roomy v l; broken = λ q. f (q v) }; settled = refl }
-  first (outsized v l a f) = record { question = 3; stop = record { kept = args-kept v l a; broken = λ q. f (q v) }; settled = refl }
-  first (malformed v l a o f) = record { question = 4; stop = record { kept = results-kept v l a o; broken = λ q. f (q v .0) (q v .1) }; settled = refl }
+  first (refused (breaks {c} {p} b)) = record { question = 0; stop = record { kept = none-asked Question; broken = λ v. valid-no-breach v b }; settled = (c, p, b, refl) }
+  first (refused (room v g)) = record { question = 1; stop = record { kept = passed v; broken = λ l. omega arith }; settled = refl }
+  first (refused (arguments v l f)) = record { question = 2; stop = record { kept = roomy v l; broken = λ q. f (q v) }; settled = refl }
+  first (refused (outsized v l a f)) = record { question = 3; stop = record { kept = args-kept v l a; broken = λ q. f (q v) }; settled = refl }
+  first (refused (malformed v l a o f)) = record { question = 4; stop = record { kept = results-kept v l a o; broken = λ q. f (q v .0) (q v .1) }; settled = refl }
   first (metered v vs l a o) =
       record {
         question = 5;

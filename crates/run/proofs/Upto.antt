@@ -8,8 +8,8 @@ use native.Mathlib.Omega.{arith}
 use lib.Dec.{ltb, eqb}
 use borrow.Author.Tests.{ltb-true, ltb-false}
 use lib.ListN.{length, getD}
-use Rattle.lane.proofs.Laws.Number.{Bytes}
 use Rattle.limits.specs.Limits.{slot, parameterLimit}
+use Rattle.operation.proofs.Laws.Number.{Bytes}
 use Rattle.opcode.specs.Kind.{Kind, i32, i64, v128, kindByte, bytesUsed}
 use Rattle.machine.specs.Value.{Value}
 use Rattle.rules.specs.Header.{Header, Declares}

@@ -22,14 +22,19 @@ pub record Arguments (ks : List Kind) (args : List ℕ) (vs : List Value) : Type
 abbrev pub Slots : List Kind → List ℕ → Type 0
 Slots ks bs = length bs ≡ slot * length ks
 
--- before the first instruction nothing that is lent has changed
+-- what a run asks before the first instruction: its code and place where it is turned away
+module _ (s args mem out : List ℕ) where
+  pub data TurnsAway : ℕ → ℕ → Type 0 where
+    breaks : {c p : ℕ} → Breach s c p → TurnsAway c p
+    room : Valid s → memoryLimit < length mem → TurnsAway ROOM 0
+    arguments : (v : Valid s) → length mem ≤ memoryLimit → (Slots (v .header .parameters) args → ⊥) → TurnsAway ARGS 0
+    outsized : (v : Valid s) → length mem ≤ memoryLimit → Slots (v .header .parameters) args → (Slots (v .header .results) out → ⊥) → TurnsAway OUT 0
+    malformed : (v : Valid s) → length mem ≤ memoryLimit → Slots (v .header .parameters) args → Slots (v .header .results) out
+        → ((vs : List Value) → Arguments (v .header .parameters) args vs → ⊥) → TurnsAway FORM 0
+
+-- turned away, with nothing changed that is lent; or the standard's machine with the budget
 module _ (s args mem out : List ℕ) (budget : ℕ) where
   pub data Runs : Left → Type 0 where
-    refused : {c p : ℕ} → Breach s c p → Runs (leaves c p 0 mem out)
-    room : Valid s → memoryLimit < length mem → Runs (leaves ROOM 0 0 mem out)
-    arguments : (v : Valid s) → length mem ≤ memoryLimit → (Slots (v .header .parameters) args → ⊥) → Runs (leaves ARGS 0 0 mem out)
-    outsized : (v : Valid s) → length mem ≤ memoryLimit → Slots (v .header .parameters) args → (Slots (v .header .results) out → ⊥) → Runs (leaves OUT 0 0 mem out)
-    malformed : (v : Valid s) → length mem ≤ memoryLimit → Slots (v .header .parameters) args → Slots (v .header .results) out
-        → ((vs : List Value) → Arguments (v .header .parameters) args vs → ⊥) → Runs (leaves FORM 0 0 mem out)
+    refused : {c p : ℕ} → TurnsAway s args mem out c p → Runs (leaves c p 0 mem out)
     metered : (v : Valid s) (vs : List Value) → length mem ≤ memoryLimit → Arguments (v .header .parameters) args vs → Slots (v .header .results) out
         → Runs (meter s (v .header) budget 0 (begin (v .header) vs mem) out)

@@ -37,21 +37,22 @@ fits-with p vs ls rest e r n =
 pub goes-along : (ks : List Kind) (vs : List Value) (f : List Value → Stage) → map kindOf (take (length ks) vs) ≡ reverse ks → along ks vs f ≡ f (take (length ks) vs)
 goes-along ks vs f e = ap (λ (t : Bool). cond t (f (take (length ks) vs)) halted) (kinds-fit (take (length ks) vs) (reverse ks) e)
 
-module _ {s : List ℕ} (v : Valid s) (σ : State) (rest : Rest (v .header) σ) (range : AllInRange (σ .stack)) where
+-- from b on, where the state is σ
+module _ {s : List ℕ} (v : Valid s) (b : Config) (σ : State) (long : length (σ .memory) ≡ length (b .state .memory)) (rest : Rest (v .header) σ) (range : AllInRange (σ .stack)) where
   abbrev h : Header
   h = v .header
 
   abbrev Good : Stage → Type 0
-  Good g = Safe s h (length (σ .memory)) g
+  Good g = Safe s h b g
 
   -- the strip is left
   out : map kindOf (take (length (h .results)) (σ .stack)) ≡ reverse (h .results) → Good (along (h .results) (σ .stack) (λ vs. ended (reverse vs) (σ .memory)))
   out top =
       let vs = take (length (h .results)) (σ .stack) in
       subst Good (sym (goes-along (h .results) (σ .stack) (λ vs. ended (reverse vs) (σ .memory)) top))
-      (safe-ended (reverse-kinds vs ∙ ap reverse top ∙ reverse-reverse (h .results)) (reverse-range vs (range-take (length (h .results)) (σ .stack) range)) refl)
+      (safe-ended (reverse-kinds vs ∙ ap reverse top ∙ reverse-reverse (h .results)) (reverse-range vs (range-take (length (h .results)) (σ .stack) range)) long)
 
-  module _ (f g : Frame) (fs : List Frame) (l : Label) (ls : List Label) (live : Live (g ∷ fs)) (a : l .loop ≡ f .loop) (b : l .results ≡ f .results)
+  module _ (f g : Frame) (fs : List Frame) (l : Label) (ls : List Label) (live : Live (g ∷ fs)) (a : l .loop ≡ f .loop) (r : l .results ≡ f .results)
       (c : map kindOf (l .under) ≡ reverse (g .values)) (d : AllInRange (l .under)) (e : Reaches s h (l .body) (opened (f .loop) (f .results) ∷ g ∷ fs)) (n : Nested s h (g ∷ fs) ls) where
     -- a loop begins again
     again : Good (going (record { place = l .body; state = withStack σ []; labels = l ∷ ls }))
@@ -61,8 +62,8 @@ module _ {s : List ℕ} (v : Valid s) (σ : State) (rest : Rest (v .header) σ) 
           outer = g ∷ fs;
           reached = e;
           live = (refl, live);
-          fits = fits-with (l .body) [] (l ∷ ls) rest refl tt (inside a b c d e n);
-        }) refl
+          fits = fits-with (l .body) [] (l ∷ ls) rest refl tt (inside a r c d e n);
+        }) long
 
     -- a block is left
     leaves : map kindOf (take (length (l .results)) (σ .stack)) ≡ reverse (l .results) → Good (along (l .results) (σ .stack) (λ vs. resume σ l ls vs (close (h .version) s (l .body))))
@@ -77,9 +78,9 @@ module _ {s : List ℕ} (v : Valid s) (σ : State) (rest : Rest (v .header) σ) 
           live = live;
           fits =
               fits-with (to .place) (vs ++ l .under) ls rest
-              (kinds-append vs (l .under) ∙ ap₂ (λ (x y : List Kind). x ++ y) (top ∙ ap reverse b) c ∙ sym (reverse-append (g .values) (f .results)))
+              (kinds-append vs (l .under) ∙ ap₂ (λ (x y : List Kind). x ++ y) (top ∙ ap reverse r) c ∙ sym (reverse-append (g .values) (f .results)))
               (range-append vs (l .under) (range-take (length (l .results)) (σ .stack) range) d) (nested-same (g .values ++ f .results) n);
-        }) refl)
+        }) long)
 
     jumps : (below : List Kind) → map kindOf (σ .stack) ≡ reverse (below ++ branchKinds f) → Good (jump s h σ l ls)
     jumps below top = by (l .loop) refl
@@ -88,7 +89,7 @@ module _ {s : List ℕ} (v : Valid s) (σ : State) (rest : Rest (v .header) σ) 
             → Good (cond t (going (record { place = l .body; state = withStack σ []; labels = l ∷ ls })) (along (l .results) (σ .stack) (λ vs. resume σ l ls vs (close (h .version) s (l .body)))))
         by true q = again
         by false q =
-            let taken : branchKinds f ≡ l .results = ap₂ (λ (t : Bool) (ks : List Kind). cond t [] ks) (sym a ∙ q) (sym b) in
+            let taken : branchKinds f ≡ l .results = ap₂ (λ (t : Bool) (ks : List Kind). cond t [] ks) (sym a ∙ q) (sym r) in
             leaves (top-kinds (σ .stack) below (l .results) (top ∙ ap (λ (ks : List Kind). reverse (below ++ ks)) taken))
 
   pub branch-safe : {n : ℕ} {g : Frame} {fs : List Frame} {ls : List Label} (below : List Kind) → Target fs n g → Nested s h fs ls → Live fs

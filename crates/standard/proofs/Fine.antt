@@ -9,7 +9,7 @@ use lib.ListN.{length, getD, length-map}
 use borrow.Author.Tests.{eq-eqb, lt-ltb, le-ltb, leb-true, leb-false}
 use mir.Syntax.{Width, w8, w16, w32, w64, w128}
 use Rattle.operation.specs.Vector.{Sixteen}
-use Rattle.lane.proofs.Laws.Number.{Bytes}
+use Rattle.operation.proofs.Laws.Number.{Bytes}
 use Rattle.limits.specs.Limits.{stackLimit}
 use Rattle.opcode.specs.Kind.{Kind, i32, i64, v128, kindByte}
 use Rattle.opcode.specs.Effect.{scalar}

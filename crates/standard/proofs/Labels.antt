@@ -1,20 +1,12 @@
 -- A strip that keeps the rules: from a sound state every block that is open finds its end, so every forward branch does.
 use Prim.Native.Nat.{ℕ}
-use mathlib.Core.Path.{_≡_}
 use mathlib.Core.List.{List, [], _∷_}
-use mathlib.Core.Option.{some}
 use Rattle.rules.specs.Header.{Header}
 use Rattle.rules.specs.Typing.{Frame}
 use Rattle.rules.specs.Strip.{Valid}
-use Rattle.standard.specs.Closing.{close}
 use Rattle.standard.specs.Standard.{Label, Config}
-use Rattle.standard.specs.Safety.{Nested, outermost, inside, Sound}
+use Rattle.standard.specs.Safety.{Nested, outermost, inside, Sound, AllEnd}
 use Rattle.standard.proofs.Unwinding.{finds-end}
-
--- the search from each body comes to a place
-abbrev pub AllEnd : List ℕ → Header → List Label → Type 0
-AllEnd s h [] = Unit {0}
-AllEnd s h (l ∷ ls) = ((q : ℕ) × (close (h .version) s (l .body) ≡ some q)) × AllEnd s h ls
 
 nested-end : {s : List ℕ} (v : Valid s) {fs : List Frame} {ls : List Label} → Nested s (v .header) fs ls → AllEnd s (v .header) ls
 nested-end v (outermost a b) = tt

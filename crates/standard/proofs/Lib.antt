@@ -6,6 +6,7 @@ pub mod Operands
 pub mod Untyped
 pub mod Along
 pub mod Steps
+pub mod Straying
 pub mod Closings
 pub mod Nestings
 pub mod Unwinding
@@ -22,5 +23,4 @@ pub mod Inhabited
 pub mod Straight
 pub mod Examples
 pub mod Over
-pub mod Outcomes
 pub mod One

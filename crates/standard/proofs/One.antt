@@ -1,4 +1,4 @@
--- A strip of version 1 runs as before C-13: no labels, and one stack. The machine of version 1 by itself, and that its steps are the same.
+-- A strip of version 1 runs as before C-13: the steps of the machine of version 1 are those of the standard's machine.
 use Prim.Native.Nat.{ℕ, zero, suc, _+_}
 use mathlib.Core.Path.{_≡_, refl, ap, _∙_}
 use mathlib.Core.Bool.{Bool, true, false, cond}
@@ -17,62 +17,10 @@ use Rattle.instr.specs.Layout.{rowIn}
 use Rattle.instr.specs.Decode.{decodeAt}
 use Rattle.machine.specs.Value.{Value}
 use Rattle.machine.specs.Exec.{State, Outcome, goes, done, trap, stuck, goOn, exec}
+use Rattle.machine.proofs.Outcomes.{of-exec}
 use Rattle.rules.specs.Header.{Header, headerBytes}
-use Rattle.standard.specs.Standard.{Config, Stage, going, ended, trapped, halted, after, stepRow, step, onward, runs, zeroOf, begin}
-use Rattle.standard.proofs.Outcomes.{of-exec}
-
--- ---- the machine of version 1
-
-pub record ConfigOne : Type 0 where
-  pub place : ℕ
-  pub state : State
-
-pub data StageOne : Type 0 where
-  going-one : ConfigOne → StageOne
-  ended-one : List Value → List ℕ → StageOne
-  trapped-one : ℕ → ℕ → StageOne
-  halted-one : StageOne
-
-abbrev pub afterOne : ConfigOne → ℕ → Outcome → StageOne
-afterOne c n (goes σ) = going-one (record { place = c .place + n; state = σ })
-afterOne c n (done vs) = ended-one vs (c .state .memory)
-afterOne c n (trap a k) = trapped-one a k
-afterOne c n stuck = halted-one
-
-abbrev pub rowOne : Header → ConfigOne → Decoded → Row → StageOne
-rowOne h c d (carried op) = afterOne c (d .len) (exec (h .results) op (d .instr) (c .state))
-rowOne h c d float = halted-one
-rowOne h c d unassigned = halted-one
-
-abbrev pub byOne : Header → ConfigOne → Decoded → StageOne
-byOne h c d = cond (eqb (d .code) DONE) (rowOne h c d (rowIn 1 (d .instr))) halted-one
-
-unfoldable pub stepOne : List ℕ → Header → ConfigOne → StageOne
-stepOne s h c = byOne h c (decodeAt 1 s (c .place))
-
-abbrev pub onwardOne : List ℕ → Header → StageOne → StageOne
-onwardOne s h (going-one c) = stepOne s h c
-onwardOne s h (ended-one vs m) = ended-one vs m
-onwardOne s h (trapped-one a n) = trapped-one a n
-onwardOne s h halted-one = halted-one
-
-unfoldable pub runsOne : List ℕ → Header → ℕ → ConfigOne → StageOne
-runsOne s h zero c = going-one c
-runsOne s h (suc k) c = onwardOne s h (runsOne s h k c)
-
-abbrev pub beginOne : Header → List Value → List ℕ → ConfigOne
-beginOne h vs m = record { place = length (headerBytes h); state = record { stack = []; locals = vs ++ map zeroOf (h .further); memory = m } }
-
--- ---- the same without labels
-
-abbrev pub bare : ConfigOne → Config
-bare c = record { place = c .place; state = c .state; labels = [] }
-
-abbrev pub bareStage : StageOne → Stage
-bareStage (going-one c) = going (bare c)
-bareStage (ended-one vs m) = ended vs m
-bareStage (trapped-one a n) = trapped a n
-bareStage halted-one = halted
+use Rattle.standard.specs.Standard.{Config, Stage, going, ended, trapped, halted, after, stepRow, step, onward, runs, begin}
+use Rattle.standard.specs.One.{ConfigOne, StageOne, going-one, ended-one, trapped-one, halted-one, afterOne, rowOne, byOne, stepOne, onwardOne, runsOne, beginOne, bare, bareStage}
 
 -- the stack is full where it was
 module _ (c : ConfigOne) (n : ℕ) where
@@ -89,7 +37,7 @@ module _ (c : ConfigOne) (n : ℕ) where
           ap (λ (t : Bool). cond t halted (going (record { place = c .place + n; state = next; labels = [] }))) (ap (ltb stackLimit) (add-zero (length st)) ∙ e)
 
   same-after : (rs : List Kind) (k : Code) (i : Instr) → after (bare c) n (exec rs k i (c .state)) ≡ bareStage (afterOne c n (exec rs k i (c .state)))
-  same-after rs k i = of-exec (λ o. after (bare c) n o ≡ bareStage (afterOne c n o)) refl (λ a m. refl) (λ vs. refl) full-alike i (c .state) rs k
+  same-after rs k i = of-exec i (c .state) (λ o. after (bare c) n o ≡ bareStage (afterOne c n o)) refl (λ vs. refl) full-alike rs k (λ a m at past. refl)
 
 module _ (s : List ℕ) (h : Header) where
   same-row : (c : ConfigOne) (d : Decoded) (r : Row) → rowIn 1 (d .instr) ≡ r → stepRow s h (bare c) d r ≡ bareStage (rowOne h c d r)

@@ -21,17 +21,18 @@ use Rattle.rules.proofs.Headers.{declares-once}
 use Rattle.rules.proofs.Typings.{end-untyped, control-untyped}
 use Rattle.rules.proofs.Onward.{declared}
 use Rattle.standard.specs.Standard.{Config, going, trapped, after, step, runs, begin}
-use Rattle.standard.specs.Safety.{Given, Fits, Sound, StuckHere, stuck-here, not-taken, StuckAt, traps-before, stuck-there}
+use Rattle.standard.specs.Safety.{Given, Strays, Fits, Sound, StuckHere, stuck-here, not-taken, StuckAt, traps-before, stuck-there}
 use Rattle.standard.proofs.Along.{one-more}
 use Rattle.standard.proofs.Fine.{Fine, on, past as trapped-past}
 use Rattle.standard.proofs.Steps.{step-does, does-ordinary}
+use Rattle.standard.proofs.Straying.{strays-there}
 use Rattle.standard.proofs.Nestings.{live-has}
 use Rattle.standard.proofs.Turn.{typed-runs, kept-fits, goes-after}
 use Rattle.standard.proofs.Begin.{begin-fits}
 use Rattle.standard.proofs.Stuck.{stuck-exact, breach-reached}
 
 pub data Arrives (s : List ℕ) (h : Header) (b : Config) (p : ℕ) (fs : List Frame) : Type 0 where
-  strays : (k a n : ℕ) (c : Config) → runs s h k b ≡ going c → c .place < p → step s h c ≡ trapped a n → length (c .state .memory) < a + n → Arrives s h b p fs
+  strays : (k a n : ℕ) (c : Config) → runs s h k b ≡ going c → c .place < p → step s h c ≡ trapped a n → Strays s h c a n → Arrives s h b p fs
   comes : (k : ℕ) (c : Config) (f : Frame) → runs s h k b ≡ going c → c .place ≡ p → fs ≡ f ∷ [] → f .dead ≡ false → Fits s h f [] c → Arrives s h b p fs
 
 module _ (s : List ℕ) (h : Header) (old : h .version ≡ 1) (b : Config) where
@@ -41,14 +42,14 @@ module _ (s : List ℕ) (h : Header) (old : h .version ≡ 1) (b : Config) where
   module _ {p n : ℕ} {i : Instr} (j : ℕ) (c : Config) (ran : runs s h j b ≡ going c) (at : c .place ≡ p) where
     typed : {k : Code} → Reads (h .version) s (c .place) i k n → {f : Frame} {fs′ : List Frame} → f .dead ≡ false → Fits s h f [] c → Types (locals h) i k (f ∷ []) fs′ → Within fs′ → Arrives s h b (p + n) fs′
     typed {k} r live fits (ordinary {outs = outs} {below = below} {f = f} t x) w =
-        by (exec (h .results) k i (c .state)) (step-does h c r ∙ does-ordinary s h c n i k (end-untyped t) (λ y. control-untyped t))
+        by (exec (h .results) k i (c .state)) refl (step-does h c r ∙ does-ordinary s h c n i k (end-untyped t) (λ y. control-untyped t))
         (typed-runs c fits below r t (live-has live x) (omega (arith, w .values, length-append (allValues []) (below ++ outs))))
       where
-        by : (o : Outcome) → step s h c ≡ after c n o → Fine (c .state) (reverse (below ++ outs)) o → Arrives s h b (p + n) (holding f (below ++ outs) ∷ [])
-        by o q (on {τ} kept) =
+        by : (o : Outcome) → exec (h .results) k i (c .state) ≡ o → step s h c ≡ after c n o → Fine (c .state) (reverse (below ++ outs)) o → Arrives s h b (p + n) (holding f (below ++ outs) ∷ [])
+        by o d q (on {τ} kept) =
             comes (suc j) (record { place = c .place + n; state = τ; labels = c .labels }) (holding f (below ++ outs)) (one-more s h j b c ran ∙ q ∙ goes-after c fits n w kept)
             (ap (λ (y : ℕ). y + n) at) refl live (kept-fits c fits (c .place + n) kept)
-        by o q (trapped-past {a} {n = m} g) = strays j a m c ran (omega (arith, at, stands-some (r .stands))) q g
+        by o d q (trapped-past {a} {n = m} g) = strays j a m c ran (omega (arith, at, stands-some (r .stands))) q (strays-there h c r d)
     typed r live fits (branches l x) w = absurd (no-control r refl)
     typed r live fits (may-branch l x) w = absurd (no-control r refl)
     typed r live fits opens-block w = absurd (no-control r refl)

@@ -6,13 +6,16 @@ use mathlib.Core.List.{List, [], _∷_, _++_, map, reverse, append-assoc, revers
 use native.Mathlib.Omega.{arith}
 use lib.ListN.{length, length-map, length-append, length-reverse}
 use borrow.Author.Tests.{le-ltb}
-use Rattle.card.specs.Card.{DONE, LOCAL, TRAILING}
+use Rattle.card.specs.Card.{LOCAL, TRAILING}
 use Rattle.limits.specs.Limits.{stackLimit, nestLimit}
+use Rattle.leb128.specs.Bytes.{bytes}
 use Rattle.opcode.specs.Kind.{Kind, i32}
 use Rattle.opcode.specs.BlockType.{blockResults}
 use Rattle.opcode.specs.Table.{End, Control, Block, Loop, Br, BrIf, Code, plain, control, vector}
 use Rattle.instr.specs.declared.Instr.{Instr}
-use Rattle.instr.specs.Decode.{decodeAt}
+use Rattle.instr.specs.Refuses.{Refuses}
+use Rattle.instr.proofs.Stands.{decoded-stands}
+use Rattle.instr.proofs.Refuses.{stands-refuses}
 use Rattle.machine.specs.Value.{kindOf}
 use Rattle.machine.specs.Exec.{stuck, ofKinds, exec}
 use Rattle.rules.specs.Header.{Header, locals}
@@ -241,8 +244,10 @@ pub breach-reached : {s : List ℕ} {code p : ℕ} → Breach s code p → LOCAL
 breach-reached b lo hi = let w = breach-halts b lo hi in (w .header, w .frames, w .reached)
 
 -- where the bytes are no instruction, 2 and 6 to 11, the machine is stuck too
-pub refused-stuck : {s : List ℕ} {h : Header} {code place : ℕ} (r : Refused s code place) → (code ≡ DONE → ⊥) → (c : Config) → c .place ≡ r .at → Sound s h c → step s h c ≡ halted
-refused-stuck {s} {h} r wrong c here sound =
+pub refused-stuck : {s : List ℕ} {h : Header} {code place : ℕ} → bytes s → (r : Refused s code place) → (c : Config) → c .place ≡ r .at → Sound s h c
+    → step s h c ≡ halted
+refused-stuck {s} {h} {code} {place} b r c here sound =
     let same : r .header ≡ h = declares-once s (r .header) h (declared (r .reached)) (declared (sound .reached)) in
     step-halts s h c (λ e.
-    wrong (sym (r .code-is) ∙ subst (λ (x : Header). decodeAt (x .version) s (r .at) .code ≡ DONE) (sym same) (subst (λ (q : ℕ). decodeAt (h .version) s q .code ≡ DONE) here e)))
+    stands-refuses s (h .version) (c .place) (decoded-stands s b (h .version) (c .place) e)
+    (subst (λ (q : ℕ). Refuses (h .version) s q code place) (sym here) (subst (λ (x : Header). Refuses (x .version) s (r .at) code place) same (r .refuses))))

@@ -18,12 +18,13 @@ use Rattle.rules.specs.Header.{Header, locals}
 use Rattle.rules.specs.Typing.{Frame, opened, holding, branchKinds, allValues, Target, Typed, Types, ordinary, branches, may-branch, opens-block, opens-loop, closes, Ends, ends}
 use Rattle.rules.specs.Strip.{Reads, Within, Reaches, past, Valid}
 use Rattle.rules.proofs.Typings.{end-untyped, control-untyped}
-use Rattle.standard.specs.Standard.{Label, Config, Stage, going, halted, withStack, countUnder, after, enter, branch, branchIf, stepPlain, stepCode, step}
-use Rattle.standard.specs.Safety.{Live, Nested, outermost, inside, Fits, Sound, Safe, safe-going, safe-ended, safe-trapped}
+use Rattle.standard.specs.Standard.{Label, Config, Stage, going, trapped, halted, withStack, countUnder, after, enter, branch, branchIf, stepPlain, stepCode, step, runs}
+use Rattle.standard.specs.Safety.{Live, Nested, outermost, inside, Fits, Sound, Strays, Safe, safe-going, safe-ended, safe-trapped}
 use Rattle.standard.proofs.ValueKinds.{reverse-kinds, reverse-range, kinds-fit}
 use Rattle.standard.proofs.Fine.{Kept, Fine, on, past as trapped-past}
 use Rattle.standard.proofs.Typeds.{Ranged, typed-fine}
 use Rattle.standard.proofs.Steps.{step-does, does-ordinary, apt}
+use Rattle.standard.proofs.Straying.{strays-there, reads-strays}
 use Rattle.standard.proofs.Nestings.{nested-many, nested-under, nested-same, live-has}
 use Rattle.standard.proofs.Unwinding.{Next, last, goes-on, what-next}
 use Rattle.standard.proofs.Tops.{kinds-append, range-append}
@@ -72,19 +73,20 @@ module _ {s : List ℕ} {h : Header} {f : Frame} {fs : List Frame} (c : Config) 
         length-reverse ks,
       )))
 
-  pub fine-safe : {ks : List Kind} {o : Outcome} (n : ℕ) → Live (f ∷ fs) → Within (holding f ks ∷ fs) → Reaches s h (c .place + n) (holding f ks ∷ fs) → Fine (c .state) (reverse ks) o
-      → Safe s h (length (c .state .memory)) (after c n o)
-  fine-safe {ks} n live w reached (on {τ} k) =
-      subst (Safe s h (length (c .state .memory))) (sym (goes-after n w k))
+  pub fine-safe : {ks : List Kind} {n : ℕ} {i : Instr} {k : Code} {o : Outcome} → Reads (h .version) s (c .place) i k n → exec (h .results) k i (c .state) ≡ o → Live (f ∷ fs)
+      → Within (holding f ks ∷ fs) → Reaches s h (c .place + n) (holding f ks ∷ fs) → Fine (c .state) (reverse ks) o → Safe s h c (after c n o)
+  unfolding runs
+  fine-safe {ks} {n} r e live w reached (on {τ} k) =
+      subst (Safe s h c) (sym (goes-after n w k))
       (safe-going (record { frame = holding f ks; outer = fs; reached = reached; live = live; fits = kept-fits (c .place + n) k }) (k .long))
-  fine-safe n live w reached (trapped-past l) = safe-trapped l
+  fine-safe r e live w reached (trapped-past l) = safe-trapped 0 refl refl (strays-there h c r e)
 
 module _ {s : List ℕ} (v : Valid s) (c : Config) where
   abbrev h : Header
   h = v .header
 
   abbrev Good : Stage → Type 0
-  Good g = Safe s h (length (c .state .memory)) g
+  Good g = Safe s h c g
 
   -- ---- blocks
 
@@ -146,7 +148,7 @@ module _ {s : List ℕ} (v : Valid s) (c : Config) where
               live = live;
               fits = fits-with (c .place + n) st (c .labels) (rest-of fits) (under i32 (map kindOf st) e .1) (r .1) (nested-same (below ++ branchKinds g) (fits .nested));
             }) refl
-        by false = branch-safe v (withStack (c .state) st) (record { held = fits .held; local-range = fits .local-range; memory-range = fits .memory-range }) (r .1) below target (fits .nested) live (under i32 (map kindOf st) e .1)
+        by false = branch-safe v c (withStack (c .state) st) refl (record { held = fits .held; local-range = fits .local-range; memory-range = fits .memory-range }) (r .1) below target (fits .nested) live (under i32 (map kindOf st) e .1)
     decided (I64 a ∷ st) e r = absurd (let same = under _ (map kindOf st) e .0 in let z : _≡_ {A = ℕ} 0 1 = cc (same) in omega arith)
     decided (V128 a ∷ st) e r = absurd (let same = under _ (map kindOf st) e .0 in let z : _≡_ {A = ℕ} 0 1 = cc (same) in omega arith)
 
@@ -156,10 +158,10 @@ module _ {s : List ℕ} (v : Valid s) (c : Config) where
       → Types (locals h) i k (f ∷ fs) fs′ → Within fs′ → Good (stepCode s h c n i k)
   typed-safe {fs = fs} {n = n} {i} {k} fits live reached r (ordinary {outs = outs} {below = below} {f = f} t x) w =
       subst Good (sym (does-ordinary s h c n i k (end-untyped t) (λ y. control-untyped t)))
-      (fine-safe c fits n live w (past reached r (ordinary t x) w)
+      (fine-safe c fits r refl live w (past reached r (ordinary t x) w)
       (typed-runs c fits below r t (live-has (live .0) x) (omega (arith, w .values, length-append (allValues fs) (below ++ outs)))))
   typed-safe {fs = fs} fits live reached r (branches {below = below} {f = f} {g = g} l x) w =
-      branch-safe v (c .state) (rest-of fits) (fits .stack-range) below l (fits .nested) live (fits .stacked ∙ ap reverse (live-has (live .0) x))
+      branch-safe v c (c .state) refl (rest-of fits) (fits .stack-range) below l (fits .nested) live (fits .stacked ∙ ap reverse (live-has (live .0) x))
   typed-safe {fs = fs} {n = n} {i} fits live reached r (may-branch {below = below} {f = f} {g = g} l x) w =
       decided fits live (i .index) n below l (live-has (live .0) x) (past reached r (may-branch l x) w) (c .state .stack) (fits .stacked) (fits .stack-range)
   typed-safe {n = n} {i} fits live reached r opens-block w = entered false i n fits live w (past reached r opens-block w)
@@ -180,6 +182,13 @@ module _ {s : List ℕ} (v : Valid s) (c : Config) where
   next-safe fits live reached (last {i = i} r e) = subst Good (sym (step-does h c r)) (ended-safe 1 i fits live e)
   next-safe fits live reached (goes-on r t w) = subst Good (sym (step-does h c r)) (typed-safe fits live reached r t w)
 
-  pub safe-step : (m : ℕ) → Sound s h c → length (c .state .memory) ≡ m → Safe s h m (step s h c)
-  safe-step m sound long =
-      subst (λ (n : ℕ). Safe s h n (step s h c)) long (next-safe (sound .fits) (sound .live) (sound .reached) (what-next v (sound .reached)))
+  pub safe-step : Sound s h c → Safe s h c (step s h c)
+  safe-step sound = next-safe (sound .fits) (sound .live) (sound .reached) (what-next v (sound .reached))
+
+  -- a step that traps is one at an access past the memory's end
+  pub sound-strays : Sound s h c → {a m : ℕ} → step s h c ≡ trapped a m → Strays s h c a m
+  sound-strays sound {a} {m} e = by (what-next v (sound .reached))
+    where
+      by : {fs : List Frame} → Next s h (c .place) fs → Strays s h c a m
+      by (last r x) = reads-strays s h a m c r e
+      by (goes-on r t w) = reads-strays s h a m c r e

@@ -2,14 +2,17 @@
 use Prim.Native.Nat.{ℕ, _+_, _^_, _<_}
 use mathlib.Core.Path.{_≡_}
 use mathlib.Core.Bool.{false}
+use mathlib.Core.Option.{some}
 use mathlib.Core.List.{List, [], _∷_, reverse, map}
 use lib.ListN.{length, getD}
-use Rattle.opcode.specs.Table.{BrIf, control}
+use Rattle.opcode.specs.Table.{BrIf, Code, control}
 use Rattle.instr.specs.declared.Instr.{Instr}
 use Rattle.machine.specs.Value.{Value, I32, kindOf, AllInRange}
+use Rattle.machine.specs.Accesses.{Accesses}
 use Rattle.rules.specs.Header.{Header, locals}
 use Rattle.rules.specs.Typing.{Frame, opened}
 use Rattle.rules.specs.Strip.{Reads, Reaches}
+use Rattle.standard.specs.Closing.{close}
 use Rattle.standard.specs.Standard.{Label, Config, Stage, going, ended, trapped, halted, step, runs}
 
 -- no code here is dead
@@ -23,6 +26,11 @@ pub data Nested (s : List ℕ) (h : Header) : List Frame → List Label → Type
   inside : {f g : Frame} {fs : List Frame} {l : Label} {ls : List Label} → l .loop ≡ f .loop → l .results ≡ f .results
       → map kindOf (l .under) ≡ reverse (g .values) → AllInRange (l .under) → Reaches s h (l .body) (opened (f .loop) (f .results) ∷ g ∷ fs)
       → Nested s h (g ∷ fs) ls → Nested s h (f ∷ g ∷ fs) (l ∷ ls)
+
+-- from the body of each label the `end` of its block is found
+abbrev pub AllEnd : List ℕ → Header → List Label → Type 0
+AllEnd s h [] = Unit {0}
+AllEnd s h (l ∷ ls) = ((q : ℕ) × (close (h .version) s (l .body) ≡ some q)) × AllEnd s h ls
 
 -- kinds on the stack, the last on top, labels, kinds of the locals, and all values in range
 pub record Fits (s : List ℕ) (h : Header) (f : Frame) (fs : List Frame) (c : Config) : Type 0 where
@@ -47,11 +55,20 @@ pub record Given (h : Header) (vs : List Value) (m : List ℕ) : Type 0 where
   pub range : AllInRange vs
   pub bytes : (k : ℕ) → getD m k 0 < 2 ^ 8
 
--- over a memory of m bytes: going on, ended with results of the declared kinds and in range, or trapped at an access past the end
-pub data Safe (s : List ℕ) (h : Header) (m : ℕ) : Stage → Type 0 where
-  safe-going : {c : Config} → Sound s h c → length (c .state .memory) ≡ m → Safe s h m (going c)
-  safe-ended : {vs : List Value} {mem : List ℕ} → map kindOf vs ≡ h .results → AllInRange vs → length mem ≡ m → Safe s h m (ended vs mem)
-  safe-trapped : {a n : ℕ} → m < a + n → Safe s h m (trapped a n)
+-- the instruction that stands at the place of c accesses n bytes from the address a on, and the memory ends before them
+pub record Strays (s : List ℕ) (h : Header) (c : Config) (a n : ℕ) : Type 0 where
+  pub instr : Instr
+  pub code : Code
+  pub size : ℕ
+  pub reads : Reads (h .version) s (c .place) instr code size
+  pub accesses : Accesses instr code (c .state .stack) a n
+  pub past : length (c .state .memory) < a + n
+
+-- from b on: going on, ended with results of the declared kinds and in range, or trapped at an access past the end, in a state that the machine came to; the memory is as long as it was
+pub data Safe (s : List ℕ) (h : Header) (b : Config) : Stage → Type 0 where
+  safe-going : {c : Config} → Sound s h c → length (c .state .memory) ≡ length (b .state .memory) → Safe s h b (going c)
+  safe-ended : {vs : List Value} {mem : List ℕ} → map kindOf vs ≡ h .results → AllInRange vs → length mem ≡ length (b .state .memory) → Safe s h b (ended vs mem)
+  safe-trapped : (j : ℕ) {c : Config} {a n : ℕ} → runs s h j b ≡ going c → length (c .state .memory) ≡ length (b .state .memory) → Strays s h c a n → Safe s h b (trapped a n)
 
 -- stuck where it is; or at a br_if over 0, which by Core pops it and asks no more
 pub data StuckHere (s : List ℕ) (h : Header) (c : Config) : Type 0 where
@@ -60,5 +77,5 @@ pub data StuckHere (s : List ℕ) (h : Header) (c : Config) : Type 0 where
 
 -- from b it traps before the place p, or is stuck at it: a strip without blocks
 pub data StuckAt (s : List ℕ) (h : Header) (b : Config) (p : ℕ) : Type 0 where
-  traps-before : (k a n : ℕ) (c : Config) → runs s h k b ≡ going c → c .place < p → step s h c ≡ trapped a n → length (c .state .memory) < a + n → StuckAt s h b p
+  traps-before : (k a n : ℕ) (c : Config) → runs s h k b ≡ going c → c .place < p → step s h c ≡ trapped a n → Strays s h c a n → StuckAt s h b p
   stuck-there : (k : ℕ) (c : Config) → runs s h k b ≡ going c → c .place ≡ p → step s h c ≡ halted → StuckAt s h b p

@@ -7,6 +7,7 @@ use mathlib.Core.Logic.{_↔_}
 use lib.Dec.{T, ltb, ltb→lt, lit<}
 use Rattle.scalar.specs.Scalar.{clamp, sat, iaddsat, inarrow, iq15mulrsat, idot}
 use Rattle.operation.specs.Vector.{lane, build}
+use Rattle.lane.specs.declared.V128.{V128}
 use Rattle.leb128.specs.Number.{lastOf, before, intOf, numberAt}
 use Rattle.leb128.specs.Promise.{ReadsNumber}
 use Rattle.leb128.specs.Bytes.{bytes}
@@ -31,15 +32,19 @@ are-bytes (b ∷ bs) h (suc i) = are-bytes bs (both (ltb b 256) (small bs) h .1)
 read : (sign : Bool) (N : ℕ) (s : List ℕ) → T (small s) → (said : Leb) → numberAt sign N s 0 ≡ said → (r : Leb) → ReadsNumber sign N s 0 r ↔ (r ≡ said)
 read sign N s h said e r = ((λ m. m .answer ∙ e), (λ f. reads-number sign N s 0 (are-bytes s h) r (f ∙ sym e)))
 
+-- where the operation computes to what is said, the contract is the equation
+same : (P : V128 → Type 0) (r : V128) → P r ↔ P r
+same P r = ((λ m. m), (λ m. m))
+
 pub all-hold : All Holds weights
 unfolding lane build clamp sat iaddsat inarrow iq15mulrsat idot numberAt intOf lastOf before
 all-hold =
     -- add, add_sat_u, add_sat_s
-    refl and refl and refl
+    same _ and same _ and same _
     -- narrow
-    and refl and refl and refl
+    and same _ and same _ and same _
     -- q15mulr, dot
-    and refl and refl and refl and refl
+    and same _ and same _ and same _ and same _
     -- u32, s32
     and read _ _ _ tt _ refl and read _ _ _ tt _ refl and read _ _ _ tt _ refl
     and read _ _ _ tt _ refl and read _ _ _ tt _ refl and none

@@ -10,7 +10,7 @@ use borrow.Author.Tests.{eq-eqb, ne-eqb}
 use mir.Syntax.{w64}
 use Rattle.operation.specs.Vector.{number, lane, Sixteen}
 use Rattle.operation.specs.Op.{truth}
-use Rattle.lane.proofs.Laws.Number.{number-lt, field-join}
+use Rattle.operation.proofs.Laws.Number.{number-lt, field-join}
 
 halves : (v : List ℕ) → Sixteen v → number v ≡ lane w64 v 0 + 2 ^ 64 * lane w64 v 1
 unfolding lane

@@ -7,8 +7,8 @@ use lib.Arith.{digits-div, digits-mod}
 use lib.Bits.{bitAnd, bitOr, and-shr, or-shr, xor-shr, and-mod, or-mod, xor-mod, and-lt}
 use lib.Pow.{pow-pos, split, ones-split, shr-lt, ones-sub-lt}
 use Rattle.operation.specs.Vector.{number, le}
+use Rattle.operation.proofs.Laws.Number.{fieldOf, number-le}
 use Rattle.lane.specs.Inner.Scalars.{bitwise}
-use Rattle.lane.proofs.Laws.Number.{fieldOf, number-le}
 
 -- turning over the bits of a, above and below bit k
 complement : (j k a : ℕ) → a < 2 ^ (j + k) → 2 ^ (j + k) - 1 - a ≡ (2 ^ j - 1 - a / 2 ^ k) * 2 ^ k + (2 ^ k - 1 - a % 2 ^ k)
@@ -36,7 +36,9 @@ not-mod j k a h = ap (λ (n : ℕ). n % 2 ^ k) (complement j k a h) ∙ digits-m
 -- field n of the bits turned over
 not-field : (k n t a : ℕ) → k * n + k ≤ t → a < 2 ^ t → fieldOf k (2 ^ t - 1 - a) n ≡ 2 ^ k - 1 - fieldOf k a n
 not-field k n t a l h =
-    ap (λ (m : ℕ). m % 2 ^ k) (subst (λ (m : ℕ). (2 ^ m - 1 - a) / 2 ^ (k * n) ≡ 2 ^ (t - k * n) - 1 - a / 2 ^ (k * n)) down (not-shr (t - k * n) (k * n) a (subst (λ (m : ℕ). a < 2 ^ m) (sym down) h)))
+    ap (λ (m : ℕ). m % 2 ^ k)
+    (subst (λ (m : ℕ). (2 ^ m - 1 - a) / 2 ^ (k * n) ≡ 2 ^ (t - k * n) - 1 - a / 2 ^ (k * n)) down
+    (not-shr (t - k * n) (k * n) a (subst (λ (m : ℕ). a < 2 ^ m) (sym down) h)))
     ∙ subst (λ (m : ℕ). (2 ^ m - 1 - a / 2 ^ (k * n)) % 2 ^ k ≡ 2 ^ k - 1 - a / 2 ^ (k * n) % 2 ^ k) deeper
     (not-mod (t - k * n - k) k (a / 2 ^ (k * n)) (shr-lt (t - k * n - k + k) (k * n) (subst (λ (m : ℕ). a < 2 ^ m) (sym whole) h)))
   where

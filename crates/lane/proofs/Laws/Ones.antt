@@ -10,8 +10,8 @@ use lib.Dec.{eqb, leb, lit<}
 use lib.Pow.{pow-pos, shr-le}
 use borrow.Author.Tests.{eqb-true, leb-true}
 use Rattle.operation.specs.Op.{all}
+use Rattle.operation.proofs.Laws.Scan.{all-each}
 use Rattle.lane.specs.Inner.Words.{fieldwise}
-use Rattle.lane.proofs.Laws.Scan.{all-each}
 use Rattle.lane.proofs.Laws.Words.{fieldwise-same, fieldwise-self, fieldwise-add, fieldwise-sub, Stays, fieldwise-twice, masked, masked-here}
 
 -- ---- one byte: the ones of each two bits, of each four, of all eight

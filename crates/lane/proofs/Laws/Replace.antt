@@ -12,9 +12,9 @@ use lib.ListN.{length, take, drop, length-drop, take-append-drop}
 use lib.Seq.{length-take-le, drop-drop}
 use lib.Pow.{pow-pos, shr-shr}
 use Rattle.operation.specs.Vector.{number, le, build, Sixteen}
+use Rattle.operation.proofs.Laws.Number.{Bytes, length-le, number-append, number-le, number-lt, bytes-take, bytes-drop, fieldOf, field-low, field-high}
+use Rattle.operation.proofs.Laws.Build.{in-lanes, build-same}
 use Rattle.lane.specs.Inner.Put.{put}
-use Rattle.lane.proofs.Laws.Number.{Bytes, length-le, number-append, number-le, number-lt, bytes-take, bytes-drop, fieldOf, field-low, field-high}
-use Rattle.lane.proofs.Laws.Build.{in-lanes, build-same}
 
 -- three parts: a below bit k·i, then k bits b, then c
 abbrev whole : ℕ → ℕ → ℕ → ℕ → ℕ → ℕ

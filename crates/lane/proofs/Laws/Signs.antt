@@ -17,9 +17,9 @@ use mir.ValLaws.{pow-bits}
 use Rattle.operation.specs.Shape.{lanes}
 use Rattle.operation.specs.Vector.{lane}
 use Rattle.operation.specs.Op.{Bitmask, truth, all, tally, test}
+use Rattle.operation.proofs.Laws.Number.{fieldOf}
+use Rattle.operation.proofs.Laws.Scan.{all-each, sign-bit, truth-le, tally-lt, tally-same, tally-parts, tally-low}
 use Rattle.lane.specs.Inner.Words.{fieldwise, signs}
-use Rattle.lane.proofs.Laws.Number.{fieldOf}
-use Rattle.lane.proofs.Laws.Scan.{all-each, sign-bit, truth-le, tally-lt, tally-same, tally-parts, tally-low}
 use Rattle.lane.proofs.Laws.Words.{fieldwise-same, field-next, field-first, masked-here, word-lane}
 
 -- ---- a vector's signs are those of its two words

@@ -2,7 +2,8 @@
 use mathlib.Core.Path.{_≡_, refl, sym, ap, ap₂, _∙_, subst}
 use mathlib.Core.List.{List}
 use Prim.Native.Nat.{ℕ, zero, suc, _+_, _*_, _-_, _/_, _%_, _^_, _≤_, _<_}
-use native.Mathlib.Nat.{add-zero, add-comm, mul-comm, mul-assoc, mul-add, add-mul, mul-suc, mul-zero, zero-mul, div-one, mod-lt, mod-eq-of-lt, lt-of-le-of-lt, not-suc-le-zero, le-of-suc-le-suc, mul-le-mul-left, sub-add-cancel}
+use native.Mathlib.Nat.{add-zero, add-comm, mul-comm, mul-assoc, mul-add, add-mul, mul-suc, mul-zero, zero-mul}
+use native.Mathlib.Nat.{div-one, mod-lt, mod-eq-of-lt, lt-of-le-of-lt, not-suc-le-zero, le-of-suc-le-suc, mul-le-mul-left, sub-add-cancel}
 use native.Mathlib.Omega.{arith}
 use lib.Arith.{lt-one}
 use lib.Dec.{lit<}
@@ -11,9 +12,9 @@ use lib.Pow.{pow-pos, pow-mono, split, high, low, field, shr-shr, shr-lt, mod-mo
 use mir.Syntax.{Width, w8, w16, w32, w64}
 use mir.Val.{bits}
 use Rattle.operation.specs.Vector.{number, lane, build, Sixteen}
+use Rattle.operation.proofs.Laws.Number.{fieldOf, field-low}
+use Rattle.operation.proofs.Laws.Build.{build-same, in-lanes, field-build}
 use Rattle.lane.specs.Inner.Words.{fieldwise}
-use Rattle.lane.proofs.Laws.Number.{fieldOf, field-low}
-use Rattle.lane.proofs.Laws.Build.{build-same, in-lanes, field-build}
 
 -- ---- one field after the other
 

@@ -9,12 +9,11 @@ use mir.Syntax.{Width, w8, w16, w32, w64, w128}
 use Rattle.scalar.specs.Scalar.{S}
 use Rattle.operation.specs.Vector.{le, lane, build}
 use Rattle.operation.specs.Op.{replaced, splat}
+use Rattle.operation.proofs.Laws.Number.{le-split, le-mod}
+use Rattle.operation.proofs.Laws.Lane.{lane-lt, lane-zeros, same-lane}
 use Rattle.lane.specs.Answer.{extractLane, replaceLane}
 use Rattle.lane.specs.declared.answer.LaneAnswer.{LaneAnswer}
 use Rattle.lane.specs.declared.answer.VectorAnswer.{VectorAnswer}
-use Rattle.lane.proofs.Laws.Number.{le-split, le-mod}
-use Rattle.lane.proofs.Laws.Lane.{lane-lt, lane-zeros}
-use Rattle.lane.proofs.Laws.Answers.{same-lane}
 use Rattle.machine.specs.Memory.{padded}
 use Rattle.machine.specs.Inner.Flat.{low32, low64, lowest}
 use Rattle.machine.proofs.Laws.LowHalf.{splat-low, replaced-low}

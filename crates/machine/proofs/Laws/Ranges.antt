@@ -7,7 +7,7 @@ use native.Mathlib.Omega.{arith}
 use lib.ListN.{replicate, length, getD, set, take, drop, length-append, length-replicate, length-drop}
 use lib.Seq.{length-take-le}
 use Rattle.operation.specs.Vector.{Sixteen}
-use Rattle.lane.proofs.Laws.Number.{Bytes, bytes-append, bytes-take, bytes-drop}
+use Rattle.operation.proofs.Laws.Number.{Bytes, bytes-append, bytes-take, bytes-drop}
 use Rattle.machine.specs.Value.{Value, I32, InRange, AllInRange}
 use Rattle.machine.specs.Memory.{part, padded, stored}
 

@@ -14,8 +14,8 @@ use lib.ListN.{length}
 use mir.Syntax.{Width, w32, w64}
 use mir.Val.{bits}
 use Rattle.operation.specs.Vector.{number, le, lane, Sixteen}
-use Rattle.lane.proofs.Laws.Number.{number-le}
-use Rattle.lane.proofs.Laws.Vectors.{sixteen-le}
+use Rattle.operation.proofs.Laws.Number.{number-le}
+use Rattle.operation.proofs.Laws.Vectors.{sixteen-le}
 use Rattle.limits.specs.Limits.{slot, stackLimit}
 use Rattle.machine.specs.Value.{Value, I32, I64, V128, InRange, AllInRange, bytesOf}
 use Rattle.machine.specs.Exec.{State}

@@ -8,8 +8,8 @@ use lib.Dec.{eqb}
 use lib.ListN.{length, getD, set, length-set}
 use lib.Seq.{getD-set-same, getD-set-other}
 use borrow.Author.Tests.{eqb-true, eqb-false}
-use Rattle.lane.proofs.Laws.Number.{Bytes}
 use Rattle.limits.specs.Limits.{slot, stackLimit, parameterLimit, localLimit}
+use Rattle.operation.proofs.Laws.Number.{Bytes}
 use Rattle.machine.specs.Value.{Value, I32, InRange, bytesOf}
 use Rattle.machine.specs.Exec.{State, goes, goOn}
 use Rattle.machine.specs.Inner.Flat.{slotAt, putSlot}

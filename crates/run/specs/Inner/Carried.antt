@@ -106,7 +106,8 @@ pub record Leads (s : List ℕ) (h : Header) (σ : State) (ls : List Label) (ind
   pub marks-long : length marks ≡ 3 * nestLimit + 1
   pub frames : List Frame
   pub nested : Nested s h frames ls
-  pub safe : Safe s h (length (σ .memory)) (branch s h σ index ls)
+  pub from : Config
+  pub safe : Safe s h from (branch s h σ index ls)
 
 pub record Branching (s : List ℕ) (index depth nest : ℕ) (stack marks : List ℕ) : Type 0 where
   pub valid : Valid s

@@ -92,7 +92,17 @@ module _ (m : ℕ) (pos-m : 0 < m) where
   minus-both a b =
       sym (mod-eq-of-lt (below (suc (a + b))))
       ∙ cross m (m - 1 - suc (a + b) % m) (m - 1 - a % m + (m - 1 - b % m)) (suc (a / m + b / m)) (suc (a + b) / m)
-      (omega (arith, div-add-mod' a m, div-add-mod' b m, div-add-mod' (suc (a + b)) m, suc-mul (a / m + b / m) m, add-mul (a / m) (b / m) m, mod-lt a pos-m, mod-lt b pos-m, mod-lt (suc (a + b)) pos-m))
+      (omega (
+        arith,
+        div-add-mod' a m,
+        div-add-mod' b m,
+        div-add-mod' (suc (a + b)) m,
+        suc-mul (a / m + b / m) m,
+        add-mul (a / m) (b / m) m,
+        mod-lt a pos-m,
+        mod-lt b pos-m,
+        mod-lt (suc (a + b)) pos-m,
+      ))
     where
       below : (d : ℕ) → m - 1 - d % m < m
       below d = omega arith

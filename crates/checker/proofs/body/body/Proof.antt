@@ -36,7 +36,10 @@ answer-requires : tie.Need-answer-requires Inv-loop μ-loop
 answer-requires c κs = search needs
 
 returns : tie.Need-returns Inv-loop μ-loop
-returns c = checked (c .answer .ensures) (breach (refuses (c .before .before .before .before .loop .inv) (c .before .before .before .scan .result) (c .before .before .before .scan .ensures) (c .before .if1 .taken)))
+returns c =
+    checked (c .answer .ensures)
+    (breach (refuses (c .before .before .before .before .loop .inv) (c .before .before .before .scan .result) (c .before .before .before .scan .ensures)
+    (λ j. c .before .before .before .before .before .before .before .shared-slice-known .given j .fits) (c .before .if1 .taken)))
 
 is-last-requires : tie.Need-is-last-requires Inv-loop μ-loop
 is-last-requires c κs = search needs

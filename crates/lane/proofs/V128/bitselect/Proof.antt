@@ -5,7 +5,7 @@ use mathlib.Core.Path.{_∙_, ap, ap₂, subst}
 use mathlib.Core.List.{List}
 use lib.Bits.{bitOr}
 use Rattle.operation.specs.Vector.{number, le, Sixteen}
-use Rattle.lane.proofs.Laws.Number.{number-lt}
+use Rattle.operation.proofs.Laws.Number.{number-lt}
 use Rattle.lane.proofs.Laws.Bitwise.{select}
 use Rattle.lane.proofs.V128.bitselect.Statement.{statement}
 use Rattle.lane.proofs.V128.bitselect.Tie as tie

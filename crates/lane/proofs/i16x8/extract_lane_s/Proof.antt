@@ -13,7 +13,8 @@ use Rattle.lane.proofs.i16x8.extract_lane_s.Tie as tie
 returns : tie.Need-returns
 returns c =
     let s = c .before .before .before .before .before .before in
-    scalar-in 8 (s .args .i) _ (extracted S i16x8 (s .args .t1 .bytes) (s .args .i)) (c .before .before .before .before .before .if1 .taken) (c .lane-done .ensures) (c .before .extend-s16 .ensures ∙ ap (iextend S w16 w32) (c .before .before .get16 .ensures))
+    scalar-in 8 (s .args .i) _ (extracted S i16x8 (s .args .t1 .bytes) (s .args .i)) (c .before .before .before .before .before .if1 .taken)
+    (c .lane-done .ensures) (c .before .extend-s16 .ensures ∙ ap (iextend S w16 w32) (c .before .before .get16 .ensures))
 
 returns-2 : tie.Need-returns-2
 returns-2 c =

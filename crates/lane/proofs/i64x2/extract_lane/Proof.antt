@@ -5,14 +5,16 @@ use mir.Syntax.{w64}
 use Rattle.scalar.specs.Scalar.{S}
 use Rattle.operation.specs.Shape.{i64x2}
 use Rattle.operation.specs.Op.{extracted}
-use Rattle.lane.proofs.Laws.Answers.{scalar-in, scalar-out, same-lane}
+use Rattle.operation.proofs.Laws.Lane.{same-lane}
+use Rattle.lane.proofs.Laws.Answers.{scalar-in, scalar-out}
 use Rattle.lane.proofs.i64x2.extract_lane.Statement.{statement}
 use Rattle.lane.proofs.i64x2.extract_lane.Tie as tie
 
 returns : tie.Need-returns
 returns c =
     let s = c .before .before .before .before .before in
-    scalar-in 2 (s .args .i) _ (extracted S i64x2 (s .args .t1 .bytes) (s .args .i)) (c .before .before .before .before .if1 .taken) (c .lane-done .ensures) (c .before .get64 .ensures ∙ same-lane w64 (s .args .t1 .bytes) (s .args .i))
+    scalar-in 2 (s .args .i) _ (extracted S i64x2 (s .args .t1 .bytes) (s .args .i)) (c .before .before .before .before .if1 .taken)
+    (c .lane-done .ensures) (c .before .get64 .ensures ∙ same-lane w64 (s .args .t1 .bytes) (s .args .i))
 
 returns-2 : tie.Need-returns-2
 returns-2 c =

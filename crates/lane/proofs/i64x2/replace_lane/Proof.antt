@@ -5,7 +5,8 @@ use borrow.Author.Tests.{lt-ltb, le-ltb}
 use mir.Syntax.{w64}
 use Rattle.scalar.proofs.Laws.Wrap.{wrap-nat}
 use Rattle.operation.specs.Op.{replaced}
-use Rattle.lane.proofs.Laws.Answers.{vector-in, vector-out, put-wrapped}
+use Rattle.operation.proofs.Laws.Lane.{put-wrapped}
+use Rattle.lane.proofs.Laws.Answers.{vector-in, vector-out}
 use Rattle.lane.proofs.i64x2.replace_lane.Statement.{statement}
 use Rattle.lane.proofs.i64x2.replace_lane.Tie as tie
 

@@ -13,7 +13,8 @@ use Rattle.lane.proofs.i8x16.extract_lane_s.Tie as tie
 returns : tie.Need-returns
 returns c =
     let s = c .before .before .before .before .before .before in
-    scalar-in 16 (s .args .i) _ (extracted S i8x16 (s .args .t1 .bytes) (s .args .i)) (c .before .before .before .before .before .if1 .taken) (c .lane-done .ensures) (c .before .extend-s8-32 .ensures ∙ ap (iextend S w8 w32) (c .before .before .get8 .ensures))
+    scalar-in 16 (s .args .i) _ (extracted S i8x16 (s .args .t1 .bytes) (s .args .i)) (c .before .before .before .before .before .if1 .taken)
+    (c .lane-done .ensures) (c .before .extend-s8-32 .ensures ∙ ap (iextend S w8 w32) (c .before .before .get8 .ensures))
 
 returns-2 : tie.Need-returns-2
 returns-2 c =

@@ -2,7 +2,7 @@
 use native.Mathlib.Omega.{arith}
 use borrow.Author.Needs.{needs}
 use Rattle.operation.specs.Vector.{number, lane}
-use Rattle.lane.proofs.Laws.Number.{field-join}
+use Rattle.operation.proofs.Laws.Number.{field-join}
 use Rattle.lane.proofs.vector.get32.Statement.{statement}
 use Rattle.lane.proofs.vector.get32.Tie as tie
 

@@ -1,7 +1,7 @@
 -- A lane of 8 bits is a byte.
 use mathlib.Core.Path.{sym}
 use borrow.Author.Needs.{needs}
-use Rattle.lane.proofs.Laws.Lane.{lane-byte}
+use Rattle.operation.proofs.Laws.Lane.{lane-byte}
 use Rattle.lane.proofs.vector.get8.Statement.{statement}
 use Rattle.lane.proofs.vector.get8.Tie as tie
 

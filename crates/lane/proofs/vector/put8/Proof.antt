@@ -2,7 +2,8 @@
 use mathlib.Core.Path.{sym}
 use native.Mathlib.Omega.{arith}
 use borrow.Author.Needs.{needs}
-use Rattle.lane.proofs.Laws.Build.{put-byte, sixteen-set}
+use Rattle.operation.proofs.Laws.Vectors.{sixteen-set}
+use Rattle.lane.proofs.Laws.Build.{put-byte}
 use Rattle.lane.proofs.vector.put8.Statement.{statement}
 use Rattle.lane.proofs.vector.put8.Tie as tie
 

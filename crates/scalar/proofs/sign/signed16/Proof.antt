@@ -12,4 +12,4 @@ returns-2 : tie.Need-returns-2
 returns-2 c = signed-high w16 (c .before .args .x) (c .if1 .left) (c .before .fits .x .fits)
 
 pub signed16-spec : {M : Type 1} → statement M
-signed16-spec = tie.close (tie.spec (λ c. search needs) (λ c. search needs) sub-result (λ c. search needs) returns-2)
+signed16-spec = tie.close (tie.spec (λ c. search needs) (λ c. search needs) (λ c. search needs) sub-result (λ c. search needs) returns-2)

@@ -6,9 +6,11 @@ use native.Mathlib.Omega.{arith}
 use borrow.Author.Needs.{needs}
 use mir.Syntax.{w8}
 use Rattle.operation.specs.Vector.{number, lane, Sixteen}
+use Rattle.operation.proofs.Laws.Build.{build-same, build-fields}
+use Rattle.operation.proofs.Laws.Vectors.{sixteen-zeros}
+use Rattle.operation.proofs.Laws.Number.{number-lt, fieldOf}
 use Rattle.lane.specs.Inner.Scalars.{bitwise}
-use Rattle.lane.proofs.Laws.Build.{Built, built-none, built-more, built-all, build-same, build-fields, sixteen-zeros}
-use Rattle.lane.proofs.Laws.Number.{number-lt, fieldOf}
+use Rattle.lane.proofs.Laws.Build.{Built, built-none, built-more, built-all}
 use Rattle.lane.proofs.Laws.Bitwise.{bitwise-field}
 use Rattle.lane.proofs.lanes.bitwise.bitwise128.Statement.{statement}
 use Rattle.lane.proofs.lanes.bitwise.bitwise128.Tie as tie
@@ -24,10 +26,13 @@ loop-holds c = (omega arith, built-none 1 _ _ sixteen-zeros)
 
 loop-again : tie.Need-loop-again Inv-loop μ-loop
 loop-again c =
-    let l = c .before .before .before .before .before .before .before .before .before .before .loop in let s = c .before .before .before .before .before .before .before .before .before .before .before in (
+    let l = c .before .before .before .before .before .before .before .before .before .before .loop in
+    let s = c .before .before .before .before .before .before .before .before .before .before .before in (
       omega arith,
       built-more 1 (l .i) _ (l .r .bytes) _ (c .before .bitwise8 .result) (omega arith) (l .inv .1)
-          (c .before .bitwise8 .ensures ∙ ap₂ (bitwise (2 ^ 8 - 1) (s .args .op)) (c .before .before .before .before .before .get8 .ensures) (c .before .before .get82 .ensures)) (c .put8 .ensures .sixteen) (c .put8 .ensures .same),
+          (c .before .bitwise8 .ensures
+          ∙ ap₂ (bitwise (2 ^ 8 - 1) (s .args .op)) (c .before .before .before .before .before .get8 .ensures) (c .before .before .get82 .ensures))
+          (c .put8 .ensures .sixteen) (c .put8 .ensures .same),
     )
 
 below : (v : List ℕ) → Sixteen v → number v < 2 ^ 128

@@ -2,7 +2,7 @@
 use mathlib.Core.Path.{_∙_, sym}
 use native.Mathlib.Omega.{arith}
 use Rattle.operation.specs.Shape.{i8x16}
-use Rattle.lane.proofs.Laws.Lane.{lane-first, lane-second}
+use Rattle.operation.proofs.Laws.Lane.{lane-first, lane-second}
 use Rattle.lane.proofs.lanes.choosing.byte_of_two.Statement.{statement}
 use Rattle.lane.proofs.lanes.choosing.byte_of_two.Tie as tie
 

@@ -8,8 +8,9 @@ use borrow.Author.Tests.{ltb-true}
 use lib.Dec.{ltb}
 use Rattle.operation.specs.Shape.{i8x16}
 use Rattle.operation.specs.Vector.{lane}
-use Rattle.lane.proofs.Laws.Build.{Built, built-none, built-more, built-all, sixteen-zeros}
-use Rattle.lane.proofs.Laws.Scan.{all-each}
+use Rattle.operation.proofs.Laws.Vectors.{sixteen-zeros}
+use Rattle.operation.proofs.Laws.Scan.{all-each}
+use Rattle.lane.proofs.Laws.Build.{Built, built-none, built-more, built-all}
 use Rattle.lane.proofs.lanes.choosing.gather.Statement.{statement}
 use Rattle.lane.proofs.lanes.choosing.gather.Tie as tie
 
@@ -24,15 +25,23 @@ loop-holds c = (omega arith, built-none 1 _ _ sixteen-zeros)
 
 byte-of-two-requires : tie.Need-byte-of-two-requires Inv-loop μ-loop
 byte-of-two-requires c κs =
-    let l = c .before .before .before .before .before .before .before .before .before .loop in let s = c .before .before .before .before .before .before .before .before .before .before in let v = s .args .t3 .bytes in (
-      omega (arith, c .get8 .ensures, ltb-true (lane i8x16 v (l .i)) 32 (all-each 16 (l .i) (λ n. ltb (lane i8x16 v n) 32) (s .pre) (c .before .before .before .before .before .before .before .before .loop-test .taken))),
+    let l = c .before .before .before .before .before .before .before .before .before .loop in
+    let s = c .before .before .before .before .before .before .before .before .before .before in let v = s .args .t3 .bytes in (
+      omega (
+        arith,
+        c .get8 .ensures,
+        ltb-true (lane i8x16 v (l .i)) 32
+            (all-each 16 (l .i) (λ n. ltb (lane i8x16 v n) 32) (s .pre)
+            (c .before .before .before .before .before .before .before .before .loop-test .taken)),
+      ),
       search needs,
       search needs,
     )
 
 loop-again : tie.Need-loop-again Inv-loop μ-loop
 loop-again c =
-    let l = c .before .before .before .before .before .before .before .before .before .before .before .loop in let s = c .before .before .before .before .before .before .before .before .before .before .before .before in (
+    let l = c .before .before .before .before .before .before .before .before .before .before .before .loop in
+    let s = c .before .before .before .before .before .before .before .before .before .before .before .before in (
       omega arith,
       built-more 1 (l .i) _ (l .r .bytes) _ (c .before .byte-of-two .result) (omega arith) (l .inv .1)
           (c .before .byte-of-two .ensures ∙ ap (lane i8x16 (s .args .t1 .bytes ++ s .args .t2 .bytes)) (c .before .before .get8 .ensures)) (c .put8 .ensures .sixteen) (c .put8 .ensures .same),

@@ -10,7 +10,7 @@ use lib.Dec.{ltb}
 use Rattle.operation.specs.Shape.{i8x16}
 use Rattle.operation.specs.Vector.{lane}
 use Rattle.operation.specs.Op.{all}
-use Rattle.lane.proofs.Laws.Scan.{all-more, all-false}
+use Rattle.operation.proofs.Laws.Scan.{all-more, all-false}
 use Rattle.lane.proofs.lanes.choosing.indices_fit.Statement.{statement}
 use Rattle.lane.proofs.lanes.choosing.indices_fit.Tie as tie
 

@@ -6,7 +6,8 @@ use borrow.Author.Needs.{needs}
 use Rattle.operation.specs.Shape.{i8x16}
 use Rattle.operation.specs.Vector.{lane}
 use Rattle.operation.specs.Op.{laneOr0}
-use Rattle.lane.proofs.Laws.Build.{Built, built-none, built-more, built-all, sixteen-zeros}
+use Rattle.operation.proofs.Laws.Vectors.{sixteen-zeros}
+use Rattle.lane.proofs.Laws.Build.{Built, built-none, built-more, built-all}
 use Rattle.lane.proofs.lanes.choosing.swizzle.Statement.{statement}
 use Rattle.lane.proofs.lanes.choosing.swizzle.Tie as tie
 

@@ -7,8 +7,9 @@ use lib.Count.{ones, ones-le}
 use lib.Dec.{lit<}
 use mir.Syntax.{w64}
 use Rattle.operation.specs.Vector.{lane}
+use Rattle.operation.proofs.Laws.Vectors.{sixteen-zeros}
 use Rattle.lane.specs.Inner.Words.{fieldwise}
-use Rattle.lane.proofs.Laws.Build.{built-none, built-more, built-all, sixteen-zeros}
+use Rattle.lane.proofs.Laws.Build.{built-none, built-more, built-all}
 use Rattle.lane.proofs.Laws.Words.{Stays, words-bytewise}
 use Rattle.lane.proofs.lanes.counting.popcnt.Statement.{statement}
 use Rattle.lane.proofs.lanes.counting.popcnt.Tie as tie

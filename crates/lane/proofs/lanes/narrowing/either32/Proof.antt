@@ -2,7 +2,7 @@
 use mathlib.Core.Path.{_∙_, sym}
 use native.Mathlib.Omega.{arith}
 use mir.Syntax.{w32}
-use Rattle.lane.proofs.Laws.Lane.{lane-first, lane-second}
+use Rattle.operation.proofs.Laws.Lane.{lane-first, lane-second}
 use Rattle.lane.proofs.lanes.narrowing.either32.Statement.{statement}
 use Rattle.lane.proofs.lanes.narrowing.either32.Tie as tie
 

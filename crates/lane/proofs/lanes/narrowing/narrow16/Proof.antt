@@ -6,8 +6,9 @@ use native.Mathlib.Omega.{arith}
 use borrow.Author.Needs.{needs}
 use mir.Syntax.{w16, w32}
 use Rattle.operation.specs.Vector.{lane}
+use Rattle.operation.proofs.Laws.Vectors.{sixteen-zeros}
 use Rattle.lane.specs.Inner.Scalars.{narrowed}
-use Rattle.lane.proofs.Laws.Build.{Built, built-none, built-more, built-all, sixteen-zeros}
+use Rattle.lane.proofs.Laws.Build.{Built, built-none, built-more, built-all}
 use Rattle.lane.proofs.lanes.narrowing.narrow16.Statement.{statement}
 use Rattle.lane.proofs.lanes.narrowing.narrow16.Tie as tie
 

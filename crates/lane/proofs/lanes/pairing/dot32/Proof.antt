@@ -6,13 +6,17 @@ use borrow.Author.Needs.{needs}
 use mir.Syntax.{w16, w32}
 use Rattle.scalar.specs.Scalar.{idot}
 use Rattle.operation.specs.Vector.{lane}
-use Rattle.lane.proofs.Laws.Build.{Built, built-none, built-more, built-all, sixteen-zeros}
+use Rattle.operation.proofs.Laws.Vectors.{sixteen-zeros}
+use Rattle.lane.proofs.Laws.Build.{Built, built-none, built-more, built-all}
 use Rattle.lane.proofs.lanes.pairing.dot32.Statement.{statement}
 use Rattle.lane.proofs.lanes.pairing.dot32.Tie as tie
 
 abbrev Inv-loop : tie.InvT-loop
 Inv-loop a b r₀ i₀ r i =
-    (i ≤ 4) × Built 4 i (λ n. idot w16 w32 (lane w16 (a .bytes) (2 * n)) (lane w16 (b .bytes) (2 * n)) (lane w16 (a .bytes) (2 * n + 1)) (lane w16 (b .bytes) (2 * n + 1))) (r .bytes)
+    (i ≤ 4)
+    × Built 4 i
+    (λ n. idot w16 w32 (lane w16 (a .bytes) (2 * n)) (lane w16 (b .bytes) (2 * n)) (lane w16 (a .bytes) (2 * n + 1)) (lane w16 (b .bytes) (2 * n + 1)))
+    (r .bytes)
 
 abbrev μ-loop : tie.MeasureT-loop
 μ-loop a b r₀ i₀ r i = 4 - i
@@ -22,12 +26,17 @@ loop-holds c = (omega arith, built-none 4 _ _ sixteen-zeros)
 
 loop-again : tie.Need-loop-again Inv-loop μ-loop
 loop-again c =
-    let l = c .before .before .before .before .before .before .before .before .before .before .before .before .before .before .before .before .loop in (
+    let fourth = c .before .before .before in
+    let third = fourth .before .before .before in
+    let second = third .before .before .before in
+    let first = second .before .before .before in
+    let l = first .before .before .before .before .loop in
+    let a = first .before .before .before .before .before .args in (
       omega arith,
       built-more 4 (l .i) _ (l .r .bytes) _ (c .before .dot-s16 .result) (omega arith) (l .inv .1)
           (c .before .dot-s16 .ensures
-          ∙ ap₂ (λ (x y : ℕ). idot w16 w32 x y (c .before .before .before .before .before .before .get163 .result) (c .before .before .before .get164 .result)) (c .before .before .before .before .before .before .before .before .before .before .before .before .get16 .ensures) (c .before .before .before .before .before .before .before .before .before .get162 .ensures)
-          ∙ ap₂ (idot w16 w32 (lane w16 (c .before .before .before .before .before .before .before .before .before .before .before .before .before .before .before .before .before .args .t1 .bytes) (2 * l .i)) (lane w16 (c .before .before .before .before .before .before .before .before .before .before .before .before .before .before .before .before .before .args .t2 .bytes) (2 * l .i))) (c .before .before .before .before .before .before .get163 .ensures) (c .before .before .before .get164 .ensures))
+          ∙ ap₂ (λ (x y : ℕ). idot w16 w32 x y (third .get163 .result) (fourth .get164 .result)) (first .get16 .ensures) (second .get162 .ensures)
+          ∙ ap₂ (idot w16 w32 (lane w16 (a .t1 .bytes) (2 * l .i)) (lane w16 (a .t2 .bytes) (2 * l .i))) (third .get163 .ensures) (fourth .get164 .ensures))
           (c .put32 .ensures .sixteen) (c .put32 .ensures .same),
     )
 

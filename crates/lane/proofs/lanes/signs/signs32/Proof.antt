@@ -6,9 +6,9 @@ use native.Mathlib.Omega.{arith}
 use lib.Bits.{bitAnd, and-mask}
 use lib.Pow.{field, shr-shr, shr-lt}
 use mir.Syntax.{w32}
+use Rattle.operation.proofs.Laws.Number.{fieldOf, field-lt}
+use Rattle.operation.proofs.Laws.Scan.{sign-bit}
 use Rattle.lane.specs.Inner.Words.{signs}
-use Rattle.lane.proofs.Laws.Number.{fieldOf, field-lt}
-use Rattle.lane.proofs.Laws.Scan.{sign-bit}
 use Rattle.lane.proofs.lanes.signs.signs32.Statement.{statement}
 use Rattle.lane.proofs.lanes.signs.signs32.Tie as tie
 

@@ -2,9 +2,9 @@
 use native.Mathlib.Omega.{arith}
 use borrow.Author.Needs.{needs}
 use mir.Syntax.{w64}
+use Rattle.operation.proofs.Laws.Number.{fieldOf, field-lt}
+use Rattle.operation.proofs.Laws.Scan.{sign-bit}
 use Rattle.lane.specs.Inner.Words.{signs}
-use Rattle.lane.proofs.Laws.Number.{fieldOf, field-lt}
-use Rattle.lane.proofs.Laws.Scan.{sign-bit}
 use Rattle.lane.proofs.lanes.signs.signs64.Statement.{statement}
 use Rattle.lane.proofs.lanes.signs.signs64.Tie as tie
 

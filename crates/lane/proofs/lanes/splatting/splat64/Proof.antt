@@ -7,7 +7,8 @@ use lib.IntN.{pos}
 use mir.Syntax.{w64}
 use Rattle.scalar.specs.Scalar.{wrap}
 use Rattle.scalar.proofs.Laws.Wrap.{wrap-nat}
-use Rattle.lane.proofs.Laws.Build.{Built, built-none, built-more, built-all, sixteen-zeros}
+use Rattle.operation.proofs.Laws.Vectors.{sixteen-zeros}
+use Rattle.lane.proofs.Laws.Build.{Built, built-none, built-more, built-all}
 use Rattle.lane.proofs.lanes.splatting.splat64.Statement.{statement}
 use Rattle.lane.proofs.lanes.splatting.splat64.Tie as tie
 

@@ -5,7 +5,7 @@ use mathlib.Core.List.{List}
 use Prim.Native.Nat.{ℕ, _-_}
 use Rattle.operation.specs.Op.{shuffled}
 use Rattle.machine.specs.Inner.Flat.{putSlot}
-use Rattle.lane.proofs.Laws.Vectors.{shuffle-value}
+use Rattle.lane.proofs.Laws.Values.{shuffle-value}
 use Rattle.machine.proofs.step.vectors.shuffle.Statement.{statement}
 use Rattle.machine.proofs.step.vectors.shuffle.Tie as tie
 

@@ -3,7 +3,7 @@ use mathlib.Core.Path.{refl, _∙_}
 use native.Mathlib.Omega.{arith}
 use lib.Dec.{lit≤}
 use Rattle.operation.specs.Shape.{i8x16, i16x8, i32x4, i64x2}
-use Rattle.lane.proofs.Laws.Vectors.{vector-value}
+use Rattle.lane.proofs.Laws.Values.{vector-value}
 use Rattle.machine.proofs.Laws.LowHalf.{replaced-low}
 use Rattle.opcode.specs.Table.{vectors, vectorAt, plainAt}
 use Rattle.opcode.specs.Number.{rowOf}

@@ -16,10 +16,15 @@ use mir.Syntax.{Width}
 use mir.Val.{bits, hbits, toZ}
 use mir.ValLaws.{pow-bits, toZ-pos}
 use Rattle.scalar.proofs.Laws.Twos.{high-is}
 use Rattle.operation.specs.Op.{truth, all, tally}
 
 pub all-more : (n : ℕ) (P : ℕ → Bool) → all n P ≡ true → P n ≡ true → all (n + 1) P ≡ true
 all-more n P e f = ap (λ (j : ℕ). all j P) (add-one n) ∙ ap₂ _&&_ f e
+
+-- what holds of each holds of all
+pub all-of : (n : ℕ) (P : ℕ → Bool) → ((k : ℕ) → k < n → P k ≡ true) → all n P ≡ true
+all-of zero P h = refl
+all-of (suc n) P h = ap₂ _&&_ (h n (omega arith)) (all-of n P (λ k l. h k (omega arith)))
 
 and-false : (b : Bool) → (b && false) ≡ false
 and-false true = refl

@@ -2,14 +2,15 @@
 use mathlib.Core.Path.{_≡_, refl, sym, ap, ap₂, _∙_, subst}
 use mathlib.Core.List.{List, [], _∷_, _++_}
 use Prim.Native.Nat.{ℕ, zero, suc, _+_, _*_, _-_, _/_, _%_, _^_, _≤_, _<_}
-use native.Mathlib.Nat.{zero-add, suc-add, add-comm, mul-comm, mul-assoc, mul-add, add-mul, mul-suc, mul-one, two-mul, pow-zero, div-one, mod-one, mod-lt, zero-lt-suc, add-mul-mod-self-right, div-add-mod'}
+use native.Mathlib.Nat.{zero-add, suc-add, add-comm, mul-comm, mul-assoc, mul-add, add-mul, mul-suc, mul-one}
+use native.Mathlib.Nat.{two-mul, pow-zero, div-one, mod-one, mod-lt, zero-lt-suc, add-mul-mod-self-right, div-add-mod'}
 use native.Mathlib.Omega.{arith}
 use lib.Arith.{digits-div, digits-mod}
-use lib.ListN.{length, take, drop, getD}
+use lib.ListN.{length, take, drop, set, getD}
 use lib.Pow.{pow-pos, pow-add, shr-shr, mod-pow-add}
 use mir.Syntax.{w8}
 use mir.Val.{Fits}
 use Rattle.operation.specs.Vector.{number, le}
 
 -- every element is a byte
 abbrev pub Bytes : List ℕ → Type 0
@@ -92,6 +93,13 @@ pub bytes-drop : (n : ℕ) (v : List ℕ) → Bytes v → Bytes (drop n v)
 bytes-drop zero v h = h
 bytes-drop (suc n) [] h = h
 bytes-drop (suc n) (b ∷ v) h = bytes-drop n v (tail-bytes b v h)
+
+pub bytes-set : (v : List ℕ) (i x : ℕ) → x < 2 ^ 8 → Bytes v → Bytes (set v i x)
+bytes-set [] i x f h k = h k
+bytes-set (b ∷ v) zero x f h zero = record { fits = f }
+bytes-set (b ∷ v) zero x f h (suc k) = h (suc k)
+bytes-set (b ∷ v) (suc i) x f h zero = h 0
+bytes-set (b ∷ v) (suc i) x f h (suc k) = bytes-set v i x f (λ j. h (suc j)) k
 
 -- ---- field n of k bits
 

@@ -1,26 +1,28 @@
 -- For callers: a vector is given by its lanes, every operation gives sixteen bytes, and every scalar has its bound.
-use mathlib.Core.Path.{_≡_, refl, sym, ap, ap₂, _∙_, subst}
-use mathlib.Core.Bool.{Bool, true, false, not, _&&_}
+use mathlib.Core.Path.{_≡_, refl, sym, _∙_, subst}
+use mathlib.Core.Bool.{Bool, true, false, not}
 use mathlib.Core.List.{List}
 use Prim.Native.Nat.{ℕ, zero, suc, _*_, _%_, _^_, _<_}
-use native.Mathlib.Nat.{lt-of-lt-of-le}
+use native.Mathlib.Nat.{zero-lt-suc, lt-of-lt-of-le}
 use native.Mathlib.Omega.{arith}
-use lib.Dec.{T, leb, leb→le, eqb, ltb}
-use borrow.Author.Tests.{lt-ltb}
+use lib.Dec.{T, leb, leb→le, eqb}
+use lib.ListN.{replicate, set, length-set}
 use lib.Pow.{pow-mono}
 use mir.Syntax.{Width, w8, w16, w32, w64, w128}
 use mir.Val.{bits, bytes}
 use Rattle.scalar.specs.Scalar.{Sign, value, iextend}
 use Rattle.scalar.proofs.Laws.Integers.{wrap-lt}
-use Rattle.operation.specs.Shape.{lanes, i8x16}
+use Rattle.operation.specs.Shape.{lanes}
 use Rattle.operation.specs.Vector.{number, le, lane, build, vec, Sixteen}
-use Rattle.operation.specs.Op.{Unop, Not, Abs, Neg, Popcnt, Extend, ExtaddPairwise, unary, Binop, And, Andnot, Or, Xor, Swizzle, Eq, Ne, Lt, Gt, Le, Ge, Add, Sub, Mul, AddSat, SubSat, Min, Max, AvgrU, Q15mulrSatS, DotS, Narrow, Extmul, binary, bitselect, Testop, AnyTrue, AllTrue, Bitmask, truth, all, test, Shiftop, Shl, Shr, shift, splat, unpack, extracted, replaced, shuffled, Loadop, Whole, Widen, Repeat, ZeroPad, loaded, laneIn, laneOut}
-use Rattle.lane.specs.Answer.{scalarIf, vectorIf, shuffle}
-use Rattle.lane.specs.declared.answer.LaneAnswer.{LaneAnswer}
-use Rattle.lane.specs.declared.answer.VectorAnswer.{VectorAnswer}
-use Rattle.lane.proofs.Laws.Number.{Bytes, length-le, bytes-le, bytes-append, fieldOf}
-use Rattle.lane.proofs.Laws.Build.{length-build, field-build, in-lanes}
-use Rattle.lane.proofs.Laws.Scan.{tally-lt}
+use Rattle.operation.specs.Op.{Unop, Not, Abs, Neg, Popcnt, Extend, ExtaddPairwise, unary}
+use Rattle.operation.specs.Op.{Binop, And, Andnot, Or, Xor, Swizzle, Eq, Ne, Lt, Gt, Le, Ge, Add, Sub, Mul, AddSat, SubSat, Min, Max, AvgrU, Q15mulrSatS, DotS, Narrow, Extmul, binary}
+use Rattle.operation.specs.Op.{bitselect, Testop, AnyTrue, AllTrue, Bitmask, truth, all, test}
+use Rattle.operation.specs.Op.{Shiftop, Shl, Shr, shift}
+use Rattle.operation.specs.Op.{splat, unpack, extracted, replaced}
+use Rattle.operation.specs.Op.{shuffled, Loadop, Whole, Widen, Repeat, ZeroPad, loaded, laneIn, laneOut}
+use Rattle.operation.proofs.Laws.Number.{Bytes, length-le, bytes-le, bytes-append, bytes-set, fieldOf}
+use Rattle.operation.proofs.Laws.Build.{length-build, field-build, in-lanes}
+use Rattle.operation.proofs.Laws.Scan.{tally-lt}
 
 -- ---- a vector and its lanes
 
@@ -62,6 +64,17 @@ sixteen-vec w g = record { long = length-build (bytes w) (lanes w) g ∙ in-all 
 
 pub sixteen-le : (x : ℕ) → Sixteen (le 16 x)
 sixteen-le x = record { long = length-le 16 x; bytes = bytes-le 16 x }
+
+pub sixteen-set : (v : List ℕ) (i x : ℕ) → x < 2 ^ 8 → Sixteen v → Sixteen (set v i x)
+sixteen-set v i x f s = record { long = length-set v i x ∙ s .long; bytes = bytes-set v i x f (s .bytes) }
+
+pub sixteen-zeros : Sixteen (replicate 16 0)
+sixteen-zeros = record { long = refl; bytes = zeros 16 }
+  where
+    zeros : (n : ℕ) → Bytes (replicate n 0)
+    zeros zero k = record { fits = zero-lt-suc 255 }
+    zeros (suc n) zero = record { fits = zero-lt-suc 255 }
+    zeros (suc n) (suc k) = zeros n k
 
 pub sixteen-unary : (o : Unop) (a : List ℕ) → Sixteen (unary o a)
 sixteen-unary Not a = sixteen-le _
@@ -145,21 +158,3 @@ test-lt (Bitmask w) a = lt-of-lt-of-le (tally-lt (lanes w) _) (pow-mono (leb→l
 pub extracted-lt : (s : Sign) (w : Width) (a : List ℕ) (i : ℕ) → extracted s w a i < 2 ^ bits (unpack w)
 unfolding iextend
 extracted-lt s w a i = wrap-lt (unpack w) (value s w (lane w a i))
-
--- ---- answers with an index, where it is in range
-
-module _ (w : Width) (i : ℕ) (in-range : i < lanes w) where
-  pub scalar-value : {r : LaneAnswer} (x : ℕ) → r ≡ scalarIf (ltb i (lanes w)) x → r .value ≡ x
-  scalar-value x e = ap (λ (q : LaneAnswer). q .value) e ∙ rw (lt-ltb i (lanes w) in-range)
-
-  pub vector-value : {r : VectorAnswer} (v : List ℕ) → r ≡ vectorIf (ltb i (lanes w)) v → r .value .bytes ≡ v
-  vector-value v e = ap (λ (q : VectorAnswer). q .value .bytes) e ∙ rw (lt-ltb i (lanes w) in-range)
-
-all-of : (n : ℕ) (P : ℕ → Bool) → ((k : ℕ) → k < n → P k ≡ true) → all n P ≡ true
-all-of zero P h = refl
-all-of (suc n) P h = ap₂ _&&_ (h n (omega arith)) (all-of n P (λ k l. h k (omega arith)))
-
--- all sixteen are
-pub shuffle-value : (a b s : List ℕ) {r : VectorAnswer} → ((k : ℕ) → k < 16 → lane i8x16 s k < 32) → r ≡ shuffle a b s → r .value .bytes ≡ shuffled a b s
-shuffle-value a b s h e =
-    ap (λ (q : VectorAnswer). q .value .bytes) e ∙ rw (all-of 16 (λ n. ltb (lane i8x16 s n) 32) (λ k l. lt-ltb (lane i8x16 s k) 32 (h k l)))
