@@ -1,12 +1,12 @@
--- Of any bytes the program prints one text, and the buffer that it lends for the results is always the one that the strip asks for.
-use Prim.Native.Nat.{ℕ, _*_}
+-- Of any bytes the program prints one text. The memory that it lends is within the limit, and the buffer for the results is always the one that the strip asks for.
+use Prim.Native.Nat.{ℕ, _*_, _≤_}
 use mathlib.Core.Path.{_≡_, ap, ap₂, sym, _∙_, subst}
 use mathlib.Core.List.{List, [], _∷_, _++_}
 use native.Mathlib.Omega.{arith}
-use lib.ListN.{take, length-replicate}
+use lib.ListN.{length, take, length-replicate}
 use denote.Ref.{now}
 use Rattle.card.specs.declared.Answer.{Answer}
-use Rattle.limits.specs.Limits.{slot}
+use Rattle.limits.specs.Limits.{memoryLimit, slot}
 use Rattle.rules.specs.Strip.{Valid}
 use Rattle.rules.proofs.Onward.{declared}
 use Rattle.run.specs.Meter.{Left}
@@ -16,7 +16,7 @@ use Rattle.run.proofs.Unique.{runs-once}
 use Rattle.text.specs.Words.{blank, newline}
 use Rattle.text.proofs.Decimals.{decimal-once}
 use Rattle.gevurlat.specs.Text.{resultLines, Shown}
-use Rattle.gevurlat.specs.Program.{zeros, resultCount, PrintsFrom}
+use Rattle.gevurlat.specs.Program.{memoryBytes, zeros, resultCount, PrintsFrom}
 use Rattle.gevurlat.proofs.answer.answer.Reads as answer
 
 shown-once : {a : Answer} {results t u : List ℕ} → Shown a results t → Shown a results u → t ≡ u
@@ -36,6 +36,10 @@ prints-once {u = u} p q =
 -- of the function's own contract
 pub one-text : (κs : _) (a : _) (e e′ : _) (r r′ : ℕ) → answer.Post κs a r e → answer.Post κs a r′ e′ → take r (now (e .1 .0)) ≡ take r′ (now (e′ .1 .0))
 one-text κs a e e′ r r′ p q = prints-once (p .1) (q .1)
+
+pub memory-fits : length (zeros memoryBytes) ≤ memoryLimit
+unfolding zeros
+memory-fits = omega (arith, length-replicate memoryBytes 0)
 
 pub buffer-fits : {s : List ℕ} (v : Valid s) → Slots (v .header .results) (zeros (slot * resultCount s))
 unfolding zeros

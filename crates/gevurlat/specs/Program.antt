@@ -2,13 +2,17 @@
 use Prim.Native.Nat.{ℕ, _*_, min}
 use mathlib.Core.List.{List, []}
 use lib.ListN.{getD, replicate}
-use Rattle.limits.specs.Limits.{memoryLimit, resultLimit, slot}
+use Rattle.limits.specs.Limits.{resultLimit, slot}
 use Rattle.run.specs.Meter.{Left}
 use Rattle.run.specs.Run.{Runs}
 use Rattle.gevurlat.specs.Text.{Shown}
 
 abbrev pub budget : ℕ
 budget = 1000000
+
+-- the memory's bytes: the program's own number, which does not move with the limit
+abbrev pub memoryBytes : ℕ
+memoryBytes = 65536
 
 unfoldable pub zeros : ℕ → List ℕ
 zeros n = replicate n 0
@@ -24,4 +28,4 @@ pub record PrintsFrom (s memory results text : List ℕ) : Type 0 where
   pub shown : Shown (left .answer) (left .results) text
 
 abbrev pub Prints : List ℕ → List ℕ → Type 0
-Prints s text = PrintsFrom s (zeros memoryLimit) (zeros (slot * resultCount s)) text
+Prints s text = PrintsFrom s (zeros memoryBytes) (zeros (slot * resultCount s)) text

@@ -8,6 +8,9 @@ use crate::ascii::show;
 
 const BUDGET: u32 = 1000000;
 
+// The memory's bytes: the program's own number, which does not move with the limit.
+const MEMORY: usize = 65536;
+
 // Room for three numbers of at most twenty digits and a byte after each, and for three bytes for each of the results' 64: a line of 33 for sixteen is less.
 pub(crate) const LONGEST: usize = 255;
 
@@ -16,7 +19,7 @@ pub(crate) fn answer(strip: &[u8], out: &mut [u8]) -> usize
     ensures { λ r. ⌜ Counts r (now (out .exit)) ⌝ }
     ensures { λ r. ⌜ Prints (now (strip .entry)) (take r (now (out .exit))) ⌝ }
 {
-    let mut mem = [0u8; limits::MEMORY];
+    let mut mem = [0u8; MEMORY];
     let mut results = [0u8; limits::SLOT * limits::RESULTS];
     let n = limits::SLOT * result_count(strip);
     answer_in(strip, &mut mem, &mut results[..n], out)

@@ -1,14 +1,15 @@
 -- Bytes written one after the other, and what the encoder's loops leave.
-use Prim.Native.Nat.{ℕ, suc, _+_, _<_, _≤_}
+use Prim.Native.Nat.{ℕ, _+_, _<_, _≤_}
 use mathlib.Core.Bool.{Bool, true, false}
 use mathlib.Core.List.{List, [], _∷_, _++_, append-assoc, append-nil}
 use mathlib.Core.Path.{_≡_, refl, sym, ap, subst, _∙_}
-use native.Mathlib.Nat.{add-zero, add-suc, suc-add}
+use native.Mathlib.Nat.{add-zero}
 use native.Mathlib.Numerals.{add-one}
 use native.Mathlib.Omega.{arith}
-use lib.ListN.{length, getD, drop, set, length-set, drop-of-length-le, length-append}
-use lib.Seq.{sets, drop-cons}
+use lib.ListN.{length, getD, drop, drop-of-length-le, length-append}
+use lib.Seq.{drop-cons}
 use borrow.Author.Tests.{lt-ltb, le-ltb, eq-eqb, ne-eqb}
+use Rattle.buffer.proofs.Writing.{sets-append}
 use Rattle.leb128.specs.Shortest.{bytesOf}
 use Rattle.leb128.specs.Promise.{WritesNumber}
 use Rattle.leb128.specs.declared.write.Wrote.{Wrote}
@@ -18,12 +19,6 @@ use Rattle.opcode.specs.Table.{PREFIX}
 use Rattle.instr.specs.Layout.{Field, opcodeFields}
 use Rattle.instr.specs.Encode.{shortestBytes, written, allBelow}
 use Rattle.instr.specs.Inner.Steps.{Put}
-
-sets-append : (xs l ys : List ℕ) (i : ℕ) → sets (sets l i xs) (i + length xs) ys ≡ sets l i (xs ++ ys)
-sets-append [] l ys i = ap (λ (k : ℕ). sets l k ys) (add-zero i)
-sets-append (x ∷ xs) l ys i =
-    ap (λ (k : ℕ). sets (sets (set l i x) (suc i) xs) k ys) (add-suc i (length xs) ∙ sym (suc-add i (length xs)))
-    ∙ sets-append xs (set l i x) ys (suc i)
 
 -- nothing; and one thing after another
 pub put-none : (out : List ℕ) (at : ℕ) → Put out at [] at out
@@ -53,37 +48,6 @@ opcode-vector b n e = rw (eq-eqb b PREFIX e) (ap (λ (l : List ℕ). b ∷ l) (a
 
 pub opcode-plain : (b n : ℕ) → (b ≡ PREFIX → ⊥) → written (opcodeFields b n) ≡ b ∷ []
 opcode-plain b n e = rw (ne-eqb b PREFIX e)
-
--- j of sixteen bytes are written
-pub record Putting (out₀ : List ℕ) (at : ℕ) (a out : List ℕ) (j : ℕ) : Type 0 where
-  pub fits : at + 16 ≤ length out₀
-  pub all : length a ≡ 16
-  pub most : j ≤ 16
-  pub same : sets out (at + j) (drop j a) ≡ sets out₀ at a
-  pub long : length out ≡ length out₀
-
-pub puts : (out : List ℕ) (at : ℕ) (a : List ℕ) → at + 16 ≤ length out → length a ≡ 16 → Putting out at a out 0
-puts out at a h l =
-    record { fits = h; all = l; most = omega arith; same = ap (λ (k : ℕ). sets out k a) (add-zero at); long = refl }
-
-module _ {out₀ : List ℕ} {at : ℕ} {a out : List ℕ} {j : ℕ} (w : Putting out₀ at a out j) where
-  pub puts-on : j < 16 → Putting out₀ at a (set out (at + j) (getD a j 0)) (j + 1)
-  puts-on h =
-      let e : at + (j + 1) ≡ suc (at + j) = omega arith in
-      record {
-        fits = w .fits;
-        all = w .all;
-        most = omega arith;
-        same = rw (e, add-one) (rw (drop-cons a j 0 (omega (arith, w .all))) at (w .same));
-        long = length-set out (at + j) (getD a j 0) ∙ w .long;
-      }
-
-  pub put-all : 16 ≤ j → Put out₀ at a (at + 16) out
-  put-all h =
-      record {
-        to = ap (λ (n : ℕ). at + n) (sym (w .all));
-        bytes = rw (drop-of-length-le a {i = j} (omega (arith, w .all))) at (w .same);
-      }
 
 -- j of sixteen indices are below 32
 module _ (a : List ℕ) (j : ℕ) (l : length a ≡ 16) (e : allBelow 32 a ≡ allBelow 32 (drop j a)) where

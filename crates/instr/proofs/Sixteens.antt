@@ -1,15 +1,12 @@
--- The scan of sixteen shuffle indices, and the copy of sixteen bytes.
+-- The scan of sixteen shuffle indices.
 use Prim.Native.Nat.{ℕ, suc, _+_, _-_, _<_, _≤_}
-use mathlib.Core.List.{List, append-nil}
+use mathlib.Core.List.{List}
 use mathlib.Core.Logic.{inl, inr, ⊎-elim}
 use mathlib.Core.Path.{_≡_, sym, ap, ap₂, _∙_}
-use native.Mathlib.Nat.{zero-add, add-zero}
-use native.Mathlib.Numerals.{add-one}
+use native.Mathlib.Nat.{add-zero}
 use native.Mathlib.Omega.{arith}
-use lib.ListN.{length, getD, take, drop, set, length-drop}
-use lib.Seq.{paste, paste-suc, getD-drop}
+use lib.ListN.{length, getD}
 use Rattle.card.specs.Card.{SHORT, LANE}
-use Rattle.instr.specs.Layout.{zeros}
 use Rattle.instr.specs.Decode.{got, no, lanesAt}
 use Rattle.instr.specs.Inner.Steps.{GoodUpTo}
 use Rattle.instr.proofs.Items.{lane-good, lane-bad, lane-cut}
@@ -64,19 +61,3 @@ module _ {s : List ℕ} {p k : ℕ} (w : GoodUpTo s p k) where
   pub scanned-cut : k < 16 → length s ≤ p + k → lanesAt 16 s p ≡ no SHORT (length s)
   unfolding lanesAt
   scanned-cut h l = step s p k (w .same) h ∙ rw (lane-cut s (p + k) 32 l)
-
--- i of the sixteen bytes are copied
-abbrev pub copied : List ℕ → ℕ → ℕ → List ℕ
-copied s at i = paste zeros 0 (drop at s) i
-
-module _ (s : List ℕ) (at i : ℕ) (h : at + 16 ≤ length s) where
-  pub copy-more : (a : List ℕ) → i < 16 → a ≡ copied s at i → set a i (getD s (at + i) 0) ≡ copied s at (i + 1)
-  copy-more a l e =
-      let k = length-drop at s in
-      let q = paste-suc zeros 0 (drop at s) i 0 (omega arith) (omega arith) in
-      rw (e, add-one) (simp (zero-add, getD-drop) (simp (zero-add, getD-drop) at q))
-
-  pub copy-ends : (a : List ℕ) → 16 ≤ i → i ≤ 16 → a ≡ copied s at i → a ≡ take 16 (drop at s)
-  copy-ends a l m e =
-      let z : i ≡ 16 = omega arith in
-      e ∙ ap (copied s at) z ∙ append-nil (take 16 (drop at s))

@@ -244,10 +244,5 @@ fn put_bytes(out: &mut [u8], at: usize, a: [u8; 16]) -> usize
     requires { ⌜ at + 16 ≤ length (now out) ⌝ }
     ensures { λ r. ⌜ Put (now (out .entry)) at a r (now (out .exit)) ⌝ }
 {
-    let mut j: usize = 0;
-    while j < 16 {
-        out[at + j] = a[j];
-        j = j + 1;
-    }
-    at + 16
+    at + bytes::copy(&a, &mut out[at..])
 }

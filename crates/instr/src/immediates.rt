@@ -183,10 +183,7 @@ fn sixteen(s: &[u8], p: usize) -> [u8; 16]
     ensures { λ r. ⌜ r ≡ take 16 (drop p (now (s .entry))) ⌝ }
 {
     let mut a = [0u8; 16];
-    let mut i: usize = 0;
-    while i < 16 {
-        a[i] = s[p + i];
-        i = i + 1;
-    }
+    let end = p + 16;
+    bytes::copy(&s[p..end], &mut a);
     a
 }

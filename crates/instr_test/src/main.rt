@@ -404,7 +404,7 @@ fn small(
         &mut out,
     );
     answer(e.code, e.place, e.len);
-    hex(&out);
+    hexadecimal::print(&out);
     end_line();
 }
 
@@ -413,7 +413,7 @@ fn judged(version: u16, first: u8, number: u32, align: u32, lane: u8, block: u8)
     let mut out = [0xEEu8; 1];
     let e = instr::encode(version, any(first, number, align, lane, block), &mut out);
     answer(e.code, e.place, e.len);
-    hex(&out);
+    hexadecimal::print(&out);
     end_line();
 }
 
@@ -483,14 +483,14 @@ fn fetched(f: Fetched) {
 
 fn sixteen(i: Instr) {
     let b = i.bytes;
-    hex(&b);
+    hexadecimal::print(&b);
 }
 
 fn written(version: u16, i: Instr) {
     let mut out = [0xEEu8; 24];
     let e = instr::encode(version, i, &mut out);
     answer(e.code, e.place, e.len);
-    hex(&out);
+    hexadecimal::print(&out);
     end_line();
 }
 
@@ -503,14 +503,6 @@ fn answer(code: u8, place: usize, len: usize) {
 fn decimal(n: u64) {
     io::print_decimal(STDOUT_FILENO, n);
     io::write_all(STDOUT_FILENO, b" ");
-}
-
-fn hex(s: &[u8]) {
-    let mut i: usize = 0;
-    while i < s.len() {
-        io::print_hex(STDOUT_FILENO, s[i] as u64, 2);
-        i = i + 1;
-    }
 }
 
 fn end_line() {

@@ -182,11 +182,7 @@ fn counted(n: usize) {
 }
 
 fn shown(s: &[u8]) {
-    let mut i = 0;
-    while i < s.len() {
-        io::print_hex(STDOUT_FILENO, s[i] as u64, 2);
-        i += 1;
-    }
+    hexadecimal::print(s);
     end_line();
 }
 

@@ -7,7 +7,8 @@ use lib.ListN.{length, take, length-append}
 use lib.Seq.{sets}
 use Rattle.limits.specs.Limits.{fileLimit, stackLimit, nestLimit}
 use Rattle.text.specs.Append.{Appends}
-use Rattle.text.proofs.Appending.{appended, length-kept, sets-append}
+use Rattle.buffer.proofs.Writing.{sets-append}
+use Rattle.text.proofs.Appending.{appended, length-kept}
 use Rattle.instr.specs.declared.Instr.{Instr}
 use Rattle.instr.specs.Layout.{Stands}
 use Rattle.instr.proofs.Stands.{stands-once}
@@ -133,7 +134,7 @@ module _ {s out₀ out kinds blocks text : List ℕ} {state : State} {at to : �
           same = λ h.
               let put = appended a (omega (arith, p .ends, p .long, sum)) in
               ap₂ (λ (x : List ℕ) (k : ℕ). sets x (to + k) (head .rest)) (put .1) (w .len)
-              ∙ sets-append told (head .rest) out to
+              ∙ sets-append told out (head .rest) to
               ∙ ap (sets out to) (sym left-is)
               ∙ p .same h;
           long = length-kept a ∙ p .long;

@@ -1,13 +1,11 @@
 -- The code's blocks: rows of 32 bytes, each a name and blanks.
-use Prim.Native.Nat.{ℕ, zero, suc, _+_, _*_, _/_, _%_, _≤_, _<_}
+use Prim.Native.Nat.{ℕ, zero, suc, _+_, _*_, _/_, _%_, _<_}
 use Prim.Native.String.{String}
 use mathlib.Core.Path.{_≡_, ap, _∙_}
-use mathlib.Core.List.{List, [], _∷_, _++_, append-nil, map}
-use native.Mathlib.Nat.{zero-add}
-use native.Mathlib.Numerals.{add-one}
+use mathlib.Core.List.{List, [], _∷_, _++_, map}
 use native.Mathlib.Omega.{arith}
-use lib.ListN.{length, getD, take, drop, set, length-drop, drop-of-length-le}
-use lib.Seq.{paste, paste-suc, take-at, drop-append-add, getD-drop}
+use lib.ListN.{length, getD, take, drop}
+use lib.Seq.{take-at, drop-append-add}
 use Rattle.opcode.specs.Ascii.{ascii}
 use Rattle.opcode.specs.Number.{nameOf}
 use Rattle.opcode.specs.Lists.{upFrom}
@@ -45,21 +43,3 @@ pub read : (id : ℕ) {r : ℕ} → r ≡ rowOfName id → row (r % 16) (block (
 read id {r} is =
     let whole : 16 * (r / 16) + r % 16 ≡ r = omega arith in
     in-row (r / 16) (r % 16) (omega arith) ∙ ap padded (ap rowName (whole ∙ is) ∙ name-in-row id)
-
--- ---- the loop that copies a row, of which k bytes are done
-
-abbrev pub copied : List ℕ → List ℕ → ℕ → ℕ → List ℕ
-copied names out n k = paste out 0 (drop (n * 32) names) k
-
-module _ (names out : List ℕ) (n : ℕ) (l : n < 16) (long : length names ≡ 512) (wide : length out ≡ 32) (k : ℕ) where
-  pub copy-more : (a : List ℕ) → k < 32 → a ≡ copied names out n k → set a k (getD names (n * 32 + k) 0) ≡ copied names out n (k + 1)
-  copy-more a h e =
-      let left = length-drop (n * 32) names in
-      let q = paste-suc out 0 (drop (n * 32) names) k 0 (omega arith) (omega arith) in
-      rw (e, add-one) (simp zero-add (simp (zero-add, getD-drop) at q))
-
-  pub copy-ends : (a : List ℕ) → 32 ≤ k → k ≤ 32 → a ≡ copied names out n k → a ≡ row n names
-  unfolding row
-  copy-ends a h m e =
-      let last : k ≡ 32 = omega arith in
-      e ∙ ap (copied names out n) last ∙ ap (λ (r : List ℕ). take 32 (drop (n * 32) names) ++ r) (drop-of-length-le out {i = 32} (omega arith)) ∙ append-nil (take 32 (drop (n * 32) names))

@@ -11,11 +11,8 @@ fn copy(names: &[u8], n: usize, out: &mut [u8; 32])
     ensures { λ r. ⌜ now (out .exit) ≡ row n (now (names .entry)) ⌝ }
 {
     let from = n * 32;
-    let mut k: usize = 0;
-    while k < 32 {
-        out[k] = names[from + k];
-        k += 1;
-    }
+    let to = from + 32;
+    bytes::copy(&names[from..to], out);
 }
 
 // FD's numbers from 00 on, from 10 on, and so forth.

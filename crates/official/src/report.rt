@@ -24,7 +24,7 @@ pub(crate) fn report(s: &[u8], at: usize, got: Got)
     answer(b"    run", got.answer);
     let results = got.results;
     io::write_all(STDOUT_FILENO, b"    results ");
-    hex(&results);
+    hexadecimal::print(&results);
     io::write_all(STDOUT_FILENO, b"\n");
 }
 
@@ -39,16 +39,4 @@ fn answer(what: &[u8], a: Answer) {
 fn number(n: u64) {
     io::write_all(STDOUT_FILENO, b" ");
     io::print_decimal(STDOUT_FILENO, n);
-}
-
-fn hex(s: &[u8]) {
-    let mut i = 0;
-    while i < s.len() {
-        io::print_hex(STDOUT_FILENO, wide(s[i]), 2);
-        i += 1;
-    }
-}
-
-fn wide(x: u8) -> u64 {
-    x as u64
 }

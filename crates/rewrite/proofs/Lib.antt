@@ -4,7 +4,6 @@ pub mod Unique
 -- What these and the functions' proofs lean on.
 pub mod Again
 pub mod Least
-pub mod Copying
 pub mod Puts
 pub mod Passing
 pub mod Room

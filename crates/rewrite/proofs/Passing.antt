@@ -22,7 +22,8 @@ use Rattle.rules.specs.Header.{Version}
 use Rattle.rules.specs.Consists.{Instructions, no-more, one-more}
 use Rattle.rewrite.specs.Rewrite.{encodings}
 use Rattle.rewrite.specs.Inner.Pass.{put, AtPass, Passed}
-use Rattle.rewrite.proofs.Puts.{put-append, length-put, part-sets}
+use Rattle.buffer.proofs.Writing.{part-sets}
+use Rattle.rewrite.proofs.Puts.{put-append, length-put}
 
 pub record Passing (ver : ℕ) (s : List ℕ) (start : ℕ) (writing : Bool) (out₀ out : List ℕ) (at to : ℕ) : Type 0 where
   pub versioned : Version ver

@@ -5,7 +5,7 @@ use mathlib.Core.Path.{_≡_, sym, ap, ap₂, subst, _∙_}
 use mathlib.Core.List.{List, _++_}
 use native.Mathlib.Omega.{arith}
 use lib.ListN.{length, getD, take, drop, length-append, length-drop}
-use lib.Seq.{sets, sets-eq, take-append-seam, drop-append-add, drop-drop}
+use lib.Seq.{sets, sets-eq, length-take-le, take-append-seam, drop-append-add, drop-drop}
 use Rattle.card.specs.Card.{DONE, SMALL}
 use Rattle.instr.specs.declared.Instr.{Instr}
 use Rattle.rules.specs.Header.{Version, Header, Declares, headerBytes}
@@ -15,6 +15,7 @@ use Rattle.rules.specs.Consists.{Instructions}
 use Rattle.rewrite.specs.Rewrite.{encodings, shortest, answer, Rewrites, refused, small, done}
 use Rattle.rewrite.specs.Inner.Pass.{AtPass, Passed}
 use Rattle.rewrite.specs.declared.Rewritten.{Rewritten}
+use Rattle.buffer.proofs.Writing.{front-copied}
 use Rattle.rules.proofs.Strips.{instructions-once, instrs, valid-holds, header-inside}
 
 pub is-refused : {s out : List ℕ} {c l : ℕ} {r : Rewritten} → Breach s c l → r ≡ answer c l 0 → Rewrites s out r out
@@ -64,19 +65,22 @@ module _ {s : List ℕ} (v : Valid s) {ver start : ℕ} (vs : ver ≡ getD s 3 0
     too-small l e = rw (e, p .bytes) (small v (valid-holds v) (omega (arith, l, len-is, ap length (p .bytes))))
 
     module _ (l : len ≤ length out₁) where
-      pub header-fits : (start ≤ length s) × (start ≤ length out₁)
-      header-fits = (
-        omega (arith, begin, header-inside (valid-holds v .declares)),
-        omega (arith, l, begin, len-is, length-append hb body),
-      )
+      inside : start ≤ length s
+      inside = omega (arith, begin, header-inside (valid-holds v .declares))
+
+      pub header-long : start ≡ length (take start s)
+      header-long = sym (length-take-le start s inside)
+
+      pub header-fits : length (take start s) ≤ length out₁
+      header-fits = omega (arith, header-long, l, begin, len-is, length-append hb body)
 
       -- the header is copied
-      module _ {out₂ : List ℕ} (c : out₂ ≡ take start s ++ drop start out₁) where
+      module _ {out₂ : List ℕ} (c : out₂ ≡ take (length (take start s)) (take start s) ++ drop (length (take start s)) out₁) where
         copied : out₂ ≡ hb ++ drop (length hb) out
         copied =
             let d = valid-holds v .declares in
             let x : take start s ≡ hb = ap₂ take begin (d .bytes) ∙ take-append-seam hb (d .body) in
-            c ∙ ap₂ _++_ x (ap₂ drop begin (p .bytes))
+            c ∙ front-copied s out₁ start inside ∙ ap₂ _++_ x (ap₂ drop begin (p .bytes))
 
         pub ready-to-write : AtPass ver s start true (length out₂)
         ready-to-write =

@@ -1,8 +1,6 @@
 // The rewriter: the same strip, every number in its shortest form.
-ghost use Prim.Native.Nat.{_≤_};
 ghost use mathlib.Core.Path.{_≡_};
-ghost use mathlib.Core.List.{_++_};
-ghost use lib.ListN.{length, take, drop};
+ghost use lib.ListN.{length};
 ghost use Rattle.rules.specs.Strip.{Valid};
 ghost use Rattle.rewrite.specs.Rewrite.{answer, Rewrites};
 ghost use Rattle.rewrite.specs.Inner.Pass.{AtPass, Passed};
@@ -34,7 +32,7 @@ fn shorten(strip: &[u8], out: &mut [u8]) -> Rewritten
     if out.len() < len {
         return refused(card::SMALL, 0);
     }
-    copy(strip, start, out);
+    bytes::copy(&strip[..start], out);
     pass(version, strip, start, out, true);
     Rewritten {
         code: card::DONE,
@@ -50,18 +48,6 @@ fn refused(code: u8, place: usize) -> Rewritten
         code,
         place,
         len: 0,
-    }
-}
-
-// The first n bytes.
-fn copy(strip: &[u8], n: usize, out: &mut [u8])
-    requires { ⌜ (n ≤ length (now strip)) × (n ≤ length (now out)) ⌝ }
-    ensures { λ r. ⌜ now (out .exit) ≡ take n (now (strip .entry)) ++ drop n (now (out .entry)) ⌝ }
-{
-    let mut j: usize = 0;
-    while j < n {
-        out[j] = strip[j];
-        j = j + 1;
     }
 }
 

@@ -89,19 +89,11 @@ fn row(code: u8, place: usize, len: usize, out: &[u8]) {
     decimal(code as u64);
     decimal(place as u64);
     decimal(len as u64);
-    hex(out);
+    hexadecimal::print(out);
     io::write_all(STDOUT_FILENO, b"\n");
 }
 
 fn decimal(n: u64) {
     io::print_decimal(STDOUT_FILENO, n);
     io::write_all(STDOUT_FILENO, b" ");
-}
-
-fn hex(s: &[u8]) {
-    let mut i: usize = 0;
-    while i < s.len() {
-        io::print_hex(STDOUT_FILENO, s[i] as u64, 2);
-        i = i + 1;
-    }
 }

@@ -1,5 +1,4 @@
 pub mod HeaderBytes
-pub mod Copying
 pub mod Form
 pub mod Upto
 pub mod Turning

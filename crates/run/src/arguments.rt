@@ -57,10 +57,6 @@ pub(crate) fn locals_of(args: &[u8], count: usize) -> Locals
     ensures { λ r. ⌜ (r .bytes ≡ stored (replicate localBytes 0) 0 (now (args .entry))) × (r .count ≡ count) ⌝ }
 {
     let mut bytes = [0u8; limits::LOCAL_BYTES];
-    let mut k: usize = 0;
-    while k < args.len() {
-        bytes[k] = args[k];
-        k += 1;
-    }
+    bytes::copy(args, &mut bytes);
     Locals { bytes, count }
 }

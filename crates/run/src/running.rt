@@ -140,9 +140,6 @@ fn put_results(stack: &[u8], from: usize, out: &mut [u8])
     ensures { λ r. ⌜ now (out .exit) ≡ part (length (now (out .entry))) (slot * from) (now (stack .entry)) ⌝ }
 {
     let first = limits::SLOT * from;
-    let mut k: usize = 0;
-    while k < out.len() {
-        out[k] = stack[first + k];
-        k += 1;
-    }
+    let end = first + out.len();
+    bytes::copy(&stack[first..end], out);
 }

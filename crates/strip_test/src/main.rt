@@ -158,7 +158,7 @@ fn changes(mem: &[u8]) {
                 io::print_decimal(STDOUT_FILENO, i as u64);
                 io::write_all(STDOUT_FILENO, b":");
             }
-            hex_byte(mem[i]);
+            hexadecimal::print_byte(mem[i]);
         }
         inside = changed;
         i += 1;
@@ -186,15 +186,7 @@ fn hex(s: &[u8]) {
     if 0 < s.len() {
         blank();
     }
-    let mut i = 0;
-    while i < s.len() {
-        hex_byte(s[i]);
-        i += 1;
-    }
-}
-
-fn hex_byte(b: u8) {
-    io::print_hex(STDOUT_FILENO, b as u64, 2);
+    hexadecimal::print(s);
 }
 
 fn blank() {

@@ -1,11 +1,12 @@
 -- Laws of `Appends`, for callers.
-use Prim.Native.Nat.{ℕ, suc, _+_, _≤_, _<_}
+use Prim.Native.Nat.{ℕ, _+_, _≤_, _<_}
 use mathlib.Core.Path.{_≡_, refl, ap, sym, _∙_, subst}
 use mathlib.Core.List.{List, [], _∷_, _++_}
 use native.Mathlib.Omega.{arith}
 use native.Mathlib.Numerals.{add-one}
-use lib.ListN.{length, take, drop, getD, set, length-append}
+use lib.ListN.{length, take, drop, getD, length-append}
 use lib.Seq.{sets, length-sets, sets-eq, length-take-le, take-suc, take-at}
+use Rattle.buffer.proofs.Writing.{sets-append}
 use Rattle.text.specs.Append.{Appends, fits, no-room}
 
 pub appended : {xs out out′ : List ℕ} {at n : ℕ} → Appends xs out at n out′ → at + length xs ≤ length out → (n ≡ at + length xs) × (out′ ≡ sets out at xs)
@@ -32,12 +33,6 @@ with-room {xs} {out} {out′} {at} {n} room place made =
 
 -- ---- bytes after bytes
 
-pub sets-append : (xs ys out : List ℕ) (at : ℕ) → sets (sets out at xs) (at + length xs) ys ≡ sets out at (xs ++ ys)
-sets-append [] ys out at = ap (λ (k : ℕ). sets out k ys) (omega arith)
-sets-append (x ∷ xs) ys out at =
-    let e : at + suc (length xs) ≡ suc at + length xs = omega arith in
-    ap (λ (k : ℕ). sets (sets (set out at x) (suc at) xs) k ys) e ∙ sets-append xs ys (set out at x) (suc at)
-
 -- the text so far
 pub take-sets : (out : List ℕ) (at : ℕ) (xs : List ℕ) → at + length xs ≤ length out → take (at + length xs) (sets out at xs) ≡ take at out ++ xs
 take-sets out at xs h =
@@ -58,7 +53,7 @@ none-appended out at h = with-room (omega arith) (omega arith) refl
 pub both-appended : {xs ys out out′ out″ : List ℕ} {at m n : ℕ} → Appends xs out at m out′ → Appends ys out′ m n out″ → at + (length xs + length ys) ≤ length out
     → Appends (xs ++ ys) out at n out″
 both-appended {xs} {ys} {out} {at = at} (fits h) (fits k) room =
-    with-room (omega (arith, length-append xs ys)) (omega (arith, length-append xs ys)) (sets-append xs ys out at)
+    with-room (omega (arith, length-append xs ys)) (omega (arith, length-append xs ys)) (sets-append xs out ys at)
 both-appended {xs} {ys} {out} {at = at} (fits h) (no-room k) room = absurd (let none : ⊥ = omega (arith, length-sets out at xs) in none)
 both-appended (no-room h) q room = absurd (let none : ⊥ = omega arith in none)
 

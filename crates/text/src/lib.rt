@@ -24,12 +24,7 @@ pub fn put(bytes: &[u8], out: &mut [u8], at: usize) -> usize
     if out.len() - at < bytes.len() {
         return at;
     }
-    let mut i: usize = 0;
-    while i < bytes.len() {
-        out[at + i] = bytes[i];
-        i = i + 1;
-    }
-    at + i
+    at + bytes::copy(bytes, &mut out[at..])
 }
 
 pub fn decimal(n: u64, out: &mut [u8], at: usize) -> usize

@@ -1,60 +1,54 @@
--- The loop has written `j` bytes.
-use borrow.Author.Needs.{needs}
-use Prim.Native.Nat.{_-_}
+-- The copy has room.
+use Prim.Native.Nat.{ℕ, _+_}
+use mathlib.Core.Path.{_≡_, refl, ap}
 use native.Mathlib.Omega.{arith}
-use Rattle.instr.proofs.Sets.{Putting, puts, puts-on, put-all}
+use borrow.Author.Needs.{needs}
+use lib.ListN.{length}
+use Rattle.buffer.proofs.Writing.{part-copied}
 use Rattle.instr.proofs.encoding.put_bytes.Statement.{statement}
 use Rattle.instr.proofs.encoding.put_bytes.Tie as tie
 
-abbrev Inv-loop : tie.InvT-loop
-Inv-loop out₀ at a j₀ out j = Putting out₀ at a out j
+slice-aggregate-copy : tie.Need-slice-aggregate-copy
+slice-aggregate-copy c = search needs
 
-abbrev μ-loop : tie.MeasureT-loop
-μ-loop out₀ at a j₀ out j = 16 - j
+sub-copy : tie.Need-sub-copy
+sub-copy c = search needs
 
-loop-holds : tie.Need-loop-holds Inv-loop μ-loop
-loop-holds c = puts _ _ _ (c .pre) (search needs)
+part-copy-start : tie.Need-part-copy-start
+part-copy-start c = search needs
 
-array-read-out : tie.Need-array-read-out Inv-loop μ-loop
-array-read-out c = search needs
+part-copy-end : tie.Need-part-copy-end
+part-copy-end c = search needs
 
-add-out : tie.Need-add-out Inv-loop μ-loop
-add-out c = omega (arith, c .before .loop .inv .fits)
+copy-requires : tie.Need-copy-requires
+copy-requires c κs = search needs
 
-slice-write-out : tie.Need-slice-write-out Inv-loop μ-loop
-slice-write-out c = omega (arith, c .before .loop .inv .fits, c .before .loop .inv .long)
+add-result : tie.Need-add-result
+add-result c = search needs
 
-add-j : tie.Need-add-j Inv-loop μ-loop
-add-j c = search needs
+same-length : tie.Need-same-length
+same-length c = search needs
 
-loop-less : tie.Need-loop-less Inv-loop μ-loop
-loop-less c = search needs
-
-loop-again : tie.Need-loop-again Inv-loop μ-loop
-loop-again c = puts-on (c .before .loop .inv) (c .loop-test .taken)
-
-add-result : tie.Need-add-result Inv-loop μ-loop
-add-result c = omega (arith, c .before .loop .inv .fits)
-
-same-length : tie.Need-same-length Inv-loop μ-loop
-same-length c = c .before .loop .inv .long
-
-returns : tie.Need-returns Inv-loop μ-loop
-returns c = put-all (c .before .loop .inv) (c .loop-test .left)
+returns : tie.Need-returns
+returns c =
+    let start = c .before .before .before .before .before .before in
+    let a = start .args in
+    let e = c .before .before .copy .ensures in
+    let long : length (a .t3) ≡ 16 = search needs in
+    record {
+      to = ap (λ (n : ℕ). a .at + n) (e .0);
+      bytes = part-copied (a .out .now) (a .t3) (a .at) _ (omega (arith, start .pre)) refl (omega (arith, long, start .pre)) (e .1);
+    }
 
 pub put-bytes-spec : {M : Type 1} → statement M
 put-bytes-spec =
     tie.close
     (tie.spec
-    Inv-loop
-    μ-loop
-    loop-holds
-    array-read-out
-    add-out
-    slice-write-out
-    add-j
-    loop-less
-    loop-again
+    slice-aggregate-copy
+    sub-copy
+    part-copy-start
+    part-copy-end
+    copy-requires
     add-result
     same-length
     returns)

@@ -1,46 +1,49 @@
--- The first k bytes are copied.
-use Prim.Native.Nat.{ℕ, _-_, _≤_, _+_, _*_}
-use mathlib.Core.Path.{_≡_, ap, sym, _∙_}
+-- The results fill the buffer.
+use Prim.Native.Nat.{_*_}
+use mathlib.Core.Path.{refl}
 use native.Mathlib.Omega.{arith}
 use borrow.Author.Needs.{needs}
-use lib.ListN.{length, drop, set, length-set, length-drop}
-use lib.Seq.{paste, paste-zero, getD-drop}
-use Rattle.run.proofs.Copying.{copy-more, copy-part}
+use Rattle.limits.specs.Limits.{slot}
+use Rattle.buffer.proofs.Writing.{part-fills}
 use Rattle.run.proofs.running.put_results.Statement.{statement}
 use Rattle.run.proofs.running.put_results.Tie as tie
 
-abbrev Inv-loop : tie.InvT-loop
-Inv-loop stack from out₀ first k₀ out k = (k ≤ length out) × (length out ≡ length out₀) × (out ≡ paste out₀ 0 (drop first stack) k)
+mul-first : tie.Need-mul-first
+mul-first c = search needs
 
-abbrev μ-loop : tie.MeasureT-loop
-μ-loop stack from out₀ first k₀ out k = length out - k
+add-end : tie.Need-add-end
+add-end c = search needs
 
-mul-first : tie.Need-mul-first Inv-loop μ-loop
-mul-first c = omega arith
+sub-copy : tie.Need-sub-copy
+sub-copy c = search needs
 
-loop-holds : tie.Need-loop-holds Inv-loop μ-loop
-loop-holds c = (search needs, search needs, paste-zero (c .args .out .now) 0 (drop (16 * c .args .from) (c .args .stack .now)))
+part-copy-start : tie.Need-part-copy-start
+part-copy-start c = search needs
 
-add-out : tie.Need-add-out Inv-loop μ-loop
-add-out c = omega arith
+part-copy-end : tie.Need-part-copy-end
+part-copy-end c = search needs
 
-shared-slice-read-out : tie.Need-shared-slice-read-out Inv-loop μ-loop
-shared-slice-read-out c = omega arith
+copy-requires : tie.Need-copy-requires
+copy-requires c κs = search needs
 
-loop-again : tie.Need-loop-again Inv-loop μ-loop
-loop-again c =
-    let a = c .before .before .before .args in let l = c .before .before .loop in (
-      simp length-set (omega arith),
-      simp length-set (omega arith),
-      ap (set (l .out) (l .k)) (sym (getD-drop (16 * a .from) (a .stack .now) (l .k) 0))
-          ∙ copy-more (a .out .now) (drop (16 * a .from) (a .stack .now)) (l .out) (l .k) (l .inv .2) (omega arith) (simp length-drop (omega arith)),
-    )
+same-length : tie.Need-same-length
+same-length c = search needs
 
-returns : tie.Need-returns Inv-loop μ-loop
+returns : tie.Need-returns
 returns c =
-    let a = c .before .before .args in let l = c .before .loop in
-    copy-part (a .out .now) (drop (16 * a .from) (a .stack .now)) (l .out) (l .k) (l .inv .2) (omega (arith, l .inv .0, l .inv .1, c .loop-test .left)) (simp length-drop (omega arith))
+    let start = c .before .before .before .before .before .before .before in
+    part-fills (start .args .stack .now) (start .args .out .now) (slot * start .args .from) _ _ refl (omega (arith, start .pre)) refl
+    (c .before .before .copy .ensures .1)
 
 pub put-results-spec : {M : Type 1} → statement M
 put-results-spec =
-    tie.close (tie.spec Inv-loop μ-loop mul-first loop-holds add-out shared-slice-read-out (λ c. search needs) (λ c. search needs) (λ c. simp length-set (omega arith)) loop-again (λ c. omega arith) returns)
+    tie.close
+    (tie.spec
+    mul-first
+    add-end
+    sub-copy
+    part-copy-start
+    part-copy-end
+    copy-requires
+    same-length
+    returns)

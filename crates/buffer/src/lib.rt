@@ -1,0 +1,1 @@
+// Bytes written to a buffer: laws that several crates' proofs cite. Proofs only.
