@@ -1,4 +1,5 @@
 pub mod Closing
 pub mod Standard
 pub mod Safety
+pub mod Exponents
 pub mod Inner
