@@ -57,7 +57,7 @@ holds-slots : {ks : List Kind} {args : List ℕ} {vs : List Value} → Arguments
 holds-slots {vs = vs} a = ap length (a .bytes) ∙ all-long vs (a .range) ∙ ap (λ (n : ℕ). slot * n) (sym (length-map vs kindOf) ∙ ap length (a .kinds))
 
 -- a strip that keeps the rules has one header
-header-once : {s : List ℕ} (v w : Valid s) → v .header ≡ w .header
+pub header-once : {s : List ℕ} (v w : Valid s) → v .header ≡ w .header
 header-once {s} v w = declares-once s (v .header) (w .header) (declared (v .reached)) (declared (w .reached))
 
 -- ---- the questions in order: the first that is not answered well is one, and it settles what is left

@@ -35,7 +35,7 @@ types-alike e opens-loop = opens-loop
 types-alike e (closes x) = closes x
 
 module _ {s t : List ℕ} {h : Header} (r : Realigned s t h) where
-  reaches-too : {p : ℕ} {fs : List Frame} → Reaches s h p fs → Reaches t h p fs
+  pub reaches-too : {p : ℕ} {fs : List Frame} → Reaches s h p fs → Reaches t h p fs
   reaches-too (front d) = front (r .declares)
   reaches-too (past reached q x w) = let there = r .reads reached q in past (reaches-too reached) (there .1) (types-alike (there .0) x) w
 
@@ -44,7 +44,7 @@ module _ {s t : List ℕ} (v : Valid s) (r : Realigned s t (v .header)) where
   h = v .header
 
   -- what keeps the rules keeps them
-  pub valid-too : Valid t
+  abbrev pub valid-too : Valid t
   valid-too =
       let there = r .reads (v .reached) (v .ends) in
       record {
