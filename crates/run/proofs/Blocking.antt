@@ -37,7 +37,8 @@ use Rattle.run.proofs.Marking.{count-under, rep-under, rep-same, part-b
 use Rattle.run.proofs.Leading.{sound-of, ended-many}
 
 -- of those that are no ordinary instructions, the ones that are left
-branching : (k : Code) → turnsAt (groupOfCode k) ≡ true → (groupOfCode k ≡ 0 → ⊥) → (groupOfCode k ≡ 25 → ⊥) → (groupOfCode k ≡ 26 → ⊥) → (k ≡ control Br) ⊎ (k ≡ control BrIf)
+branching : (k : Code) → turnsAt (groupOfCode k) ≡ true → (groupOfCode k ≡ 0 → ⊥) → (groupOfCode k ≡ 25 → ⊥) → (groupOfCode k ≡ 26 → ⊥)
+    → (k ≡ control Br) ⊎ (k ≡ control BrIf)
 branching (control Br) t a b c = inl refl
 branching (control BrIf) t a b c = inr refl
 branching (control Block) t a b c = absurd (b refl)
@@ -79,7 +80,8 @@ block-few b = by (eqb b 0x40) (eqb b (kindByte i32)) (eqb b (kindByte i64)) (eqb
     by false false false false = omega arith
 
 -- the strip's `end`, not stuck
-ended-by : {s : List ℕ} {h : Header} {b : Config} (c : Config) (n : ℕ) (t : Bool) (vs : List Value) → Safe s h b (after c n (cond t (done vs) stuck)) → after c n (cond t (done vs) stuck) ≡ ended vs (c .state .memory)
+ended-by : {s : List ℕ} {h : Header} {b : Config} (c : Config) (n : ℕ) (t : Bool) (vs : List Value) → Safe s h b (after c n (cond t (done vs) stuck))
+    → after c n (cond t (done vs) stuck) ≡ ended vs (c .state .memory)
 ended-by c n true vs safe = refl
 ended-by c n false vs safe = absurd (safe-unhalted safe refl)
 
@@ -164,7 +166,9 @@ module _ {s : List ℕ} (v : Valid s) {c : Config} {at depth nest : ℕ} {stack 
     entered = record { place = c .place + len; state = withStack σ []; labels = label ∷ c .labels }
 
     few : nest < nestLimit
-    few = omega (arith, C .many, ltb-true (length (c .labels)) nestLimit (unhalted-if {s = s} {h = h} {b = c} (ltb (length (c .labels)) nestLimit) (going entered) (safe e)))
+    few =
+        let room = unhalted-if {s = s} {h = h} {b = c} (ltb (length (c .labels)) nestLimit) (going entered) (safe e) in
+        omega (arith, C .many, ltb-true (length (c .labels)) nestLimit room)
 
     enters : {way : ℕ} {marks′ : List ℕ} → way ≡ wayOf label → marks′ ≡ set (set (set marks (3 * nest) depth) (3 * nest + 1) way) (3 * nest + 2) (at + len)
         → Led s h (step s h c) (at + len) depth (nest + 1) stack marks′ locals mem
@@ -191,7 +195,8 @@ module _ {s : List ℕ} (v : Valid s) {c : Config} {at depth nest : ℕ} {stack 
     pub room-for-block : (nest < nestLimit) × (length marks ≡ 3 * nestLimit + 1)
     room-for-block = (few false block-step, C .marks-long)
 
-    pub block-begins : {way : ℕ} {marks′ : List ℕ} → way ≡ length (blockResults block) → marks′ ≡ set (set (set marks (3 * nest) depth) (3 * nest + 1) way) (3 * nest + 2) (at + len)
+    pub block-begins : {way : ℕ} {marks′ : List ℕ} → way ≡ length (blockResults block)
+        → marks′ ≡ set (set (set marks (3 * nest) depth) (3 * nest + 1) way) (3 * nest + 2) (at + len)
         → Led s h (step s h c) (at + len) depth (nest + 1) stack marks′ locals mem
     block-begins w m = enters false block-step (w ∙ ap (λ (x : ℕ). length (blockResults x)) (S .block-is)) m
 

@@ -1,4 +1,4 @@
--- ALIGNED ACCESS EARNS NO DIFFERENT ANSWER, of the run: two strips that differ in alignment exponents at most, allowed ones, are answered alike and leave the same.
+-- ALIGNED ACCESS EARNS NO DIFFERENT ANSWER, of the run: two strips that differ in alignment exponents at most are answered alike and leave the same.
 use Prim.Native.Nat.{ℕ, zero, suc}
 use mathlib.Core.Path.{_≡_, refl, ap, sym, _∙_, subst}
 use mathlib.Core.List.{List}
@@ -25,7 +25,8 @@ module _ {s t : List ℕ} (v : Valid s) (r : Realigned s t (v .header)) where
   unfolding meter
   realigned-meter zero n c out sound = refl
   realigned-meter (suc k) n c out sound =
-      ap (meterBy n c out (λ d. meter t h k (suc n) d out)) (realigned-step v r c sound) ∙ by (step s h c) (safe-step v c sound) (λ d there. realigned-meter k (suc n) d out there)
+      ap (meterBy n c out (λ d. meter t h k (suc n) d out)) (realigned-step v r c sound)
+      ∙ by (step s h c) (safe-step v c sound) (λ d there. realigned-meter k (suc n) d out there)
     where
       by : (g : Stage) → Safe s h c g → ((d : Config) → Sound s h d → meter t h k (suc n) d out ≡ meter s h k (suc n) d out)
           → meterBy n c out (λ d. meter t h k (suc n) d out) g ≡ meterBy n c out (λ d. meter s h k (suc n) d out) g
@@ -37,11 +38,14 @@ module _ {s t : List ℕ} (v : Valid s) (r : Realigned s t (v .header)) where
     answered-too : {x : Left} → Runs s args mem out budget x → Runs t args mem out budget x
     answered-too (refused (breaks b)) = absurd (valid-no-breach v b)
     answered-too (refused (room w g)) = refused (room (valid-too v r) g)
-    answered-too (refused (arguments w l f)) = refused (arguments (valid-too v r) l (subst (λ (x : Header). Slots (x .parameters) args → ⊥) (header-once w v) f))
+    answered-too (refused (arguments w l f)) =
+        refused (arguments (valid-too v r) l (subst (λ (x : Header). Slots (x .parameters) args → ⊥) (header-once w v) f))
     answered-too (refused (outsized w l a f)) =
-        refused (outsized (valid-too v r) l (subst (λ (x : Header). Slots (x .parameters) args) (header-once w v) a) (subst (λ (x : Header). Slots (x .results) out → ⊥) (header-once w v) f))
+        refused (outsized (valid-too v r) l (subst (λ (x : Header). Slots (x .parameters) args) (header-once w v) a)
+        (subst (λ (x : Header). Slots (x .results) out → ⊥) (header-once w v) f))
     answered-too (refused (malformed w l a o f)) =
-        refused (malformed (valid-too v r) l (subst (λ (x : Header). Slots (x .parameters) args) (header-once w v) a) (subst (λ (x : Header). Slots (x .results) out) (header-once w v) o)
+        refused (malformed (valid-too v r) l (subst (λ (x : Header). Slots (x .parameters) args) (header-once w v) a)
+        (subst (λ (x : Header). Slots (x .results) out) (header-once w v) o)
         (subst (λ (x : Header). (vs : List Value) → Arguments (x .parameters) args vs → ⊥) (header-once w v) f))
     answered-too (metered w vs l a o) =
         let b : Arguments (h .parameters) args vs = subst (λ (x : Header). Arguments (x .parameters) args vs) (header-once w v) a in

@@ -38,12 +38,14 @@ count-under [] = refl
 count-under (l ∷ ls) = omega (arith, count-under ls, length-append (l .under) (underAll ls))
 
 -- only those under are left
-pub rep-under : (σ : State) {st : List ℕ} {d : ℕ} {locals mem : List ℕ} (vs ws : List Value) → Rep (withStack σ (vs ++ ws)) st d locals mem → {d′ : ℕ} → d′ ≡ length ws
+pub rep-under : (σ : State) {st : List ℕ} {d : ℕ} {locals mem : List ℕ} (vs ws : List Value) → Rep (withStack σ (vs ++ ws)) st d locals mem → {d′ : ℕ}
+    → d′ ≡ length ws
     → Rep (withStack σ ws) st d′ locals mem
 rep-under σ {st} vs ws rep {d′} e =
     rep-pop rep ws (slots-under vs ws st (rep .slots)) (range-under vs ws (rep .stack-range)) d′ e (omega (arith, rep .depth, rep .deep, length-append vs ws, e))
 
-pub rep-same : (σ : State) {st : List ℕ} {d : ℕ} {locals mem : List ℕ} {vs ws : List Value} → vs ≡ ws → Rep (withStack σ vs) st d locals mem → Rep (withStack σ ws) st d locals mem
+pub rep-same : (σ : State) {st : List ℕ} {d : ℕ} {locals mem : List ℕ} {vs ws : List Value} → vs ≡ ws → Rep (withStack σ vs) st d locals mem
+    → Rep (withStack σ ws) st d locals mem
 rep-same σ {st} {d} {locals} {mem} e rep = subst (λ (x : List Value). Rep (withStack σ x) st d locals mem) e rep
 
 -- the bytes of the values on top of others, the lowest first

@@ -14,7 +14,8 @@ use Rattle.standard.proofs.Turn.{safe-step}
 use Rattle.standard.proofs.Begin.{begin-sound}
 
 -- what is safe from where a run has come to is safe from its beginning
-safe-from : {s : List ℕ} {h : Header} {b c : Config} (j : ℕ) → runs s h j b ≡ going c → length (c .state .memory) ≡ length (b .state .memory) → {g : Stage} → Safe s h c g → Safe s h b g
+safe-from : {s : List ℕ} {h : Header} {b c : Config} (j : ℕ) → runs s h j b ≡ going c → length (c .state .memory) ≡ length (b .state .memory) → {g : Stage}
+    → Safe s h c g → Safe s h b g
 safe-from j e long (safe-going sound l) = safe-going sound (l ∙ long)
 safe-from j e long (safe-ended kinds range l) = safe-ended kinds range (l ∙ long)
 safe-from {s} {h} {b} {c} j e long (safe-trapped k f l t) = safe-trapped (j + k) (runs-along s h j k b c e ∙ f) (l ∙ long) t

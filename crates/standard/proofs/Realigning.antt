@@ -1,4 +1,4 @@
--- ALIGNED ACCESS EARNS NO DIFFERENT ANSWER, of whole strips: two that differ in alignment exponents at most, allowed ones, make the standard's machine do the same steps.
+-- ALIGNED ACCESS EARNS NO DIFFERENT ANSWER, of whole strips: two that differ in alignment exponents at most make the standard's machine do the same steps.
 use Prim.Native.Nat.{ℕ, zero, suc, _+_}
 use mathlib.Core.Path.{_≡_, refl, ap, sym, _∙_, subst}
 use mathlib.Core.Bool.{Bool, true, false, cond}
@@ -67,19 +67,22 @@ module _ {s t : List ℕ} (v : Valid s) (r : Realigned s t (v .header)) where
   branch-alike σ zero (outermost a b) = refl
   branch-alike σ (suc n) (outermost a b) = refl
   branch-alike σ zero (inside {l = l} {ls} a b c d e w) =
-      ap (λ (q : Option ℕ). cond (l .loop) (going (record { place = l .body; state = withStack σ []; labels = l ∷ ls })) (along (l .results) (σ .stack) (λ vs. resume σ l ls vs q))) (ends-alike e)
+      let again : Config = record { place = l .body; state = withStack σ []; labels = l ∷ ls } in
+      ap (λ (q : Option ℕ). cond (l .loop) (going again) (along (l .results) (σ .stack) (λ vs. resume σ l ls vs q))) (ends-alike e)
   branch-alike σ (suc n) (inside a b c d e w) = branch-alike σ n w
 
   if-alike : (c : Config) (n x : ℕ) {fs : List Frame} → Nested s h fs (c .labels) → (vs : List Value) → branchIf t h c n x vs ≡ branchIf s h c n x vs
   if-alike c n x w [] = refl
   if-alike c n x w (I32 a ∷ st) =
-      ap (cond (eqb a 0) (going (record { place = c .place + n; state = withStack (c .state) st; labels = c .labels }))) (branch-alike (withStack (c .state) st) x w)
+      let next : Config = record { place = c .place + n; state = withStack (c .state) st; labels = c .labels } in
+      ap (cond (eqb a 0) (going next)) (branch-alike (withStack (c .state) st) x w)
   if-alike c n x w (I64 a ∷ st) = refl
   if-alike c n x w (V128 a ∷ st) = refl
 
   -- ---- each instruction
 
-  code-alike : (c : Config) (n e : ℕ) (i : Instr) {fs : List Frame} → Nested s h fs (c .labels) → (k : Code) → stepCode t h c n (aligned e i) k ≡ stepCode s h c n i k
+  code-alike : (c : Config) (n e : ℕ) (i : Instr) {fs : List Frame} → Nested s h fs (c .labels) → (k : Code)
+      → stepCode t h c n (aligned e i) k ≡ stepCode s h c n i k
   code-alike c n e i w (plain p) = by (c .labels)
     where
       by : (ls : List Label) → stepPlain h c n (aligned e i) p ls ≡ stepPlain h c n i p ls
@@ -95,7 +98,8 @@ module _ {s t : List ℕ} (v : Valid s) (r : Realigned s t (v .header)) where
   pub realigned-step : (c : Config) → Sound s h c → step t h c ≡ step s h c
   realigned-step c sound = by (sound .reached) (sound .fits .nested) (what-next v (sound .reached))
     where
-      at : {n : ℕ} {i : Instr} {k : Code} {fs : List Frame} → Reaches s h (c .place) fs → Nested s h fs (c .labels) → Reads (h .version) s (c .place) i k n → step t h c ≡ step s h c
+      at : {n : ℕ} {i : Instr} {k : Code} {fs : List Frame} → Reaches s h (c .place) fs → Nested s h fs (c .labels) → Reads (h .version) s (c .place) i k n
+          → step t h c ≡ step s h c
       at {n} {i} {k} reached w q =
           let there = r .reads reached q in
           step-does h c (there .1) ∙ code-alike c n (there .0) i w k ∙ sym (step-does h c q)

@@ -28,12 +28,14 @@ pub data Next (s : List ℕ) (h : Header) (p : ℕ) : List Frame → Type 0 wher
   last : {f : Frame} {i : Instr} → Reads (h .version) s p i (plain End) 1 → Ends (f ∷ []) → Next s h p (f ∷ [])
   goes-on : {n : ℕ} {i : Instr} {c : Code} {fs fs′ : List Frame} → Reads (h .version) s p i c n → Types (locals h) i c fs fs′ → Within fs′ → Next s h p fs
 
-before-end : {s : List ℕ} {h : Header} {p q : ℕ} {fs : List Frame} {f : Frame} {i : Instr} → Reads (h .version) s q i (plain End) 1 → Ends (f ∷ []) → Onward s h p fs q (f ∷ []) → Next s h p fs
+before-end : {s : List ℕ} {h : Header} {p q : ℕ} {fs : List Frame} {f : Frame} {i : Instr} → Reads (h .version) s q i (plain End) 1 → Ends (f ∷ [])
+    → Onward s h p fs q (f ∷ []) → Next s h p fs
 before-end r e here = last r e
 before-end r e (next r′ t w o) = goes-on r′ t w
 
 -- past the strip's `end` nothing is reached
-past-end : {s : List ℕ} {h : Header} {p q : ℕ} {fs : List Frame} {f : Frame} {i : Instr} → Reads (h .version) s q i (plain End) 1 → Onward s h q (f ∷ []) p fs → Onward s h p fs q (f ∷ [])
+past-end : {s : List ℕ} {h : Header} {p q : ℕ} {fs : List Frame} {f : Frame} {i : Instr} → Reads (h .version) s q i (plain End) 1
+    → Onward s h q (f ∷ []) p fs → Onward s h p fs q (f ∷ [])
 past-end r here = here
 past-end r (next r′ t w o) = absurd (typed-inner t (reads-once r′ r .1) refl)
 
@@ -54,7 +56,8 @@ Room fs room = room + length fs ≡ 1 + nestLimit
 data Unwinds (s t : List ℕ) (h : Header) : ℕ → List Frame → Type 0 where
   none-open : {p : ℕ} → Unwinds s t h p []
   strip-only : {p : ℕ} {f : Frame} → Unwinds s t h p (f ∷ [])
-  unwinds : {p m : ℕ} {f g : Frame} {fs : List Frame} → ((room : ℕ) → Room (f ∷ g ∷ fs) room → ClosesIn (h .version) s room p m × ClosesIn (h .version) t room p m)
+  unwinds : {p m : ℕ} {f g : Frame} {fs : List Frame}
+      → ((room : ℕ) → Room (f ∷ g ∷ fs) room → ClosesIn (h .version) s room p m × ClosesIn (h .version) t room p m)
       → Reaches s h m (holding g (g .values ++ f .results) ∷ fs) → Unwinds s t h m (holding g (g .values ++ f .results) ∷ fs) → Unwinds s t h p (f ∷ g ∷ fs)
 
 ordinary-role : {ls ins outs : List Kind} {n : ℕ} (c : Code) → Typed ls n c ins outs → role c ≡ neither
@@ -126,7 +129,8 @@ pub record Left (s : List ℕ) (h : Header) (p : ℕ) (f g : Frame) (fs : List F
 left-room : (fs : List Frame) → length fs ≤ 1 + nestLimit → Room fs (1 + nestLimit - length fs)
 left-room fs few = omega (arith, few)
 
-left-by : {s : List ℕ} {h : Header} {p : ℕ} {f g : Frame} {fs : List Frame} → length (f ∷ g ∷ fs) ≤ 1 + nestLimit → Unwinds s s h p (f ∷ g ∷ fs) → Left s h p f g fs
+left-by : {s : List ℕ} {h : Header} {p : ℕ} {f g : Frame} {fs : List Frame} → length (f ∷ g ∷ fs) ≤ 1 + nestLimit → Unwinds s s h p (f ∷ g ∷ fs)
+    → Left s h p f g fs
 left-by {s} {h} {f = f} {g} {fs} few (unwinds {m = m} c reached u) =
     let there = any-room (c (1 + nestLimit - length (f ∷ g ∷ fs)) (left-room (f ∷ g ∷ fs) few) .0) in
     record { place = m; with-room = λ room k. c room k .0; closes-there = there; found = closes-found (h .version) s there; reached = reached }

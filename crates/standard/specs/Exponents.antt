@@ -14,4 +14,5 @@ use Rattle.rules.specs.Strip.{Reads, Reaches}
 pub record Realigned (s t : List ℕ) (h : Header) : Type 0 where
   pub declares : Declares t h
   pub long : length t ≡ length s
-  pub reads : {p n : ℕ} {i : Instr} {c : Code} {fs : List Frame} → Reaches s h p fs → Reads (h .version) s p i c n → (e : ℕ) × Reads (h .version) t p (aligned e i) c n
+  pub reads : {p n : ℕ} {i : Instr} {c : Code} {fs : List Frame} → Reaches s h p fs → Reads (h .version) s p i c n
+      → (e : ℕ) × Reads (h .version) t p (aligned e i) c n
