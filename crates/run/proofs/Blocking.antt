@@ -133,7 +133,8 @@ module _ {s : List ℕ} (v : Valid s) {c : Config} {at depth nest : ℕ} {stack 
         by [] f =
             let there : step s h c ≡ ended (reverse (σ .stack)) (σ .memory) =
             ends-step [] f ∙ ended-by {s = s} {h = h} {b = c} c len (ofKinds (σ .stack) (reverse (h .results))) (reverse (σ .stack)) (safe (ends-step [] f)) in
-            leads-out (there ∙ ap (ended (reverse (σ .stack))) (C .rep .memory)) refl (ended-many (safe there)) (omega (arith, whole-many, length-reverse (σ .stack), C .rep .deep)) (C .rep .stack-long)
+            leads-out (there ∙ ap (ended (reverse (σ .stack))) (C .rep .memory)) refl (ended-many (safe there))
+            (omega (arith, whole-many, length-reverse (σ .stack), C .rep .deep)) (C .rep .stack-long)
             (ap (λ (k : ℕ). part (slot * k) (slot * 0) stack) (length-reverse (σ .stack))
             ∙ part-bytes (σ .stack) [] stack (subst (λ (ls : List Label). Slots (σ .stack ++ underAll ls) stack) f (C .rep .slots)))
 
@@ -280,7 +281,10 @@ module _ {s : List ℕ} (v : Valid s) {c : Config} {at depth nest : ℕ} {stack 
       below : {d : ℕ} → d ≡ depth - 1 → Rep (withStack σ (q .under ++ underAll (c .labels))) stack d locals mem
       below f = rep-under σ (I32 (q .number) ∷ []) (q .under ++ underAll (c .labels)) above (f ∙ omega (arith, above .depth))
 
-      if-step : step s h c ≡ cond (eqb (q .number) 0) (going (record { place = c .place + len; state = withStack σ (q .under); labels = c .labels })) (branch s h (withStack σ (q .under)) (i .index) (c .labels))
+      abbrev after-if : Config
+      after-if = record { place = c .place + len; state = withStack σ (q .under); labels = c .labels }
+
+      if-step : step s h c ≡ cond (eqb (q .number) 0) (going after-if) (branch s h (withStack σ (q .under)) (i .index) (c .labels))
       if-step = stepped (control BrIf) e ∙ ap (branchIf s h c len (i .index)) (q .stack-is)
 
     -- br_if has something to ask
@@ -320,7 +324,7 @@ module _ {s : List ℕ} (v : Valid s) {c : Config} {at depth nest : ℕ} {stack 
           by (inr e) =
               let unequal : eqb (q e .number) 0 ≡ false = not-yes (eqb (q e .number) 0) (sym tr ∙ if-test e) in
               takes (withStack σ (q e .under))
-              (if-step e ∙ ap (λ (x : Bool). cond x (going (record { place = c .place + len; state = withStack σ (q e .under); labels = c .labels })) (branch s h (withStack σ (q e .under)) (i .index) (c .labels))) unequal)
+              (if-step e ∙ ap (λ (x : Bool). cond x (going (after-if e)) (branch s h (withStack σ (q e .under)) (i .index) (c .labels))) unequal)
               (below e {d = depth - 1} refl) (omega (arith, if-group e))
 
       pub not-taken : t ≡ false → Led s h (step s h c) (at + len) (depth - (group - 27)) nest stack marks locals mem
@@ -328,7 +332,9 @@ module _ {s : List ℕ} (v : Valid s) {c : Config} {at depth nest : ℕ} {stack 
         where
           by : (S .code ≡ control Br) ⊎ (S .code ≡ control BrIf) → Led s h (step s h c) (at + len) (depth - (group - 27)) nest stack marks locals mem
           by (inl e) =
-              absurd (let z : false ≡ true = sym fa ∙ test ∙ ap (λ (x : Bool). cond x true (not (eqb (low32 (topOf stack depth 1)) 0))) (eq-eqb group 27 (br-group e)) in let w : _≡_ {A = ℕ} 0 1 = cc (z) in omega arith)
+              let z : false ≡ true =
+              sym fa ∙ test ∙ ap (λ (x : Bool). cond x true (not (eqb (low32 (topOf stack depth 1)) 0))) (eq-eqb group 27 (br-group e)) in
+              absurd (let w : _≡_ {A = ℕ} 0 1 = cc (z) in omega arith)
           by (inr e) =
               let equal : eqb (q e .number) 0 ≡ true = not-no (eqb (q e .number) 0) (sym fa ∙ if-test e) in
               let next : Config = record { place = c .place + len; state = withStack σ (q e .under); labels = c .labels } in

@@ -203,7 +203,8 @@ module _ {s : List ℕ} (v : Valid s) {σ : State} {ls : List Label} {index dept
 
       block-jump : jump s h σ l rest ≡ along (l .results) (σ .stack) (λ vs. resume σ l rest vs (close (h .version) s (l .body)))
       block-jump =
-          ap (λ (t : Bool). cond t (going (record { place = l .body; state = withStack σ []; labels = l ∷ rest })) (along (l .results) (σ .stack) (λ vs. resume σ l rest vs (close (h .version) s (l .body)))))
+          let again : Config = record { place = l .body; state = withStack σ []; labels = l ∷ rest } in
+          ap (λ (t : Bool). cond t (going again) (along (l .results) (σ .stack) (λ vs. resume σ l rest vs (close (h .version) s (l .body)))))
           no-loop
 
       safe-along : Safe s h (L .from) (along (l .results) (σ .stack) (λ vs. resume σ l rest vs (close (h .version) s (l .body))))

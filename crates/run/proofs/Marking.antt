@@ -79,13 +79,16 @@ pub marked-more : (l : Label) (ls : List Label) (ms : List ℕ) (n height way bo
     → Marked (l ∷ ls) (set (set (set ms (3 * n) height) (3 * n + 1) way) (3 * n + 2) body)
 marked-more l ls ms n height way body e few long a b c d m =
     subst (λ (k : ℕ). Marked (l ∷ ls) (set (set (set ms (3 * k) height) (3 * k + 1) way) (3 * k + 2) body)) (sym e) (
-      getD-set-other (set (set ms (3 * length ls) height) (3 * length ls + 1) way) (3 * length ls + 2) (3 * length ls) body 0 (λ e. omega arith) ∙ getD-set-other (set ms (3 * length ls) height) (3 * length ls + 1) (3 * length ls) way 0 (λ e. omega arith)
+      getD-set-other (set (set ms (3 * length ls) height) (3 * length ls + 1) way) (3 * length ls + 2) (3 * length ls) body 0 (λ e. omega arith)
+          ∙ getD-set-other (set ms (3 * length ls) height) (3 * length ls + 1) (3 * length ls) way 0 (λ e. omega arith)
           ∙ getD-set-same ms (3 * length ls) height 0 (omega (arith, few, long, e)) ∙ a,
       getD-set-other (set (set ms (3 * length ls) height) (3 * length ls + 1) way) (3 * length ls + 2) (3 * length ls + 1) body 0 (λ e. omega arith)
           ∙ getD-set-same (set ms (3 * length ls) height) (3 * length ls + 1) way 0 (lt-length-set ms (3 * length ls) height (omega (arith, few, long, e))) ∙ b,
-      getD-set-same (set (set ms (3 * length ls) height) (3 * length ls + 1) way) (3 * length ls + 2) body 0 (lt-length-set (set ms (3 * length ls) height) (3 * length ls + 1) way (lt-length-set ms (3 * length ls) height (omega (arith, few, long, e)))) ∙ c,
+      getD-set-same (set (set ms (3 * length ls) height) (3 * length ls + 1) way) (3 * length ls + 2) body 0
+          (lt-length-set (set ms (3 * length ls) height) (3 * length ls + 1) way (lt-length-set ms (3 * length ls) height (omega (arith, few, long, e)))) ∙ c,
       d,
-      marked-kept ls (set (set ms (3 * length ls) height) (3 * length ls + 1) way) (3 * length ls + 2) body (omega arith) (marked-kept ls (set ms (3 * length ls) height) (3 * length ls + 1) way (omega arith) (marked-kept ls ms (3 * length ls) height (omega arith) m)),
+      marked-kept ls (set (set ms (3 * length ls) height) (3 * length ls + 1) way) (3 * length ls + 2) body (omega arith)
+          (marked-kept ls (set ms (3 * length ls) height) (3 * length ls + 1) way (omega arith) (marked-kept ls ms (3 * length ls) height (omega arith) m)),
     )
 
 -- ---- what is not stuck

@@ -76,13 +76,14 @@ module _ {s : List ℕ} {h : Header} {f : Frame} {fs : List Frame} (c : Config) 
       )))
 
   pub fine-safe : {ks : List Kind} {n : ℕ} {i : Instr} {k : Code} {o : Outcome} → Reads (h .version) s (c .place) i k n
-      → exec (h .results) k i (c .state) ≡ o → Live (f ∷ fs)
+      → exec (h .results) k i (c .state) ≡ o → Live (f ∷ fs) → Reaches s h (c .place) (f ∷ fs)
       → Within (holding f ks ∷ fs) → Reaches s h (c .place + n) (holding f ks ∷ fs) → Fine (c .state) (reverse ks) o → Safe s h c (after c n o)
   unfolding runs
-  fine-safe {ks} {n} r e live w reached (on {τ} k) =
+  fine-safe {ks} {n} r e live here w reached (on {τ} k) =
       subst (Safe s h c) (sym (goes-after n w k))
       (safe-going (record { frame = holding f ks; outer = fs; reached = reached; live = live; fits = kept-fits (c .place + n) k }) (k .long))
-  fine-safe r e live w reached (trapped-past l) = safe-trapped 0 refl refl (strays-there h c r e)
+  fine-safe r e live here w reached (trapped-past l) =
+      safe-trapped 0 refl (record { frame = f; outer = fs; reached = here; live = live; fits = fits }) refl (strays-there h c r e)
 
 module _ {s : List ℕ} (v : Valid s) (c : Config) where
   abbrev h : Header
@@ -166,7 +167,7 @@ module _ {s : List ℕ} (v : Valid s) (c : Config) where
       → Types (locals h) i k (f ∷ fs) fs′ → Within fs′ → Good (stepCode s h c n i k)
   typed-safe {fs = fs} {n = n} {i} {k} fits live reached r (ordinary {outs = outs} {below = below} {f = f} t x) w =
       subst Good (sym (does-ordinary s h c n i k (end-untyped t) (λ y. control-untyped t)))
-      (fine-safe c fits r refl live w (past reached r (ordinary t x) w)
+      (fine-safe c fits r refl live reached w (past reached r (ordinary t x) w)
       (typed-runs c fits below r t (live-has (live .0) x) (omega (arith, w .values, length-append (allValues fs) (below ++ outs)))))
   typed-safe {fs = fs} fits live reached r (branches {below = below} {f = f} {g = g} l x) w =
       branch-safe v c (c .state) refl (rest-of fits) (fits .stack-range) below l (fits .nested) live (fits .stacked ∙ ap reverse (live-has (live .0) x))
