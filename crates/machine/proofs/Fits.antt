@@ -57,12 +57,15 @@ pub record Beyond (b : Told) (len a k : ℕ) : Type 0 where
   pub outside : len < a + k
 
 -- where it traps, it is past the end
-traps-past : (c : State) (at n : ℕ) (p : Outcome) (a k : ℕ) → (p ≡ trap a k → ⊥) → Access c at n p (trap a k) → Beyond (boundsAt at n (length (c .memory))) (length (c .memory)) a k
+traps-past : (c : State) (at n : ℕ) (p : Outcome) (a k : ℕ) → (p ≡ trap a k → ⊥) → Access c at n p (trap a k)
+    → Beyond (boundsAt at n (length (c .memory))) (length (c .memory)) a k
 traps-past c at n p a k never (within w) = absurd (never (w .next))
 traps-past c at n p a k never (past l e) =
     let ea : at ≡ a = cc in let en : n ≡ k = cc in
     record {
-      bounds = ap (λ (t : Bool). cond t inReach (outOfReach (max at (length (c .memory))))) (lt-leb (at + n) (length (c .memory)) l) ∙ ap (λ (x : ℕ). outOfReach (max x (length (c .memory)))) ea;
+      bounds =
+          ap (λ (t : Bool). cond t inReach (outOfReach (max at (length (c .memory))))) (lt-leb (at + n) (length (c .memory)) l)
+          ∙ ap (λ (x : ℕ). outOfReach (max x (length (c .memory)))) ea;
       outside = omega arith;
     }
 
@@ -203,7 +206,8 @@ module _ (rs : List Kind) (i : Instr) (σ : State) (st : List ℕ) (d : ℕ) (ls
         record { bounds = r .bounds ∙ b .bounds; outside = b .outside }
 
     -- only an access traps
-    past-access : {c : Code} {vs : List Value} {b n : ℕ} → Accesses i c vs b n → exec rs c i σ ≡ trap a k → Beyond (boundsOf c i st d (length m)) (length (σ .memory)) a k
+    past-access : {c : Code} {vs : List Value} {b n : ℕ} → Accesses i c vs b n → exec rs c i σ ≡ trap a k
+        → Beyond (boundsOf c i st d (length m)) (length (σ .memory)) a k
     past-access load e = past-by (Load Whole) (reach-load (trap a k) traps-on Whole e)
     past-access (load-extend {s} {w}) e = past-by (Load (Widen s w)) (reach-load (trap a k) traps-on (Widen s w) e)
     past-access (load-splat {w}) e = past-by (Load (Repeat w)) (reach-load (trap a k) traps-on (Repeat w) e)

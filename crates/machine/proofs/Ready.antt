@@ -37,7 +37,8 @@ abbrev pub alone : List ℕ → List (List ℕ)
 alone = map (λ k. k ∷ [])
 
 -- past the arms of 1 to 24 are `end`, blocks and branches, which leave all as it is
-pub idle : (i : Instr) (st : List ℕ) (d : ℕ) (ls m : List ℕ) (c : Code) → (T (anyKey (alone (1 to 24)) (groupOfCode c)) → ⊥) → flat c i st d ls m ≡ flatOf d st ls m
+pub idle : (i : Instr) (st : List ℕ) (d : ℕ) (ls m : List ℕ) (c : Code) → (T (anyKey (alone (1 to 24)) (groupOfCode c)) → ⊥)
+    → flat c i st d ls m ≡ flatOf d st ls m
 idle i st d ls m (plain End) h = refl
 idle i st d ls m (plain Drop) h = absurd (h tt)
 idle i st d ls m (plain LocalGet) h = absurd (h tt)
@@ -100,7 +101,8 @@ module _ (id : ℕ) {e : ℕ} (entry : e ≡ entryOf (rowOf id)) where
   each group P {k} at f c row = by-group (λ c. rowOf id ≡ carried c → P c) k f c (sym (group-of group c row) ∙ at) row
 
 -- of the code that it has
-pub fitting : {id e : ℕ} {st : List ℕ} {d : ℕ} → (e ≡ entryOf (rowOf id)) × Fits id st d → {g k : ℕ} {X : Type 0} → g ≡ groupIn e → g ≡ k → Each (λ c. rowOf id ≡ carried c → Fit c st d → X) k → X
+pub fitting : {id e : ℕ} {st : List ℕ} {d : ℕ} → (e ≡ entryOf (rowOf id)) × Fits id st d → {g k : ℕ} {X : Type 0} → g ≡ groupIn e → g ≡ k
+    → Each (λ c. rowOf id ≡ carried c → Fit c st d → X) k → X
 fitting {id} {e} {st} {d} (entry, r) {X = X} group at f = each id entry group (λ c. Fit c st d → X) at f (r .code) (r .row) (r .fit)
 
 -- a code's part of Ready
@@ -117,7 +119,8 @@ module _ {id e : ℕ} {i : Instr} {st : List ℕ} {d : ℕ} {ls m : List ℕ} (p
   pub ready : {X : Type 0} {k : ℕ} → g ≡ k → Each (λ c. rowOf id ≡ carried c → Asks c i st d ls m → X) k → X
   ready {X} at f = each id (pre .0) group (λ c. Asks c i st d ls m → X) at f (pre .1 .code) (pre .1 .row) asks
 
-  pub did : {k d′ : ℕ} {st′ ls′ m′ : List ℕ} → g ≡ k → Each (λ c. rowOf id ≡ carried c → Asks c i st d ls m → Did (flat c i st d ls m) d′ st′ ls′ m′) k → DidBy id i st d ls m d′ st′ ls′ m′
+  pub did : {k d′ : ℕ} {st′ ls′ m′ : List ℕ} → g ≡ k → Each (λ c. rowOf id ≡ carried c → Asks c i st d ls m → Did (flat c i st d ls m) d′ st′ ls′ m′) k
+      → DidBy id i st d ls m d′ st′ ls′ m′
   did {k} {d′} {st′} {ls′} {m′} at f =
       record {
         does = λ c row.

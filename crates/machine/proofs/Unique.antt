@@ -27,7 +27,8 @@ module _ (id : ℕ) (i : Instr) (st : List ℕ) (d : ℕ) (c : Code) (row : rowO
       → ((c : Code) → rowOf id ≡ carried c → toldBounds r′ ≡ boundsOf c i st d len) → r ≡ r′
   one-bounds len r r′ p q = told-once r r′ (p c row ∙ sym (q c row))
 
-  pub one-exec : (ls m : List ℕ) (d₁ d₂ : ℕ) (st₁ st₂ ls₁ ls₂ m₁ m₂ : List ℕ) → DidBy id i st d ls m d₁ st₁ ls₁ m₁ → DidBy id i st d ls m d₂ st₂ ls₂ m₂ → (d₁ ≡ d₂) × (st₁ ≡ st₂) × (ls₁ ≡ ls₂) × (m₁ ≡ m₂)
+  pub one-exec : (ls m : List ℕ) (d₁ d₂ : ℕ) (st₁ st₂ ls₁ ls₂ m₁ m₂ : List ℕ) → DidBy id i st d ls m d₁ st₁ ls₁ m₁ → DidBy id i st d ls m d₂ st₂ ls₂ m₂
+      → (d₁ ≡ d₂) × (st₁ ≡ st₂) × (ls₁ ≡ ls₂) × (m₁ ≡ m₂)
   one-exec ls m d₁ d₂ st₁ st₂ ls₁ ls₂ m₁ m₂ p q =
       let x = p .does c row in let y = q .does c row in
       (x .depth ∙ sym (y .depth), x .stack ∙ sym (y .stack), x .locals ∙ sym (y .locals), x .memory ∙ sym (y .memory))

@@ -1,4 +1,5 @@
--- What `bounds` answers, in the numbers of the card (01, "Numbers on the inspector's card"): DONE where the bytes of an access are in the memory, else TRAP and the first address out of reach.
+-- What `bounds` answers, in the numbers of the card (01, "Numbers on the inspector's card"): DONE where the bytes of an access are in the memory, else
+-- TRAP and the first address out of reach.
 use Prim.Native.Nat.{ℕ}
 use Rattle.card.specs.Card.{DONE, TRAP}
 use Rattle.machine.specs.declared.access.Bounds.{Bounds}

@@ -61,7 +61,8 @@ pub record Drives (s : List ℕ) (v : Valid s) (c₀ : Config) (mem₀ out : Lis
   pub untouched : results ≡ out
   pub long : length mem ≡ length mem₀
 
-pub starts : {s : List ℕ} (v : Valid s) (c₀ : Config) (budget : ℕ) {out stack marks locals mem : List ℕ} {at depth nest : ℕ} → Carries s (v .header) c₀ at depth nest stack marks locals mem
+pub starts : {s : List ℕ} (v : Valid s) (c₀ : Config) (budget : ℕ) {out stack marks locals mem : List ℕ} {at depth nest : ℕ}
+    → Carries s (v .header) c₀ at depth nest stack marks locals mem
     → Going s out at depth nest stack marks locals mem → Drives s v c₀ mem out budget mem out stack marks locals at depth nest budget
 starts {s} v c₀ budget {out} C g =
     record {
@@ -112,7 +113,8 @@ module _ {s : List ℕ} {v : Valid s} {c₀ : Config} {mem₀ out : List ℕ} {b
       ap (λ (k : ℕ). meter s h k steps c out) next ∙ ap (meterBy steps c out (λ c. meter s h (left - 1) (suc steps) c out)) e
 
   -- one step further
-  goes-on : 0 < left → {d : Config} → step s h c ≡ going d → {mem′ stack′ marks′ locals′ : List ℕ} {at′ depth′ nest′ : ℕ} → Carries s h d at′ depth′ nest′ stack′ marks′ locals′ mem′
+  goes-on : 0 < left → {d : Config} → step s h c ≡ going d → {mem′ stack′ marks′ locals′ : List ℕ} {at′ depth′ nest′ : ℕ}
+      → Carries s h d at′ depth′ nest′ stack′ marks′ locals′ mem′
       → length mem′ ≡ length mem → Drives s v c₀ mem₀ out budget mem′ results stack′ marks′ locals′ at′ depth′ nest′ (left - 1)
   goes-on more {d} e C kept =
       let further : suc steps ≡ budget - (left - 1) = omega (arith, D .within) in
@@ -223,7 +225,8 @@ module _ {s : List ℕ} {v : Valid s} {c₀ : Config} {mem₀ out : List ℕ} {b
                   by (goes-to r e q x) = ready r (h .results) (D .carries .rep) q
                   by (traps-at r e q x) = absurd (is-past r (h .results) (D .carries .rep) q b (told _ (row r)) clear)
 
-              pub onward : 0 < left → {depth′ : ℕ} {stack′ locals′ mem′ : List ℕ} → DidBy id i stack depth locals mem depth′ stack′ locals′ mem′ → length mem′ ≡ length mem
+              pub onward : 0 < left → {depth′ : ℕ} {stack′ locals′ mem′ : List ℕ} → DidBy id i stack depth locals mem depth′ stack′ locals′ mem′
+                  → length mem′ ≡ length mem
                   → Drives s v c₀ mem₀ out budget mem′ results stack′ marks locals′ (at + d .len) depth′ nest (left - 1)
               onward more {depth′} {stack′} {locals′} {mem′} by-code kept = by stands
                 where
@@ -281,6 +284,7 @@ module _ {s : List ℕ} {v : Valid s} {c₀ : Config} {mem₀ out : List ℕ} {b
     pub turned : 0 < left → (at′ ≡ 0 → ⊥) → Drives s v c₀ mem₀ out budget mem results stack′ marks′ locals at′ depth′ nest′ (left - 1)
     turned more ne = by led
       where
-        by : Led s h (step s h c) at′ depth′ nest′ stack′ marks′ locals mem → Drives s v c₀ mem₀ out budget mem results stack′ marks′ locals at′ depth′ nest′ (left - 1)
+        by : Led s h (step s h c) at′ depth′ nest′ stack′ marks′ locals mem
+            → Drives s v c₀ mem₀ out budget mem results stack′ marks′ locals at′ depth′ nest′ (left - 1)
         by (leads-on e C) = goes-on more e C refl
         by (leads-out e q n few long bytes) = absurd (ne q)

@@ -40,7 +40,8 @@ add-at-2 c = omega (arith, counts-read (declared (c .before .before .before .bef
 
 go-on-requires : tie.Need-go-on-requires
 go-on-requires c κs =
-    let called = c .before .before .before .before .before .before .before in let start = called .before .before .before .before .before .before .before in
+    let called = c .before .before .before .before .before .before .before in
+    let start = called .before .before .before .before .before .before .before in
     let counts = counts-read (declared (start .pre .valid .reached)) in (
       may-begin (start .pre) (start .args .mem .now) (λ k. called .before .before .before .before .slice-known .given k) (called .locals-of .ensures .0)
           (omega (arith, called .locals-of .ensures .1, counts .body)),
@@ -55,7 +56,9 @@ same-length-2 c = search needs
 
 returns : tie.Need-returns
 returns c =
-    let went = c .before .before .before .before in let called = went .before .before .before .before .before .before .before .before in let start = called .before .before .before .before .before .before .before in
+    let went = c .before .before .before .before in
+    let called = went .before .before .before .before .before .before .before .before in
+    let start = called .before .before .before .before .before .before .before in
     let counts = counts-read (declared (start .pre .valid .reached)) in
     drove (start .pre) (start .args .mem .now) (λ k. called .before .before .before .before .slice-known .given k) (called .locals-of .ensures .0)
     (omega (arith, called .locals-of .ensures .1, counts .body)) (went .go-on .ensures)
