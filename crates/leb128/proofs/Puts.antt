@@ -64,7 +64,8 @@ module _ (sign : Bool) (N v : ℕ) (h : 0 < N) (l : v < 2 ^ N) where
   counts-bytes n e = record { answer = e; shortest = (bytesOf sign N v, bytes-shortest sign N v h l, sym e) }
 
 -- what a caller that has room knows
-module _ {sign : Bool} {N v at : ℕ} {out : List ℕ} {r : Wrote} {out′ : List ℕ} (w : WritesNumber sign N v at out r out′) (l : at + length (bytesOf sign N v) ≤ length out) where
+module _ {sign : Bool} {N v at : ℕ} {out : List ℕ} {r : Wrote} {out′ : List ℕ} (w : WritesNumber sign N v at out r out′)
+    (l : at + length (bytesOf sign N v) ≤ length out) where
   pub goes-in : r ≡ To (at + length (bytesOf sign N v))
   goes-in = w .answer ∙ wrote-to (bytesOf sign N v) at out l
 

@@ -79,7 +79,8 @@ module _ (sign : Bool) (N : ℕ) (s : List ℕ) (i : ℕ) where
     unfolding intOf
     rest-more b l m =
         simp (drop-cons s i 0 h, le-ltb (getD s i 0) 128 l, lt-ltb 7 N m, add-one)
-        (before-bits sign N (getD s i 0) (drop (suc i) s) m l (b i) (intOf sign (N - 7) (drop (suc i) s)) (met sign (N - 7) (drop (suc i) s) (λ j. rw getD-drop (b (suc i + j)))))
+        (before-bits sign N (getD s i 0) (drop (suc i) s) m l (b i) (intOf sign (N - 7) (drop (suc i) s))
+        (met sign (N - 7) (drop (suc i) s) (λ j. rw getD-drop (b (suc i + j)))))
 
 -- a last byte: the tests on room, which is 2^N - 1, are the grammar's on N
 module _ (b room N : ℕ) (h : 0 < N) (e : room + 1 ≡ 2 ^ N) (l : b < 128) where

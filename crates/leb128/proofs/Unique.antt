@@ -32,7 +32,8 @@ same-read s at Number Short e = absurd (omega (arith, ap (λ (t : Told). t .code
 same-read s at Number Number e = refl
 
 -- read_u32, read_s32, read_s64
-pub one-reading : (sign : Bool) (N : ℕ) (s : List ℕ) (at : ℕ) → bytes s → (r r′ : Leb) → Reads sign N s at (toldRead s at r) → Reads sign N s at (toldRead s at r′) → r ≡ r′
+pub one-reading : (sign : Bool) (N : ℕ) (s : List ℕ) (at : ℕ) → bytes s → (r r′ : Leb) → Reads sign N s at (toldRead s at r)
+    → Reads sign N s at (toldRead s at r′) → r ≡ r′
 one-reading sign N s at b r r′ p q =
     same-read s at r r′ (told-one sign N s at b (toldRead s at r) p ∙ sym (told-one sign N s at b (toldRead s at r′) q))
 

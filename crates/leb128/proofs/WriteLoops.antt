@@ -87,7 +87,13 @@ pub record Counting (limit n₀ n bytes : ℕ) : Type 0 where
 
 pub counts : (n limit : ℕ) → 64 ≤ limit → Counting limit n n 1
 counts n limit l =
-    record { least = l; fuel = n; small = omega arith; fewer = omega arith; ends = λ neg. ap (λ (f : ℕ). 1 + length (shortest limit (suc f) (int neg n))) (sym (mag-int neg n)) }
+    record {
+      least = l;
+      fuel = n;
+      small = omega arith;
+      fewer = omega arith;
+      ends = λ neg. ap (λ (f : ℕ). 1 + length (shortest limit (suc f) (int neg n))) (sym (mag-int neg n));
+    }
 
 module _ {limit n₀ n bytes : ℕ} (w : Counting limit n₀ n bytes) where
   pub counts-on : limit ≤ n → Counting limit n₀ (n / 128) (bytes + 1)

@@ -76,6 +76,7 @@ module _ (f : ℕ → ℕ) where
   pub past-arms : (b : Body) (n : ℕ) {v x : ℕ} → T (others v (arms b) n) → (n ≤ x → f x ≡ v) → Missed (Unit {0}) (arms b) x → v ≡ f x
   past-arms b n {v} {x} t beyond m =
       ⊎-elim
-      (λ l. ⊎-elim (λ h. absurd (missed (Unit {0}) (arms b) x m .1 h)) (eqb→eq v (f x)) (or-yes (anyKey (arms b) x) (eqb v (f x)) (below (λ k. anyKey (arms b) k || eqb v (f k)) n t x l)))
+      (λ l. ⊎-elim (λ h. absurd (missed (Unit {0}) (arms b) x m .1 h)) (eqb→eq v (f x))
+      (or-yes (anyKey (arms b) x) (eqb v (f x)) (below (λ k. anyKey (arms b) k || eqb v (f k)) n t x l)))
       (λ h. sym (beyond h))
       (below-or-past n x)

@@ -10,9 +10,11 @@ use lib.Pow.{pow-mono}
 use mir.Syntax.{Width, w8, w16, w32, w64, w128}
 use mir.Val.{bytes}
 use Rattle.operation.specs.Shape.{lanes}
-use Rattle.operation.specs.Op.{Whole, Widen, Repeat, ZeroPad, Op, Load, LoadLane, Store, StoreLane, Const, Shuffle, Splat, ExtractLane, ReplaceLane, Unary, Binary, Bitselect, Test, Shift}
+use Rattle.operation.specs.Op.{Whole, Widen, Repeat, ZeroPad, Op, Load, LoadLane, Store, StoreLane, Const, Shuffle, Splat, ExtractLane, ReplaceLane, Unary}
+use Rattle.operation.specs.Op.{Binary, Bitselect, Test, Shift}
 use Rattle.opcode.specs.Table.{Code, plain, control, vector, Row, carried, float, unassigned}
-use Rattle.opcode.specs.Immediate.{Immediates, nothing, index, blockType, word, long, memory, memoryLane, laneIndex, sixteenBytes, sixteenLanes, immediates, moved, laneCount, movedBy, lanesOf}
+use Rattle.opcode.specs.Immediate.{Immediates, nothing, index, blockType, word, long, memory, memoryLane, laneIndex, sixteenBytes, sixteenLanes}
+use Rattle.opcode.specs.Immediate.{immediates, moved, laneCount, movedBy, lanesOf}
 use Rattle.opcode.specs.Number.{classNumber, FLOAT, UNASSIGNED, classOf}
 use Rattle.opcode.proofs.Every.{below-or-past}
 

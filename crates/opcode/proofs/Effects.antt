@@ -84,7 +84,15 @@ unpack : (s : Signature) → Small (some s) → Unpacked s
 unpack (ks ⇒ ls) h =
     let t = operands ks (h .0) in
     let l = result ls (h .1) in
-    record { few = h .0; one = h .1; top = omega arith; next = omega arith; third = omega arith; left = omega arith; known = omega (arith, length-map (reverse ks) kindByte, length-reverse ks, length-map ls kindByte) }
+    record {
+      few = h .0;
+      one = h .1;
+      top = omega arith;
+      next = omega arith;
+      third = omega arith;
+      left = omega arith;
+      known = omega (arith, length-map (reverse ks) kindByte, length-reverse ks, length-map ls kindByte);
+    }
 
 -- ---- every signature is
 

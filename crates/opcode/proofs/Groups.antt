@@ -5,8 +5,10 @@ use Prim.Native.Nat.{ℕ, zero, suc, _≤_}
 use lib.Dec.{lit≤}
 use mir.Syntax.{Width}
 use Rattle.scalar.specs.Scalar.{Sign}
-use Rattle.operation.specs.Op.{Loadop, Unop, Binop, Testop, Shiftop, Op, Load, LoadLane, Store, StoreLane, Const, Shuffle, Splat, ExtractLane, ReplaceLane, Unary, Binary, Bitselect, Test, Shift}
-use Rattle.opcode.specs.Table.{Plain, End, Drop, LocalGet, LocalSet, LocalTee, I32Const, I64Const, I32Add, I32Sub, I32Eqz, I32LtU, Control, Block, Loop, Br, BrIf, Code, plain, control, vector, Row, carried, float, unassigned}
+use Rattle.operation.specs.Op.{Loadop, Unop, Binop, Testop, Shiftop, Op, Load, LoadLane, Store, StoreLane, Const, Shuffle, Splat, ExtractLane, ReplaceLane}
+use Rattle.operation.specs.Op.{Unary, Binary, Bitselect, Test, Shift}
+use Rattle.opcode.specs.Table.{Plain, End, Drop, LocalGet, LocalSet, LocalTee, I32Const, I64Const, I32Add, I32Sub, I32Eqz, I32LtU, Control, Block, Loop}
+use Rattle.opcode.specs.Table.{Br, BrIf, Code, plain, control, vector, Row, carried, float, unassigned}
 use Rattle.opcode.specs.Number.{groupOfPlain, groupOfControl, groupOfOp, groupOfCode, groupOf}
 
 -- the k-th, and nothing past the last

@@ -9,8 +9,12 @@ use lib.Dec.{T, eqb, eqb→eq}
 use mir.Syntax.{Width}
 use mir.Val.{bytes}
 use Rattle.scalar.specs.Scalar.{Sign, S, U}
-use Rattle.operation.specs.Op.{Half, Low, High, Unop, Not, Abs, Neg, Popcnt, Extend, ExtaddPairwise, Binop, And, Andnot, Or, Xor, Swizzle, Eq, Ne, Lt, Gt, Le, Ge, Add, Sub, Mul, AddSat, SubSat, Min, Max, AvgrU, Q15mulrSatS, DotS, Narrow, Extmul, Testop, AnyTrue, AllTrue, Bitmask, Shiftop, Shl, Shr, Loadop, Whole, Widen, Repeat, ZeroPad, Op, Load, LoadLane, Store, StoreLane, Const, Shuffle, Splat, ExtractLane, ReplaceLane, Unary, Binary, Bitselect, Test, Shift}
-use Rattle.opcode.specs.Table.{Plain, End, Drop, LocalGet, LocalSet, LocalTee, I32Const, I64Const, I32Add, I32Sub, I32Eqz, I32LtU, Control, Block, Loop, Br, BrIf, Code, plain, control, vector, Row, carried, float, unassigned, vectors, vectorAt, plainAt}
+use Rattle.operation.specs.Op.{Half, Low, High, Unop, Not, Abs, Neg, Popcnt, Extend, ExtaddPairwise, Binop, And, Andnot, Or, Xor, Swizzle, Eq, Ne, Lt, Gt, Le}
+use Rattle.operation.specs.Op.{Ge, Add, Sub, Mul, AddSat, SubSat, Min, Max, AvgrU, Q15mulrSatS, DotS, Narrow, Extmul, Testop, AnyTrue, AllTrue, Bitmask}
+use Rattle.operation.specs.Op.{Shiftop, Shl, Shr, Loadop, Whole, Widen, Repeat, ZeroPad, Op, Load, LoadLane, Store, StoreLane, Const, Shuffle, Splat}
+use Rattle.operation.specs.Op.{ExtractLane, ReplaceLane, Unary, Binary, Bitselect, Test, Shift}
+use Rattle.opcode.specs.Table.{Plain, End, Drop, LocalGet, LocalSet, LocalTee, I32Const, I64Const, I32Add, I32Sub, I32Eqz, I32LtU, Control, Block, Loop}
+use Rattle.opcode.specs.Table.{Br, BrIf, Code, plain, control, vector, Row, carried, float, unassigned, vectors, vectorAt, plainAt}
 use Rattle.opcode.specs.Number.{rowOf}
 use Rattle.opcode.specs.Lists.{upFrom}
 use Rattle.opcode.proofs.Every.{every, below, below-or-past}

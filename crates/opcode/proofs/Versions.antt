@@ -10,7 +10,8 @@ use lib.Dec.{T, eqb, leb, leb→le}
 use lib.ListN.{getD}
 use mir.Facts.{and-yes, or-yes}
 use borrow.Author.Tests.{le-leb}
-use Rattle.opcode.specs.Table.{Control, Code, plain, control, vector, Row, carried, float, unassigned, vectors, vectorAt, plainLines, latest, known, lookUp, plainAt, PREFIX, rowAt}
+use Rattle.opcode.specs.Table.{Control, Code, plain, control, vector, Row, carried, float, unassigned, vectors, vectorAt, plainLines, latest, known}
+use Rattle.opcode.specs.Table.{lookUp, plainAt, PREFIX, rowAt}
 use Rattle.opcode.specs.Number.{sinceIn, sinceOf, groupOf}
 use Rattle.opcode.proofs.Every.{below, below-or-past}
 use Rattle.opcode.proofs.Rows.{vector-beyond}
@@ -29,10 +30,12 @@ look-up-since ver b [] t = by (leb 1 ver)
     by : (u : Bool) → unassigned ≡ cond u unassigned unassigned
     by true = refl
     by false = refl
-look-up-since ver b ((n, t, v, c) ∷ ls) all = by (eqb b n) (leb v latest) (and-yes (leb v latest) (come ls) all .0) (look-up-since ver b ls (and-yes (leb v latest) (come ls) all .1))
+look-up-since ver b ((n, t, v, c) ∷ ls) all =
+    by (eqb b n) (leb v latest) (and-yes (leb v latest) (come ls) all .0) (look-up-since ver b ls (and-yes (leb v latest) (come ls) all .1))
   where
     by : (u w : Bool) → T w → lookUp ver b ls ≡ cond (leb (sinceIn b ls) ver) (lookUp latest b ls) unassigned
-        → cond u (cond (leb v ver) (carried c) unassigned) (lookUp ver b ls) ≡ cond (leb (cond u v (sinceIn b ls)) ver) (cond u (cond w (carried c) unassigned) (lookUp latest b ls)) unassigned
+        → cond u (cond (leb v ver) (carried c) unassigned) (lookUp ver b ls)
+        ≡ cond (leb (cond u v (sinceIn b ls)) ver) (cond u (cond w (carried c) unassigned) (lookUp latest b ls)) unassigned
     by true true h rest = refl
     by true false h rest = absurd h
     by false w h rest = rest
@@ -118,7 +121,8 @@ straight unassigned = true
 straight-vectors : (n : ℕ) → T (straight (vectorAt n))
 unfolding vectorAt vectors
 straight-vectors n =
-    ⊎-elim (below (λ (k : ℕ). straight (getD vectors k unassigned)) 256 tt n) (λ l. subst (λ (x : Row). T (straight x)) (sym (vector-beyond n l)) tt) (below-or-past 256 n)
+    ⊎-elim (below (λ (k : ℕ). straight (getD vectors k unassigned)) 256 tt n) (λ l. subst (λ (x : Row). T (straight x)) (sym (vector-beyond n l)) tt)
+    (below-or-past 256 n)
 
 pub one-straight : (b n : ℕ) (k : Control) → rowAt 1 b n ≡ carried (control k) → ⊥
 one-straight b n k e = subst (λ (x : Row). T (straight x)) e (by (eqb b PREFIX))

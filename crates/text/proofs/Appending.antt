@@ -36,7 +36,8 @@ with-room {xs} {out} {out′} {at} {n} room place made =
 -- the text so far
 pub take-sets : (out : List ℕ) (at : ℕ) (xs : List ℕ) → at + length xs ≤ length out → take (at + length xs) (sets out at xs) ≡ take at out ++ xs
 take-sets out at xs h =
-    let long : length (take at out ++ xs) ≡ at + length xs = length-append (take at out) xs ∙ ap (λ (k : ℕ). k + length xs) (length-take-le at out (omega arith)) in
+    let long : length (take at out ++ xs) ≡ at + length xs =
+    length-append (take at out) xs ∙ ap (λ (k : ℕ). k + length xs) (length-take-le at out (omega arith)) in
     ap (take (at + length xs)) (sets-eq xs out at h) ∙ take-at (take at out ++ xs) (drop (at + length xs) out) (at + length xs) long
 
 pub text-grows : {xs out out′ : List ℕ} {at n : ℕ} → Appends xs out at n out′ → at + length xs ≤ length out → take n out′ ≡ take at out ++ xs
@@ -50,7 +51,8 @@ room-left k (no-room h) room = absurd (let none : ⊥ = omega arith in none)
 pub none-appended : (out : List ℕ) (at : ℕ) → at ≤ length out → Appends [] out at at out
 none-appended out at h = with-room (omega arith) (omega arith) refl
 
-pub both-appended : {xs ys out out′ out″ : List ℕ} {at m n : ℕ} → Appends xs out at m out′ → Appends ys out′ m n out″ → at + (length xs + length ys) ≤ length out
+pub both-appended : {xs ys out out′ out″ : List ℕ} {at m n : ℕ} → Appends xs out at m out′ → Appends ys out′ m n out″
+    → at + (length xs + length ys) ≤ length out
     → Appends (xs ++ ys) out at n out″
 both-appended {xs} {ys} {out} {at = at} (fits h) (fits k) room =
     with-room (omega (arith, length-append xs ys)) (omega (arith, length-append xs ys)) (sets-append xs out ys at)

@@ -44,7 +44,8 @@ module _ (P : ℕ → List ℕ → Type 0) (one : (n : ℕ) → n < 10 → P n (
   by-measure (suc k) n h =
       elim (decLt n 10) [
         | yes small ↦ alone (suc k) n small
-        | no large ↦ rw (leading-more k (n / 10) (omega arith), lt-ltb (n % 10) 10 (omega arith)) (more n (leading k (n / 10 / 10) ++ glyph (n / 10 % 10) ∷ []) (omega arith) (by-measure k (n / 10) (omega arith)))
+        | no large ↦ rw (leading-more k (n / 10) (omega arith), lt-ltb (n % 10) 10 (omega arith))
+            (more n (leading k (n / 10 / 10) ++ glyph (n / 10 % 10) ∷ []) (omega arith) (by-measure k (n / 10) (omega arith)))
       ]
 
   by-digits : (n : ℕ) → P n (decimal n)
@@ -82,7 +83,11 @@ longer n (suc (suc c)) h f =
 pub decimal-is : (n : ℕ) → Decimal n (decimal n)
 decimal-is n =
     by-digits Decimal
-    (λ n h. record { count = 1; fewest = (omega arith, omega arith, λ l. omega arith); spelled = ap (λ (d : ℕ). d ∷ []) (omega (arith, digit (n % 10) (omega arith))) })
+    (λ n h. record {
+      count = 1;
+      fewest = (omega arith, omega arith, λ l. omega arith);
+      spelled = ap (λ (d : ℕ). d ∷ []) (omega (arith, digit (n % 10) (omega arith)));
+    })
     (λ n text h p. record {
       count = suc (p .count);
       fewest = longer n (p .count) h (p .fewest);

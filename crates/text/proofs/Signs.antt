@@ -47,7 +47,8 @@ module _ (z : ℤ) (f : SFits w64 z) (b : ℕ) (e : b ≡ ofZ w64 (toZ w64 (ofZ 
 
 set-sets : (vs out : List ℕ) (i j b : ℕ) → i < j → set (sets out j vs) i b ≡ sets (set out i b) j vs
 set-sets [] out i j b h = refl
-set-sets (v ∷ vs) out i j b h = set-sets vs (set out j v) i (suc j) b (omega arith) ∙ ap (λ (l : List ℕ). sets l (suc j) vs) (set-comm out j i v b (λ e. omega arith))
+set-sets (v ∷ vs) out i j b h =
+    set-sets vs (set out j v) i (suc j) b (omega arith) ∙ ap (λ (l : List ℕ). sets l (suc j) vs) (set-comm out j i v b (λ e. omega arith))
 
 -- the byte before a text that was written, and none before one that was not
 pub before : {xs out out′ : List ℕ} {at n : ℕ} (b : ℕ) → Appends xs out (at + 1) n out′ → (n ≡ at + 1 → ⊥) → Appends (b ∷ xs) out at n (set out′ at b)

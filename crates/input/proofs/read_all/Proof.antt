@@ -34,20 +34,26 @@ returns c = tt
 
 add-n : tie.Need-add-n Inv-loop μ-loop
 add-n c =
-    let r = c .before .before .before .before .before .before .read-on in
-    let l = c .before .before .before .before .before .before .before .before .before .loop in
+    let at-read-on = c .before .before .before .before .before .before in
+    let at-loop = at-read-on .before .before .before in
+    let r = at-read-on .read-on in
+    let l = at-loop .loop in
     omega (arith, inside-bytes (c .before .before .more .given .1) (r .ensures .0), r .kept .0, l .inv .0)
 
 loop-less : tie.Need-loop-less Inv-loop μ-loop
 loop-less c =
-    let r = c .before .before .before .before .before .before .read-on in
-    let l = c .before .before .before .before .before .before .before .before .before .loop in
+    let at-read-on = c .before .before .before .before .before .before in
+    let at-loop = at-read-on .before .before .before in
+    let r = at-read-on .read-on in
+    let l = at-loop .loop in
     omega (arith, inside-bytes (c .before .before .more .given .1) (r .ensures .0), r .kept .0, l .inv .0, c .if1 .left)
 
 loop-again : tie.Need-loop-again Inv-loop μ-loop
 loop-again c =
-    let r = c .before .before .before .before .before .before .read-on in
-    let l = c .before .before .before .before .before .before .before .before .before .loop in
+    let at-read-on = c .before .before .before .before .before .before in
+    let at-loop = at-read-on .before .before .before in
+    let r = at-read-on .read-on in
+    let l = at-loop .loop in
     (omega (arith, inside-bytes (c .before .before .more .given .1) (r .ensures .0), r .kept .0, l .inv .0), r .kept .0 ∙ l .inv .1)
 
 same-length-2 : tie.Need-same-length-2 Inv-loop μ-loop
@@ -57,10 +63,16 @@ returns-2 : tie.Need-returns-2 Inv-loop μ-loop
 returns-2 c = c .before .loop .inv .0
 
 same-length-3 : tie.Need-same-length-3 Inv-loop μ-loop
-same-length-3 c = c .before .before .before .before .before .before .read-on .kept .0 ∙ c .before .before .before .before .before .before .before .before .before .loop .inv .1
+same-length-3 c =
+    let at-read-on = c .before .before .before .before .before .before in
+    let at-loop = at-read-on .before .before .before in
+    at-read-on .read-on .kept .0 ∙ at-loop .loop .inv .1
 
 returns-3 : tie.Need-returns-3 Inv-loop μ-loop
-returns-3 c = omega (arith, c .before .before .before .before .before .before .read-on .kept .0, c .before .before .before .before .before .before .before .before .before .loop .inv .0)
+returns-3 c =
+    let at-read-on = c .before .before .before .before .before .before in
+    let at-loop = at-read-on .before .before .before in
+    omega (arith, at-read-on .read-on .kept .0, at-loop .loop .inv .0)
 
 pub read-all-spec : {M : Type 1} → statement M
 read-all-spec =

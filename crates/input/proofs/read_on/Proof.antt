@@ -44,8 +44,11 @@ same-length-2 c = search needs
 
 returns-2 : tie.Need-returns-2
 returns-2 c =
-    let a = c .before .before .before .before .before .before .before .before .before in
-    (omega (arith, simp (length-take, length-drop) at (c .count .ensures .0 .0)), take-put (a .args .n) (length (a .args .buf .now) - a .args .n) (a .args .buf .now) (c .before .before .before .before .before .before .read .last .1 .0) (a .pre))
+    let at-read = c .before .before .before .before .before .before in
+    let a = at-read .before .before .before in (
+      omega (arith, simp (length-take, length-drop) at (c .count .ensures .0 .0)),
+      take-put (a .args .n) (length (a .args .buf .now) - a .args .n) (a .args .buf .now) (at-read .read .last .1 .0) (a .pre),
+    )
 
 pub read-on-spec : {M : Type 1} → statement M
 read-on-spec =

@@ -21,8 +21,10 @@ same-length c = search needs
 
 returns : tie.Need-returns
 returns c =
-    let d = c .before .before .before .before .before .decimal in
-    let n = c .before .before .before .before .before .before .before .before .args .n in
+    let at-decimal = c .before .before .before .before .before in
+    let start = at-decimal .before .before .before in
+    let d = at-decimal .decimal in
+    let n = start .args .n in
     rw (decimal-once (record { count = d .result; fewest = d .ensures .1 .0; spelled = d .ensures .1 .1 }) (decimal-is n)) at (c .before .before .put .ensures)
 
 pub decimal-spec : {M : Type 1} → statement M

@@ -43,10 +43,12 @@ same-length-2 c = search needs
 
 returns-3 : tie.Need-returns-3
 returns-3 c =
-    let t = c .before .before .before .before .before .before in
+    let at-decimal2 = c .before .before .before in
+    let t = at-decimal2 .before .before .before in
     let b = t .before .bits64 in
     let a = t .before .before .before in
-    rw (sign (a .args .n) (a .fits .n) (b .result) (b .ensures) (t .if1 .left)) at (none-before minus (decimal-some _) (c .before .before .before .decimal2 .ensures) (c .if3 .taken))
+    rw (sign (a .args .n) (a .fits .n) (b .result) (b .ensures) (t .if1 .left)) at
+    (none-before minus (decimal-some _) (at-decimal2 .decimal2 .ensures) (c .if3 .taken))
 
 slice-write-out : tie.Need-slice-write-out
 slice-write-out c = search needs

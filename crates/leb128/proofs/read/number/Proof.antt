@@ -73,8 +73,12 @@ returns c = ends (c .before .loop .inv) (c .if1 .taken)
 
 returns-2 : tie.Need-returns-2 Inv-loop μ-loop
 returns-2 c =
-    stops (c .before .before .before .before .before .before .before .loop .inv) (c .before .before .before .before .before .before .if1 .left) _
-    (c .before .before .before .before .wide .ensures) (c .before .before .before .if2 .taken) (sym (c .before .before .allowed .ensures) ∙ c .before .if3 .taken)
+    let at-if2 = c .before .before .before in
+    let at-wide = at-if2 .before in
+    let at-if1 = at-wide .before .before in
+    let at-loop′ = at-if1 .before in
+    stops (at-loop′ .loop .inv) (at-if1 .if1 .left) _
+    (at-wide .wide .ensures) (at-if2 .if2 .taken) (sym (c .before .before .allowed .ensures) ∙ c .before .if3 .taken)
     _ (c .extended .ensures)
 
 returns-3 : tie.Need-returns-3 Inv-loop μ-loop

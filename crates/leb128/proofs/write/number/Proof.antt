@@ -30,13 +30,17 @@ limit-requires c κs = search needs
 
 put-requires : tie.Need-put-requires
 put-requires c κs =
-    let start = c .before .before .before .before .before .before .before .before in
+    let at-negative = c .before .before .before in
+    let at-if2 = at-negative .before in
+    let at-if1 = at-if2 .before in
+    let at-number-len = at-if1 .before in
+    let start = at-number-len .before .before in
     let bytes =
-    signed-bytes (start .args .signed) (start .args .v) (start .args .top) (start .pre .0) (start .pre .1) _ _ _ (c .before .before .before .negative .ensures)
+    signed-bytes (start .args .signed) (start .args .v) (start .args .top) (start .pre .0) (start .pre .1) _ _ _ (at-negative .negative .ensures)
     (c .before .magnitude .ensures) (c .limit .ensures) in (
       rw (c .limit .ensures) (limit-least (start .args .signed)),
       rw bytes
-          (omega (arith, c .before .before .before .before .if2 .left, c .before .before .before .before .before .if1 .left, c .before .before .before .before .before .before .number-len .ensures)),
+          (omega (arith, at-if2 .if2 .left, at-if1 .if1 .left, at-number-len .number-len .ensures)),
     )
 
 same-length : tie.Need-same-length
@@ -44,11 +48,14 @@ same-length c = search needs
 
 returns-3 : tie.Need-returns-3
 returns-3 c =
-    let at-if = c .before .before .before .before .before .before .before in
+    let at-limit = c .before .before .before in
+    let at-magnitude = at-limit .before in
+    let at-negative = at-magnitude .before .before in
+    let at-if = at-negative .before in
     let start = at-if .before .before .before .before in
     let bytes =
     signed-bytes (start .args .signed) (start .args .v) (start .args .top) (start .pre .0) (start .pre .1) _ _ _
-    (c .before .before .before .before .before .before .negative .ensures) (c .before .before .before .before .magnitude .ensures) (c .before .before .before .limit .ensures) in
+    (at-negative .negative .ensures) (at-magnitude .magnitude .ensures) (at-limit .limit .ensures) in
     let done = rw bytes at (c .before .before .put .ensures) in
     accepted _ _ _ (omega (arith, at-if .if2 .left, at-if .before .if1 .left, at-if .before .before .number-len .ensures)) _ (done .0) _ (done .1)
 

@@ -24,7 +24,8 @@ returns c =
     let start = c .before .before .before .before in
     let is-negative = c .before .before .before .negative .ensures in
     let bytes =
-    signed-bytes (start .args .signed) (start .args .v) (start .args .top) (start .pre .0) (start .pre .1) _ _ _ is-negative (c .before .before .magnitude .ensures)
+    signed-bytes (start .args .signed) (start .args .v) (start .args .top) (start .pre .0) (start .pre .1) _ _ _ is-negative
+    (c .before .before .magnitude .ensures)
     (c .before .limit .ensures) in
     c .count .ensures (c .before .before .before .negative .result) ∙ ap length bytes
 
