@@ -67,7 +67,8 @@ module _ {ins outs : List Kind} {effect : ℕ} (small : Small ins outs) (is : pa
         fits (it .0) (it .1) (omega (arith, whole .many)) whole
 
 -- of any kinds
-module _ {ins outs outer : List Kind} {f : Frame} {kinds after : List ℕ} {depth floor base : ℕ} {dead : Bool} (t : Top kinds depth floor dead outer f) (l : depth ≤ stackLimit) (u : Under f ins floor base) where
+module _ {ins outs outer : List Kind} {f : Frame} {kinds after : List ℕ} {depth floor base : ℕ} {dead : Bool}
+    (t : Top kinds depth floor dead outer f) (l : depth ≤ stackLimit) (u : Under f ins floor base) where
   pub exchanges-lacks : {d : ℕ} → stackLimit < base → Applies outer f ins outs after OPERAND d
   exchanges-lacks b = lacks (under-none t u l b)
 

@@ -27,8 +27,10 @@ br-needs : {ls : List Kind} {i : Instr} {f g : Frame} {fs fs′ : List Frame} �
 br-needs (ordinary t h) l = absurd (control-untyped t refl)
 br-needs {f = f} (branches {below} m h) l = (below, subst (λ (x : Frame). Has f below (branchKinds x)) (label-once m l) h)
 
-module _ {ls rs : List Kind} {i : Instr} {kinds blocks : List ℕ} {depth nest floor : ℕ} {dead : Bool} (takes base : ℕ) (few : depth ≤ stackLimit) (under-it : (outer ins : List Kind) (f : Frame) → Top kinds depth floor dead outer f → topFirst ins ≡ takes → Under f ins floor base) where
-  lacks-br : {d n l : ℕ} {e : Bool} {after : List ℕ} (f : Frame) (fs : List Frame) → Labelled (f ∷ fs) (i .index) takes → Framed rs kinds blocks depth nest floor dead (f ∷ fs) → stackLimit < base
+module _ {ls rs : List Kind} {i : Instr} {kinds blocks : List ℕ} {depth nest floor : ℕ} {dead : Bool} (takes base : ℕ) (few : depth ≤ stackLimit)
+    (under-it : (outer ins : List Kind) (f : Frame) → Top kinds depth floor dead outer f → topFirst ins ≡ takes → Under f ins floor base) where
+  lacks-br : {d n l : ℕ} {e : Bool} {after : List ℕ} (f : Frame) (fs : List Frame) → Labelled (f ∷ fs) (i .index) takes
+      → Framed rs kinds blocks depth nest floor dead (f ∷ fs) → stackLimit < base
       → Judges ls rs i (control Br) (f ∷ fs) after blocks d n l e OPERAND
   lacks-br f fs g w z =
       let t = framed-top w in
@@ -94,14 +96,17 @@ module _ {ls rs : List Kind} {i : Instr} {kinds after blocks : List ℕ} {depth 
         })
 
   pub may-branches : {fs : List Frame} {code d : ℕ}
-      → ((outer ins outs : List Kind) (f : Frame) → Top kinds depth floor dead outer f → topFirst ins ≡ takes * 256 + 0x7F → number (map kindByte outs) ≡ left-number → Applies outer f ins outs after code d)
+      → ((outer ins outs : List Kind) (f : Frame) → Top kinds depth floor dead outer f → topFirst ins ≡ takes * 256 + 0x7F
+      → number (map kindByte outs) ≡ left-number → Applies outer f ins outs after code d)
       → Labelled fs (i .index) takes → Framed rs kinds blocks depth nest floor dead fs → Judges ls rs i (control BrIf) fs after blocks d nest floor dead code
   may-branches {code = code} {d} applies g w =
-      frames-case (λ x. Labelled x (i .index) takes → Framed rs kinds blocks depth nest floor dead x → Judges ls rs i (control BrIf) x after blocks d nest floor dead code)
+      frames-case (λ x. Labelled x (i .index) takes → Framed rs kinds blocks depth nest floor dead x → Judges ls rs i
+      (control BrIf) x after blocks d nest floor dead code)
       (w .nested)
       (λ f rest y v.
       if-by f rest y v
-      (applies (allValues rest) (branchKinds (y .target) ++ i32 ∷ []) (branchKinds (y .target)) f (framed-top v) (over-condition (branchKinds (y .target)) takes (y .takes-is)) (turned (branchKinds (y .target)) (y .few) (y .takes-is))))
+      (applies (allValues rest) (branchKinds (y .target) ++ i32 ∷ []) (branchKinds (y .target)) f (framed-top v)
+      (over-condition (branchKinds (y .target)) takes (y .takes-is)) (turned (branchKinds (y .target)) (y .few) (y .takes-is))))
       g w
 
 -- ---- either

@@ -38,7 +38,8 @@ module _ {top : Frame} {floor base : ℕ} where
       none [] h e = h
       none (k ∷ below) h e = absurd (let never : ⊥ = omega arith in never)
 
-module _ {rs : List Kind} {kinds blocks : List ℕ} {depth nest floor : ℕ} {dead : Bool} {fs : List Frame} (w : Framed rs kinds blocks depth nest floor dead fs) (k : Closing rs blocks nest floor dead fs) where
+module _ {rs : List Kind} {kinds blocks : List ℕ} {depth nest floor : ℕ} {dead : Bool} {fs : List Frame}
+    (w : Framed rs kinds blocks depth nest floor dead fs) (k : Closing rs blocks nest floor dead fs) where
   framed-here : Framed rs kinds blocks depth nest floor dead (k .top ∷ k .next ∷ k .rest)
   framed-here = subst (Framed rs kinds blocks depth nest floor dead) (k .frames) w
 
@@ -78,13 +79,17 @@ module _ {rs : List Kind} {kinds blocks : List ℕ} {depth nest floor : ℕ} {de
       outside =
           let v = framed-top′ in
           subst (λ (x : ℕ). Nested rs blocks (nest - 1) x e ((holding (k .next) (k .next .values ++ k .top .results)) ∷ k .rest)) (sym floor-told)
-          (subst (λ (x : Bool). Nested rs blocks (nest - 1) (k .outer-floor) x ((holding (k .next) (k .next .values ++ k .top .results)) ∷ k .rest)) (v ∙ sym dead-told) (nested-as (holding (k .next) (k .next .values ++ k .top .results)) refl refl (k .around)))
+          (subst (λ (x : Bool). Nested rs blocks (nest - 1) (k .outer-floor) x ((holding (k .next) (k .next .values ++ k .top .results)) ∷ k .rest))
+          (v ∙ sym dead-told) (nested-as (holding (k .next) (k .next .values ++ k .top .results)) refl refl (k .around)))
         where
           framed-top′ : k .next .dead ≡ k .outer-dead
           framed-top′ = nested-dead (k .around)
 
-      by-leaving : {ls : List Kind} {i : Instr} {after : List ℕ} {code d : ℕ} → Leaves (allValues (k .next ∷ k .rest)) (k .top .results) after code d → Judges ls rs i (plain End) (k .top ∷ k .next ∷ k .rest) after blocks d (nest - 1) l e code
-      by-leaving (too-many big) = too-deep (closes (ends h)) (subst (λ (x : List Kind). stackLimit < length x) (append-assoc (allValues (k .rest)) (k .next .values) (k .top .results)) big)
+      by-leaving : {ls : List Kind} {i : Instr} {after : List ℕ} {code d : ℕ} → Leaves (allValues (k .next ∷ k .rest)) (k .top .results) after code d
+          → Judges ls rs i (plain End) (k .top ∷ k .next ∷ k .rest) after blocks d (nest - 1) l e code
+      by-leaving (too-many big) =
+          too-deep (closes (ends h)) (subst (λ (x : List Kind). stackLimit < length x)
+          (append-assoc (allValues (k .rest)) (k .next .values) (k .top .results)) big)
       by-leaving {after = after} {d = d} (left small g) =
           let same = append-assoc (allValues (k .rest)) (k .next .values) (k .top .results) in
           typed (closes (ends h))
@@ -94,5 +99,7 @@ module _ {rs : List Kind} {kinds blocks : List ℕ} {depth nest floor : ℕ} {de
             within = record { blocks = omega (arith, framed-here .within .blocks); values = subst (λ (x : List Kind). length x ≤ stackLimit) same small };
           })
 
-      pub closes-by : {ls : List Kind} {i : Instr} {after : List ℕ} {code d : ℕ} → Leaves (allValues (k .next ∷ k .rest)) (k .top .results) after code d → Judges ls rs i (plain End) fs after blocks d (nest - 1) l e code
-      closes-by {ls} {i} {after} {code} {d} x = subst (λ (y : List Frame). Judges ls rs i (plain End) y after blocks d (nest - 1) l e code) (sym (k .frames)) (by-leaving x)
+      pub closes-by : {ls : List Kind} {i : Instr} {after : List ℕ} {code d : ℕ}
+          → Leaves (allValues (k .next ∷ k .rest)) (k .top .results) after code d → Judges ls rs i (plain End) fs after blocks d (nest - 1) l e code
+      closes-by {ls} {i} {after} {code} {d} x =
+          subst (λ (y : List Frame). Judges ls rs i (plain End) y after blocks d (nest - 1) l e code) (sym (k .frames)) (by-leaving x)

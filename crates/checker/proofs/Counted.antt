@@ -49,7 +49,9 @@ module _ {s : List ℕ} {v n r : ℕ} {h : Header} (k : Counts s v n r h) where
       record {
         many = k .results-are;
         rest = k .declares .body;
-        here = sym (drop-drop n 8 s) ∙ ap (λ (x : List ℕ). drop n x) kind-bytes ∙ drop-at (map kindByte (locals h)) (map kindByte (h .results) ++ k .declares .body) n (length-map (locals h) kindByte ∙ k .locals-are);
+        here =
+            sym (drop-drop n 8 s) ∙ ap (λ (x : List ℕ). drop n x) kind-bytes ∙ drop-at (map kindByte (locals h))
+            (map kindByte (h .results) ++ k .declares .body) n (length-map (locals h) kindByte ∙ k .locals-are);
       }
 
 -- the counts stand in the header

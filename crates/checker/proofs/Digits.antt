@@ -49,7 +49,16 @@ module _ (s : List ℕ) (from n : ℕ) where
       record {
         most = omega arith;
         small = omega arith;
-        so-far = λ ks h. record { ahead = ks; acc = []; parts = refl; sofar = refl; many = refl; bytes = λ j l. ap (λ (y : ℕ). getD s (from + y) 0) (let e : 0 + j ≡ j = omega arith in e) ∙ held-from s from h j (omega (arith, h .many)) };
+        so-far =
+            λ ks h. record {
+              ahead = ks;
+              acc = [];
+              parts = refl;
+              sofar = refl;
+              many = refl;
+              bytes = λ j l. ap (λ (y : ℕ). getD s (from + y) 0)
+                  (let e : 0 + j ≡ j = omega arith in e) ∙ held-from s from h j (omega (arith, h .many));
+            };
       }
 
   module _ {k all : ℕ} (w : Reading s from n k all) where

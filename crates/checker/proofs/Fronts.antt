@@ -104,7 +104,8 @@ module _ (s : List ℕ) where
           kinds = w .kinds ++ (it .0 ∷ []);
           many = omega (arith, w .many, length-append (w .kinds) (it .0 ∷ []));
           here = next-byte l ∙ ap (λ (b : ℕ). map kindByte (w .kinds) ++ (b ∷ drop (8 + (k + 1)) s)) (it .1)
-              ∙ sym (ap (λ (x : List ℕ). x ++ drop (8 + (k + 1)) s) (map-append kindByte (w .kinds) (it .0 ∷ [])) ∙ append-assoc (map kindByte (w .kinds)) (kindByte (it .0) ∷ []) (drop (8 + (k + 1)) s));
+              ∙ sym (ap (λ (x : List ℕ). x ++ drop (8 + (k + 1)) s) (map-append kindByte (w .kinds) (it .0 ∷ [])) ∙ append-assoc
+              (map kindByte (w .kinds)) (kindByte (it .0) ∷ []) (drop (8 + (k + 1)) s));
         }
 
     pub read-cut : (n : ℕ) → k < n → length s ≤ 8 + k → KindsSay s n SHORT (length s)

@@ -131,7 +131,8 @@ goes-of (no-results e f) z = absurd (let never : ⊥ = omega arith in never)
 goes-of (too-deep t big) z = absurd (let never : ⊥ = omega arith in never)
 goes-of (typed {fs′} t g) z = (fs′, t, g)
 
-module _ {s : List ℕ} {v n takes : ℕ} {kinds blocks : List ℕ} {depth nest floor : ℕ} {dead : Bool} {at : ℕ} (w : Going s v n takes kinds blocks depth nest floor dead at) (d : Scanned) (is : d ≡ scanOf (decodeIn v s at)) where
+module _ {s : List ℕ} {v n takes : ℕ} {kinds blocks : List ℕ} {depth nest floor : ℕ} {dead : Bool} {at : ℕ}
+    (w : Going s v n takes kinds blocks depth nest floor dead at) (d : Scanned) (is : d ≡ scanOf (decodeIn v s at)) where
   told : d ≡ scanOf (decodeAt (w .header .version) s at)
   told = is ∙ ap (λ (x : ℕ). scanOf (decodeIn x s at)) (sym (w .version-is)) ∙ ap scanOf (decodes-known (w .header .version) (w .declares .versioned) s at)
 
@@ -180,7 +181,8 @@ module _ {s : List ℕ} {v n takes : ℕ} {kinds blocks : List ℕ} {depth nest 
     at-end e =
         let it = is-end e .1 in
         let k = alone (w .framed .nested) (is-end e .0) in
-        let framed : Framed (w .header .results) kinds blocks depth nest floor dead (k .strip-frame ∷ []) = subst (Framed (w .header .results) kinds blocks depth nest floor dead) (k .frames) (w .framed) in
+        let framed : Framed (w .header .results) kinds blocks depth nest floor dead (k .strip-frame ∷ []) = subst
+        (Framed (w .header .results) kinds blocks depth nest floor dead) (k .frames) (w .framed) in
         let at-strip : At s (w .header) at (k .strip-frame ∷ []) (decodeAt (w .header .version) s at .instr) (coded .0) =
         subst (λ (x : List Frame). At s (w .header) at x (decodeAt (w .header .version) s at .instr) (coded .0)) (k .frames) here in
         record {

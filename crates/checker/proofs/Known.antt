@@ -70,13 +70,15 @@ module _ {s : List ℕ} where
         subst (λ (x : List Frame). Framed (w .valid .header .results) k′ b′ (st′ .depth) (st′ .nest) (st′ .floor) (st′ .dead) x) (same-frames w v)
         (subst (λ (x : Header). Framed (x .results) k′ b′ (st′ .depth) (st′ .nest) (st′ .floor) (st′ .dead) (v .frames)) (same-header w v) (v .framed))
 
-    known-once : (kinds blocks : List ℕ) → drop (st .depth) k ≡ drop (st .depth) kinds → drop (st′ .depth) k′ ≡ drop (st′ .depth) kinds → drop (st .nest) b ≡ drop (st .nest) blocks → drop (st′ .nest) b′ ≡ drop (st′ .nest) blocks
+    known-once : (kinds blocks : List ℕ) → drop (st .depth) k ≡ drop (st .depth) kinds → drop (st′ .depth) k′ ≡ drop (st′ .depth) kinds
+        → drop (st .nest) b ≡ drop (st .nest) blocks → drop (st′ .nest) b′ ≡ drop (st′ .nest) blocks
         → (k ≡ k′) × (b ≡ b′) × (st ≡ st′)
     known-once kinds blocks kept kept′ left left′ =
         let f = w .framed in
         let g = as-first in
         let depth : st .depth ≡ st′ .depth = sym (f .holds .many) ∙ g .holds .many in
-        let x = nested-once (f .nested) (g .nested) (omega (arith, nested-many (f .nested), f .within .blocks, w .blocks-long)) (omega (arith, nested-many (g .nested), g .within .blocks, v .blocks-long)) in (
+        let x = nested-once (f .nested) (g .nested) (omega (arith, nested-many (f .nested), f .within .blocks, w .blocks-long))
+        (omega (arith, nested-many (g .nested), g .within .blocks, v .blocks-long)) in (
           filled kinds depth (held-front (f .holds) ∙ sym (held-front (g .holds))) kept kept′,
           filled blocks (x .nest) (x .words) left left′,
           same-state st st′ (w .well ∙ sym (v .well)) depth (x .nest) (x .floor) (x .dead),

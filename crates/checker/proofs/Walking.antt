@@ -92,9 +92,11 @@ module _ {s : List ℕ} {p : ℕ} {kinds blocks : List ℕ} {state : State} (w :
         turn-ready = ready going d is b read other
 
         pub next-step : {kinds′ blocks′ : List ℕ} (state′ : State)
-            → ((c : Code) (i : Instr) (ls rs : List Kind) (fs : List Frame) → Faces s (getD s 5 0 + getD s 6 0) takes (d .entry) (d .immediate) kinds blocks (state .depth) (state .nest) (state .floor) (state .dead) c i ls rs fs
+            → ((c : Code) (i : Instr) (ls rs : List Kind) (fs : List Frame)
+            → Faces s (getD s 5 0 + getD s 6 0) takes (d .entry) (d .immediate) kinds blocks (state .depth) (state .nest) (state .floor) (state .dead) c i ls rs fs
             → Judges ls rs i c fs kinds′ blocks′ (state′ .depth) (state′ .nest) (state′ .floor) (state′ .dead) (state′ .code))
-            → Keeps (state′ .code) (state′ .depth) kinds kinds′ × Keeps (state′ .code) (state′ .nest) blocks blocks′ → length kinds′ ≡ length kinds → length blocks′ ≡ length blocks
+            → Keeps (state′ .code) (state′ .depth) kinds kinds′ × Keeps (state′ .code) (state′ .nest) blocks blocks′ → length kinds′ ≡ length kinds
+            → length blocks′ ≡ length blocks
             → Steps s p kinds blocks state kinds′ blocks′ state′
         next-step {kinds′} {blocks′} state′ j keeps lk lb = stepped (by (ahead (w .valid) (w .reached)))
           where
@@ -103,5 +105,15 @@ module _ {s : List ℕ} {p : ℕ} {kinds blocks : List ℕ} {state : State} (w :
             by (goes {fs′ = fs′} r u l) =
                 let t = only (λ x y. Types (locals h) x y (w .frames) fs′) r u i (its .0) (d .len) (its .1) in
                 let k = passed t l (judgement going d is b read other j) in
-                on (record { valid = w .valid; frames = fs′; reached = past (w .reached) (its .1) t l; framed = k .1; kinds-long = lk ∙ w .kinds-long; blocks-long = lb ∙ w .blocks-long; well = k .0 })
+                on (record {
+                  valid =
+                      w .valid;
+                  frames = fs′;
+                  reached = past (w .reached) (its .1) t l;
+                  framed = k .1;
+                  kinds-long = lk ∙ w .kinds-long;
+                  blocks-long = lb
+                      ∙ w .blocks-long;
+                  well = k .0;
+                })
                 (keeps .0 (k .0)) (keeps .1 (k .0))

@@ -15,8 +15,8 @@ use Rattle.opcode.specs.Number.{classNumber, FLOAT, UNASSIGNED, classOf, idOf, 
 use Rattle.opcode.proofs.Id.{row-of-id}
 use Rattle.opcode.proofs.Classes.{class-carried, class-float, class-unassigned}
 use Rattle.opcode.proofs.Arms.{Missed}
-use Rattle.instr.specs.Layout.{Head, immediateFields, fieldsOf}
-use Rattle.instr.specs.Decode.{refusal, immediatesAt, bodyOf}
+use Rattle.instr.specs.Layout.{Head, immediateFields, fieldsOf, refusal}
+use Rattle.instr.specs.Decode.{immediatesAt, bodyOf}
 use Rattle.instr.specs.Encode.{exponentFault, allBelow, faultIn, faultOf}
 use Rattle.instr.specs.Inner.Steps.{memoryClass, laneEnds}
 use Rattle.instr.specs.declared.Instr.{Instr}

@@ -10,8 +10,8 @@ use Rattle.leb128.specs.Number.{numberAt}
 use Rattle.leb128.specs.declared.read.Leb.{Leb}
 use Rattle.opcode.specs.BlockType.{isBlockType}
 use Rattle.opcode.specs.Table.{rowAt}
-use Rattle.instr.specs.Layout.{head}
-use Rattle.instr.specs.Decode.{refusal, got, no, itemOf, numberItem, byteAt, laneAt, blockAt, bodyOf, opcodeNumber, decodeAt}
+use Rattle.instr.specs.Layout.{head, refusal}
+use Rattle.instr.specs.Decode.{got, no, itemOf, numberItem, byteAt, laneAt, blockAt, bodyOf, opcodeNumber, decodeAt}
 
 module _ (s : List ℕ) where
   pub number-item : (sign : Bool) (N p : ℕ) (r : Leb) → numberAt sign N s p ≡ r → numberItem sign N s p ≡ itemOf s p r

@@ -3,8 +3,8 @@ use Prim.Native.Nat.{ℕ}
 use mathlib.Core.Bool.{Bool, true, false}
 use mathlib.Core.List.{List}
 use mathlib.Core.Path.{_≡_}
-use Rattle.instr.specs.Layout.{Head, zeros, instr}
-use Rattle.instr.specs.Decode.{refusal, done, got, no, numberItem, exponentAt, immediatesAt}
+use Rattle.instr.specs.Layout.{Head, zeros, instr, refusal}
+use Rattle.instr.specs.Decode.{done, got, no, numberItem, exponentAt, immediatesAt}
 use Rattle.instr.specs.Inner.Steps.{memoryClass, laneEnds}
 
 module _ (m n : ℕ) (s : List ℕ) (at p : ℕ) (h : Head) where

@@ -12,8 +12,8 @@ use Rattle.opcode.specs.Entry.{entryOf}
 use Rattle.opcode.proofs.Id.{row-of-id}
 use Rattle.opcode.proofs.Inverse.{row-once}
 use Rattle.opcode.proofs.Versions.{row-latest}
-use Rattle.instr.specs.Layout.{Head, head}
-use Rattle.instr.specs.Decode.{refusal, Item, got, no, andThen, numberItem, laneAt, blockAt, exponentAt, lanesAt, sixteenAt, immediatesAt, bodyOf}
+use Rattle.instr.specs.Layout.{Head, head, refusal}
+use Rattle.instr.specs.Decode.{Item, got, no, andThen, numberItem, laneAt, blockAt, exponentAt, lanesAt, sixteenAt, immediatesAt, bodyOf}
 use Rattle.instr.specs.Fetch.{fetchOf}
 use Rattle.instr.specs.declared.Decoded.{Decoded}
 use Rattle.instr.proofs.Onward.{Onward, number-onward, exponent-onward, lane-onward, block-onward, lanes-onward, sixteen-onward}

@@ -18,8 +18,8 @@ use Rattle.opcode.specs.Entry.{entryOf}
 use Rattle.opcode.proofs.Id.{row-of-id}
 use Rattle.opcode.proofs.Classes.{class-carried, class-float}
 use Rattle.opcode.proofs.Versions.{row-latest}
-use Rattle.instr.specs.Layout.{Head, head}
-use Rattle.instr.specs.Decode.{refusal, Item, got, no, andThen, andRead, itemOf, numberItem, byteAt, laneAt, blockAt, exponentAt, lanesAt, sixteenAt, immediatesAt, bodyOf, opcodeNumber, decodeAt}
+use Rattle.instr.specs.Layout.{Head, head, refusal}
+use Rattle.instr.specs.Decode.{Item, got, no, andThen, andRead, itemOf, numberItem, byteAt, laneAt, blockAt, exponentAt, lanesAt, sixteenAt, immediatesAt, bodyOf, opcodeNumber, decodeAt}
 use Rattle.instr.specs.Scan.{scanOf}
 use Rattle.instr.specs.Inner.Over.{over, overMemory, overClass, overRow}
 use Rattle.instr.specs.declared.Decoded.{Decoded}

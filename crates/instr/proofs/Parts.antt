@@ -10,36 +10,36 @@ use lib.IntN.{pos}
 use Rattle.card.specs.Card.{SHORT, KIND, NUMBER, LANE, ALIGN}
 use Rattle.leb128.proofs.Exact.{stands-same, stands-cut}
 use Rattle.opcode.specs.BlockType.{isBlockType}
-use Rattle.instr.specs.Refuses.{Form, number, byte, Holds, a-number, a-byte, Stops, cut-number, no-byte, Bad, bad-number, Part, any, block, lane, exponent, form, Allows, Passes, Wrong, cut, no-block-type, no-number, large-index, large-exponent, Next, here, after}
+use Rattle.instr.specs.Refuses.{Form, number, byte, ItemAt, a-number, a-byte, Stops, cut-number, no-byte, Bad, bad-number, Part, any, block, lane, exponent, form, Permits, Right, Wrong, cut, no-block-type, no-number, large-index, large-exponent, Next, here, after}
 
 -- ---- one item
 
 module _ (s : List ℕ) (p : ℕ) where
-  byte-once : {v q v′ q′ : ℕ} → Holds s p byte v q → Holds s p byte v′ q′ → v ≡ v′
+  byte-once : {v q v′ q′ : ℕ} → ItemAt s p byte v q → ItemAt s p byte v′ q′ → v ≡ v′
   byte-once (a-byte a) (a-byte b) = let e = sym a ∙ b in cc (e)
 
-  u32-once : {v q v′ q′ : ℕ} → Holds s p (number false 32) v q → Holds s p (number false 32) v′ q′ → v ≡ v′
+  u32-once : {v q v′ q′ : ℕ} → ItemAt s p (number false 32) v q → ItemAt s p (number false 32) v′ q′ → v ≡ v′
   u32-once (a-number a) (a-number b) = let e = stands-same false 32 s p a b .0 in cc (e)
 
-  pub holds-once : {f : Form} {v q v′ q′ : ℕ} → Holds s p f v q → Holds s p f v′ q′ → q ≡ q′
+  pub holds-once : {f : Form} {v q v′ q′ : ℕ} → ItemAt s p f v q → ItemAt s p f v′ q′ → q ≡ q′
   holds-once (a-number {sign} {N} a) (a-number b) = ap (λ (n : ℕ). p + n) (stands-same sign N s p a b .1)
   holds-once (a-byte a) (a-byte b) = refl
 
-  holds-stops : {f : Form} {v q : ℕ} → Holds s p f v q → Stops s p f → ⊥
+  holds-stops : {f : Form} {v q : ℕ} → ItemAt s p f v q → Stops s p f → ⊥
   holds-stops (a-number {sign} {N} a) (cut-number c) = stands-cut sign N s p a c
   holds-stops (a-byte a) (no-byte c) = omega (arith, length-drop p s, ap length a, c)
 
-  holds-bad : {f : Form} {v q : ℕ} → Holds s p f v q → Bad s p f → ⊥
+  holds-bad : {f : Form} {v q : ℕ} → ItemAt s p f v q → Bad s p f → ⊥
   holds-bad (a-number {n = n} a) (bad-number c) = c .none _ n a
 
   stops-bad : {f : Form} → Stops s p f → Bad s p f → ⊥
   stops-bad (cut-number a) (bad-number c) = c .whole a
 
-  allows-once : (i : Part) {v q v′ q′ : ℕ} → Holds s p (form i) v q → Holds s p (form i) v′ q′ → Allows i v → Allows i v′
+  allows-once : (i : Part) {v q v′ q′ : ℕ} → ItemAt s p (form i) v q → ItemAt s p (form i) v′ q′ → Permits i v → Permits i v′
   allows-once (any f) a b w = tt
-  allows-once block a b w = subst (Allows block) (byte-once a b) w
-  allows-once (lane n) a b w = subst (Allows (lane n)) (byte-once a b) w
-  allows-once (exponent m) a b w = subst (Allows (exponent m)) (u32-once a b) w
+  allows-once block a b w = subst (Permits block) (byte-once a b) w
+  allows-once (lane n) a b w = subst (Permits (lane n)) (byte-once a b) w
+  allows-once (exponent m) a b w = subst (Permits (exponent m)) (u32-once a b) w
 
   -- what a judge says of a value that is not allowed
   codeOf : Part → ℕ
@@ -52,7 +52,7 @@ module _ (s : List ℕ) (p : ℕ) where
   data Fault (i : Part) : ℕ → ℕ → Type 0 where
     cuts : Stops s p (form i) → Fault i SHORT (length s)
     bad : Bad s p (form i) → Fault i NUMBER p
-    judged : {v q : ℕ} → Holds s p (form i) v q → (Allows i v → ⊥) → Fault i (codeOf i) p
+    judged : {v q : ℕ} → ItemAt s p (form i) v q → (Permits i v → ⊥) → Fault i (codeOf i) p
 
   fault : {i : Part} {c l : ℕ} → Wrong s p i c l → Fault i c l
   unfolding codeOf
@@ -73,7 +73,7 @@ module _ (s : List ℕ) (p : ℕ) where
   fault-once (judged a n) (bad b) = absurd (holds-bad a b)
   fault-once (judged a n) (judged b m) = (refl, refl)
 
-  passes-fault : {i : Part} {q c l : ℕ} → Passes s p i q → Fault i c l → ⊥
+  passes-fault : {i : Part} {q c l : ℕ} → Right s p i q → Fault i c l → ⊥
   passes-fault t (cuts a) = holds-stops (t .holds) a
   passes-fault t (bad a) = holds-bad (t .holds) a
   passes-fault {i} t (judged a n) = n (allows-once i (t .holds) a (t .allowed))
@@ -81,13 +81,13 @@ module _ (s : List ℕ) (p : ℕ) where
   pub wrong-once : {i : Part} {c l c′ l′ : ℕ} → Wrong s p i c l → Wrong s p i c′ l′ → (c ≡ c′) × (l ≡ l′)
   wrong-once a b = fault-once (fault a) (fault b)
 
-  pub passes-wrong : {i : Part} {q c l : ℕ} → Passes s p i q → Wrong s p i c l → ⊥
+  pub passes-wrong : {i : Part} {q c l : ℕ} → Right s p i q → Wrong s p i c l → ⊥
   passes-wrong t a = passes-fault t (fault a)
 
-  pub byte-same : {v q v′ q′ : ℕ} → Holds s p byte v q → Holds s p byte v′ q′ → (v ≡ v′) × (q ≡ q′)
+  pub byte-same : {v q v′ q′ : ℕ} → ItemAt s p byte v q → ItemAt s p byte v′ q′ → (v ≡ v′) × (q ≡ q′)
   byte-same a b = (byte-once a b, holds-once a b)
 
-  pub u32-same : {v q v′ q′ : ℕ} → Holds s p (number false 32) v q → Holds s p (number false 32) v′ q′ → (v ≡ v′) × (q ≡ q′)
+  pub u32-same : {v q v′ q′ : ℕ} → ItemAt s p (number false 32) v q → ItemAt s p (number false 32) v′ q′ → (v ≡ v′) × (q ≡ q′)
   u32-same a b = (u32-once a b, holds-once a b)
 
   pub wrong-coded : {i : Part} {c l : ℕ} → Wrong s p i c l → 0 < c
@@ -107,12 +107,19 @@ module _ (s : List ℕ) where
     pub next : Next s is p place part
     pub wrong : Wrong s place part c l
 
+  pub further : {i : Part} {is : List Part} {p q c l : ℕ} → Right s p i q → Falls is q c l → Falls (i ∷ is) p c l
+  further t f = record { place = f .place; part = f .part; next = after t (f .next); wrong = f .wrong }
+
+  pub falls-here : {i : Part} {is : List Part} {p c l : ℕ} → Wrong s p i c l → Falls (i ∷ is) p c l
+  falls-here {i} {p = p} w = record { place = p; part = i; next = here; wrong = w }
+
   -- all of them pass, up to q
   pub data Through : List Part → ℕ → ℕ → Type 0 where
     none-left : {p : ℕ} → Through [] p p
-    passing : {i : Part} {is : List Part} {p q r : ℕ} → Passes s p i q → Through is q r → Through (i ∷ is) p r
+    passing : {i : Part} {is : List Part} {p q r : ℕ} → Right s p i q → Through is q r → Through (i ∷ is) p r
 
-  next-once : {is : List Part} {p q r c l c′ l′ : ℕ} {i j : Part} → Next s is p q i → Next s is p r j → Wrong s q i c l → Wrong s r j c′ l′ → (c ≡ c′) × (l ≡ l′)
+  next-once : {is : List Part} {p q r c l c′ l′ : ℕ} {i j : Part} → Next s is p q i → Next s is p r j → Wrong s q i c l → Wrong s r j c′ l′
+      → (c ≡ c′) × (l ≡ l′)
   next-once {p = p} here here a b = wrong-once s p a b
   next-once {p = p} here (after t n) a b = absurd (passes-wrong s p t a)
   next-once {p = p} (after t n) here a b = absurd (passes-wrong s p t b)

@@ -4,7 +4,7 @@ use Prim.Native.Nat.{ℕ, zero, suc, _+_, _<_, _≤_, _^_}
 use mathlib.Core.Bool.{Bool, true, false, cond}
 use mathlib.Core.List.{List, [], _∷_, _++_}
 use mathlib.Core.Logic.{_⊎_, inl, inr, _↔_}
-use mathlib.Core.Path.{_≡_, refl, sym, ap, subst, _∙_}
+use mathlib.Core.Path.{_≡_, refl, sym, ap, ap₂, subst, _∙_}
 use native.Mathlib.Nat.{add-zero}
 use native.Mathlib.Omega.{arith}
 use lib.Dec.{ltb, leb, eqb}
@@ -24,14 +24,15 @@ use Rattle.leb128.proofs.Exact.{says}
 use Rattle.opcode.specs.BlockType.{isBlockType}
 use Rattle.opcode.specs.Table.{Row, Code, carried, float, unassigned, PREFIX, rowAt}
 use Rattle.opcode.specs.Immediate.{Immediates, nothing, index, blockType, word, long, memory, memoryLane, laneIndex, sixteenBytes, sixteenLanes, immediates, movedBy, lanesOf}
-use Rattle.instr.specs.Layout.{u32, Writes, InOrder, immediateFields, fieldsOf, rowIn, layout, Below, AllowedIn, Allowed, Head, head, Typed, Stands}
+use Rattle.instr.specs.Layout.{u32, Writes, InOrder, immediateFields, fieldsOf, rowIn, layout, Below, AllowedIn, Allowed, Head, head, Typed, Stands, refusal}
 use Rattle.instr.specs.Decode.{Item, got, no, andThen, andRead, itemOf, numberItem, byteAt, laneAt, blockAt, exponentAt, lanesAt, sixteenAt, immediatesAt, bodyOf, opcodeNumber, decodeAt}
-use Rattle.instr.specs.Refuses.{number, byte, Holds, a-number, a-byte, cut-number, no-byte, bad-number, Part, any, block, lane, exponent, form, Allows, Passes, Wrong, cut, no-block-type, no-number, large-index, large-exponent, Opcode, one-byte, prefixed, parts, partsOf, Next, here, after, Reading, first, after-prefix, immediate, Refuses, item, not-assigned, a-float}
+use Rattle.instr.specs.Refuses.{number, byte, ItemAt, a-number, a-byte, cut-number, no-byte, bad-number, Part, any, block, lane, exponent, form, Permits, Right, Wrong, cut, no-block-type, no-number, large-index, large-exponent, Opcode, one-byte, prefixed, parts, partsOf, Next, here, after, Reading, first, after-prefix, immediate, Refuses, item, not-assigned, a-float, Decodes, whole, refused}
 use Rattle.instr.specs.declared.Instr.{Instr}
 use Rattle.instr.specs.declared.Decoded.{Decoded}
-use Rattle.instr.proofs.Parts.{passes-wrong, wrong-once, byte-same, u32-same, wrong-coded, Falls, falls-once, Through, none-left, passing, through-falls}
+use Rattle.instr.proofs.Parts.{passes-wrong, wrong-once, byte-same, u32-same, wrong-coded, Falls, further, falls-here, falls-once, Through, none-left, passing, through-falls}
 use Rattle.instr.proofs.Places.{past, first-of, others-of, byte-here}
-use Rattle.instr.proofs.Stands.{decoded-stands, decoded-place}
+use Rattle.instr.proofs.Decodes.{stands-decodes}
+use Rattle.instr.proofs.Stands.{decode-got, decoded-place}
 
 -- ---- one refusal at most
 
@@ -41,7 +42,7 @@ module _ (ver : ℕ) (s : List ℕ) (at : ℕ) where
   opcode-once (one-byte a x) (prefixed b m) = absurd (x (byte-same s at a b .0))
   opcode-once (prefixed a m) (one-byte b y) = absurd (y (sym (byte-same s at a b .0)))
   opcode-once (prefixed {p = p} a m) (prefixed {n = n′} {q = q′} b m′) =
-      let u = u32-same s p m (subst (λ (x : ℕ). Holds s x (number false 32) n′ q′) (sym (byte-same s at a b .1)) m′) in
+      let u = u32-same s p m (subst (λ (x : ℕ). ItemAt s x (number false 32) n′ q′) (sym (byte-same s at a b .1)) m′) in
       (refl, u .0, u .1)
 
   -- what is wrong after the opcode
@@ -53,7 +54,7 @@ module _ (ver : ℕ) (s : List ℕ) (at : ℕ) where
   -- and in it, or after it
   data Stage : ℕ → ℕ → Type 0 where
     at-first : {c l : ℕ} → Wrong s at (any byte) c l → Stage c l
-    at-number : {p c l : ℕ} → Holds s at byte PREFIX p → Wrong s p (any (number false 32)) c l → Stage c l
+    at-number : {p c l : ℕ} → ItemAt s at byte PREFIX p → Wrong s p (any (number false 32)) c l → Stage c l
     at-body : {b n q c l : ℕ} → Opcode s at b n q → Body (rowAt ver b n) q c l → Stage c l
 
   stage : {c l : ℕ} → Refuses ver s at c l → Stage c l
@@ -68,7 +69,7 @@ module _ (ver : ℕ) (s : List ℕ) (at : ℕ) where
   first-opcode w (one-byte {b = b} a x) = passes-wrong s at (record { value = b; holds = a; allowed = tt }) w
   first-opcode w (prefixed a m) = passes-wrong s at (record { value = PREFIX; holds = a; allowed = tt }) w
 
-  number-opcode : {p b n q c l : ℕ} → Holds s at byte PREFIX p → Wrong s p (any (number false 32)) c l → Opcode s at b n q → ⊥
+  number-opcode : {p b n q c l : ℕ} → ItemAt s at byte PREFIX p → Wrong s p (any (number false 32)) c l → Opcode s at b n q → ⊥
   number-opcode h w (one-byte a x) = x (byte-same s at a h .0)
   number-opcode {c = c} {l} h w (prefixed {n = n} {p = p} a m) =
       passes-wrong s p (record { value = n; holds = m; allowed = tt })
@@ -114,11 +115,11 @@ module _ (ver : ℕ) (s : List ℕ) (at : ℕ) where
 
 module _ (s : List ℕ) where
   module _ (p : ℕ) (bs xs ys rest : List ℕ) (e : drop p s ≡ bs ++ rest) (f : bs ≡ xs ++ ys) where
-    number-held : (sign : Bool) (N v : ℕ) → Written sign N xs (integer sign N v) → Holds s p (number sign N) v (p + length xs)
+    number-held : (sign : Bool) (N v : ℕ) → Written sign N xs (integer sign N v) → ItemAt s p (number sign N) v (p + length xs)
     number-held sign N v w = a-number (record { bytes = xs; rest = ys ++ rest; here = first-of s p bs xs ys rest e f; long = refl; writes = w })
 
-    byte-held : (b : ℕ) → xs ≡ b ∷ [] → Holds s p byte b (p + length xs)
-    byte-held b g = subst (Holds s p byte b) (ap (λ (l : List ℕ). p + length l) (sym g)) (a-byte (byte-here s p b bs xs ys rest e f g))
+    byte-held : (b : ℕ) → xs ≡ b ∷ [] → ItemAt s p byte b (p + length xs)
+    byte-held b g = subst (ItemAt s p byte b) (ap (λ (l : List ℕ). p + length l) (sym g)) (a-byte (byte-here s p b bs xs ys rest e f g))
 
   bytes-through : (xs : List ℕ) (p : ℕ) (rest : List ℕ) → drop p s ≡ xs ++ rest → Through s (replicate (length xs) (any byte)) p (p + length xs)
   bytes-through [] p rest e = subst (Through s [] p) (sym (add-zero p)) none-left
@@ -159,7 +160,12 @@ module _ (s : List ℕ) where
         let d = others-of s p bs (o .0) (o .1) rest e (o .2) in (
           _,
           passing (record { value = i .align; holds = number-held p bs (o .0) (o .1) rest e (o .2) false 32 (i .align) (o .3); allowed = a })
-              (passing (record { value = i .offset; holds = number-held _ (o .1) (u .0) (u .1) rest d (u .2) false 32 (i .offset) (u .3); allowed = tt }) none-left),
+              (passing (record {
+                value = i .offset;
+                holds = number-held _ (o .1) (u .0) (u .1) rest d (u .2) false 32 (i .offset)
+                    (u .3);
+                allowed = tt;
+              }) none-left),
         )
     immediates-pass memoryLane m n o a =
         let u = o .4 in
@@ -199,7 +205,8 @@ module _ (s : List ℕ) where
     whole-stage w (at-first a) = first-opcode ver s at a (w .opcode-there)
     whole-stage w (at-number h a) = number-opcode ver s at h a (w .opcode-there)
     whole-stage {c} {l} w (at-body o f) =
-        through-falls s (w .through .1) (body-falls ver s at (subst (λ (r : Row). Body ver s at r (w .q) c l) (w .row) (body-of ver s at (w .opcode-there) o f)))
+        through-falls s (w .through .1) (body-falls ver s at
+        (subst (λ (r : Row). Body ver s at r (w .q) c l) (w .row) (body-of ver s at (w .opcode-there) o f)))
 
     module _ (i : Instr) (t : Typed i) (b n q : ℕ) (o : Opcode s at b n q) (bs rest : List ℕ) (e : drop q s ≡ bs ++ rest) where
       row-whole : (r : Row) → rowAt ver b n ≡ r → Allowed r i → InOrder Writes (fieldsOf r i) bs → Whole
@@ -224,7 +231,7 @@ module _ (s : List ℕ) where
           let is = eqb-true (i .first) PREFIX v in
           let d = others-of s at bs xs ys rest e f in
           let d′ = others-of s (at + length xs) ys (o .0) (o .1) rest d (o .2) in
-          let at-byte = subst (λ (x : ℕ). Holds s at byte x (at + length xs)) is (byte-held at bs xs ys rest e f (i .first) g) in
+          let at-byte = subst (λ (x : ℕ). ItemAt s at byte x (at + length xs)) is (byte-held at bs xs ys rest e f (i .first) g) in
           let at-number = number-held (at + length xs) ys (o .0) (o .1) rest d (o .2) false 32 (i .number) (o .3) in
           row-whole i t (i .first) (i .number) (at + length xs + length (o .0))
           (subst (λ (x : ℕ). Opcode s at x (i .number) (at + length xs + length (o .0))) (sym is) (prefixed at-byte at-number))
@@ -246,7 +253,7 @@ module _ (s : List ℕ) where
 module _ (s : List ℕ) (b : bytes s) where
   -- what is read passes, and what is not is wrong
   abbrev Judged : Part → ℕ → Item → Type 0
-  Judged i p (got v q) = Holds s p (form i) v q × Allows i v
+  Judged i p (got v q) = ItemAt s p (form i) v q × Permits i v
   Judged i p (no c l) = Wrong s p i c l
 
   number-from : (sign : Bool) (N p : ℕ) (r : Leb) → Says sign N s p r → Judged (any (number sign N)) p (itemOf s p r)
@@ -261,7 +268,7 @@ module _ (s : List ℕ) (b : bytes s) where
   unfolding numberItem
   number-judged sign N p h = leb-judged sign N p h
 
-  byte-stands : (p : ℕ) → p < length s → Holds s p byte (getD s p 0) (p + 1)
+  byte-stands : (p : ℕ) → p < length s → ItemAt s p byte (getD s p 0) (p + 1)
   byte-stands p l = a-byte (drop-cons s p 0 l)
 
   byte-judged : (p : ℕ) → Judged (any byte) p (byteAt s p)
@@ -276,7 +283,8 @@ module _ (s : List ℕ) (b : bytes s) where
   again i (cut a) = cut a
   again i (no-number a) = no-number a
 
-  read-judged : (i : Part) (p : ℕ) (g : Item) (f : ℕ → ℕ → Item) → Judged (any (form i)) p g → ((v q : ℕ) → Holds s p (form i) v q → Judged i p (f v q)) → Judged i p (andRead g f)
+  read-judged : (i : Part) (p : ℕ) (g : Item) (f : ℕ → ℕ → Item) → Judged (any (form i)) p g
+      → ((v q : ℕ) → ItemAt s p (form i) v q → Judged i p (f v q)) → Judged i p (andRead g f)
   read-judged i p (got v q) f j k = k v q (j .0)
   read-judged i p (no c l) f j k = again i j
 
@@ -299,26 +307,27 @@ module _ (s : List ℕ) (b : bytes s) where
       (λ v q h. split (Judged (exponent m) p) (leb (2 ^ v) m) (λ e. (h, leb-true (2 ^ v) m e)) (λ e. large-exponent h (leb-false (2 ^ v) m e)))
 
   -- an answer that is whole, or the first item that does not pass
-  abbrev Ends : List Part → ℕ → Decoded → Type 0
-  Ends is p d = (d .code ≡ DONE) ⊎ Falls s is p (d .code) (d .place)
+  data Ends (is : List Part) (p : ℕ) : Decoded → Type 0 where
+    goes-well : {d : Decoded} → d .code ≡ DONE → Ends is p d
+    goes-wrong : {c l : ℕ} → Falls s is p c l → Ends is p (refusal c l)
 
-  onward : (i : Part) (is : List Part) (p v q : ℕ) (d : Decoded) → Holds s p (form i) v q × Allows i v → Ends is q d → Ends (i ∷ is) p d
-  onward i is p v q d j (inl z) = inl z
-  onward i is p v q d j (inr f) =
-      inr (record { place = f .place; part = f .part; next = after (record { value = v; holds = j .0; allowed = j .1 }) (f .next); wrong = f .wrong })
+  onward : (i : Part) (is : List Part) (p v q : ℕ) (d : Decoded) → ItemAt s p (form i) v q × Permits i v → Ends is q d → Ends (i ∷ is) p d
+  onward i is p v q d j (goes-well z) = goes-well z
+  onward i is p v q d j (goes-wrong f) = goes-wrong (further s (record { value = v; holds = j .0; allowed = j .1 }) f)
 
-  then-ends : (i : Part) (is : List Part) (p : ℕ) (g : Item) (f : ℕ → ℕ → Decoded) → Judged i p g → ((v q : ℕ) → Ends is q (f v q)) → Ends (i ∷ is) p (andThen g f)
+  then-ends : (i : Part) (is : List Part) (p : ℕ) (g : Item) (f : ℕ → ℕ → Decoded) → Judged i p g → ((v q : ℕ) → Ends is q (f v q))
+      → Ends (i ∷ is) p (andThen g f)
   then-ends i is p (got v q) f j k = onward i is p v q (f v q) j (k v q)
-  then-ends i is p (no c l) f j k = inr (record { place = p; part = i; next = here; wrong = j })
+  then-ends i is p (no c l) f j k = goes-wrong (falls-here s j)
 
   lanes-more : (k p : ℕ) (f : ℕ → ℕ → Decoded) (g : Item) → Judged (lane 32) p g → ((q : ℕ) → Ends (replicate k (lane 32)) q (andThen (lanesAt k s q) f))
       → Ends (replicate (suc k) (lane 32)) p (andThen (andRead g (λ v q. lanesAt k s q)) f)
   lanes-more k p f (got v q) j rest = onward (lane 32) (replicate k (lane 32)) p v q (andThen (lanesAt k s q) f) j (rest q)
-  lanes-more k p f (no c l) j rest = inr (record { place = p; part = lane 32; next = here; wrong = j })
+  lanes-more k p f (no c l) j rest = goes-wrong (falls-here s j)
 
   lanes-end : (k p : ℕ) (f : ℕ → ℕ → Decoded) → ((v q : ℕ) → f v q .code ≡ DONE) → Ends (replicate k (lane 32)) p (andThen (lanesAt k s p) f)
   unfolding lanesAt
-  lanes-end zero p f z = inl (z 0 p)
+  lanes-end zero p f z = goes-well (z 0 p)
   lanes-end (suc k) p f z = lanes-more k p f (laneAt 32 s p) (lane-judged 32 p) (λ q. lanes-end k q f z)
 
   -- one of k bytes is missing
@@ -326,59 +335,60 @@ module _ (s : List ℕ) (b : bytes s) where
   bytes-cut zero p o h = absurd (omega arith)
   bytes-cut (suc k) p o h =
       either (length s) p
-      (λ l. record { place = p; part = any byte; next = here; wrong = cut (no-byte l) })
-      (λ l.
-      let f = bytes-cut k (p + 1) (omega arith) (omega arith) in
-      record { place = f .place; part = f .part; next = after (record { value = getD s p 0; holds = byte-stands p l; allowed = tt }) (f .next); wrong = f .wrong })
+      (λ l. falls-here s (cut (no-byte l)))
+      (λ l. further s (record { value = getD s p 0; holds = byte-stands p l; allowed = tt }) (bytes-cut k (p + 1) (omega arith) (omega arith)))
 
   sixteen-ends : (p : ℕ) (f : ℕ → ℕ → Decoded) → ((v q : ℕ) → f v q .code ≡ DONE) → Ends (replicate 16 (any byte)) p (andThen (sixteenAt s p) f)
   unfolding sixteenAt
   sixteen-ends p f z =
       split (λ (g : Item). Ends (replicate 16 (any byte)) p (andThen g f)) (leb (p + 16) (length s))
-      (λ e. inl (z 0 (p + 16)))
-      (λ e. inr (bytes-cut 16 p (omega arith) (leb-false (p + 16) (length s) e)))
+      (λ e. goes-well (z 0 (p + 16)))
+      (λ e. goes-wrong (bytes-cut 16 p (omega arith) (leb-false (p + 16) (length s) e)))
 
   immediates-end : (k : Immediates) (m n at p : ℕ) (h : Head) → Ends (parts k m n) p (immediatesAt k m n s at p h)
   unfolding immediatesAt
-  immediates-end nothing m n at p h = inl refl
-  immediates-end index m n at p h = then-ends (any (number false 32)) [] p (numberItem false 32 s p) _ (number-judged false 32 p (omega arith)) (λ v q. inl refl)
-  immediates-end blockType m n at p h = then-ends block [] p (blockAt s p) _ (block-judged p) (λ v q. inl refl)
-  immediates-end word m n at p h = then-ends (any (number true 32)) [] p (numberItem true 32 s p) _ (number-judged true 32 p (omega arith)) (λ v q. inl refl)
-  immediates-end long m n at p h = then-ends (any (number true 64)) [] p (numberItem true 64 s p) _ (number-judged true 64 p (omega arith)) (λ v q. inl refl)
+  immediates-end nothing m n at p h = goes-well refl
+  immediates-end index m n at p h =
+      then-ends (any (number false 32)) [] p (numberItem false 32 s p) _ (number-judged false 32 p (omega arith)) (λ v q. goes-well refl)
+  immediates-end blockType m n at p h = then-ends block [] p (blockAt s p) _ (block-judged p) (λ v q. goes-well refl)
+  immediates-end word m n at p h = then-ends (any (number true 32)) [] p (numberItem true 32 s p) _ (number-judged true 32 p (omega arith)) (λ v q. goes-well refl)
+  immediates-end long m n at p h = then-ends (any (number true 64)) [] p (numberItem true 64 s p) _ (number-judged true 64 p (omega arith)) (λ v q. goes-well refl)
   immediates-end memory m n at p h =
       then-ends (exponent m) (any (number false 32) ∷ []) p (exponentAt m s p) _ (exponent-judged m p) (λ a q.
-      then-ends (any (number false 32)) [] q (numberItem false 32 s q) _ (number-judged false 32 q (omega arith)) (λ o r. inl refl))
+      then-ends (any (number false 32)) [] q (numberItem false 32 s q) _ (number-judged false 32 q (omega arith)) (λ o r. goes-well refl))
   immediates-end memoryLane m n at p h =
       then-ends (exponent m) (any (number false 32) ∷ lane n ∷ []) p (exponentAt m s p) _ (exponent-judged m p) (λ a q.
       then-ends (any (number false 32)) (lane n ∷ []) q (numberItem false 32 s q) _ (number-judged false 32 q (omega arith)) (λ o r.
-      then-ends (lane n) [] r (laneAt n s r) _ (lane-judged n r) (λ l t. inl refl)))
-  immediates-end laneIndex m n at p h = then-ends (lane n) [] p (laneAt n s p) _ (lane-judged n p) (λ v q. inl refl)
+      then-ends (lane n) [] r (laneAt n s r) _ (lane-judged n r) (λ l t. goes-well refl)))
+  immediates-end laneIndex m n at p h = then-ends (lane n) [] p (laneAt n s p) _ (lane-judged n p) (λ v q. goes-well refl)
   immediates-end sixteenBytes m n at p h = sixteen-ends p _ (λ v q. refl)
   immediates-end sixteenLanes m n at p h = lanes-end 16 p _ (λ v q. refl)
 
   module _ (ver at : ℕ) where
-    abbrev Ended : Decoded → Type 0
-    Ended d = (d .code ≡ DONE) ⊎ Refuses ver s at (d .code) (d .place)
+    data Ended : Decoded → Type 0 where
+      ended-well : {d : Decoded} → d .code ≡ DONE → Ended d
+      ended-wrong : {c l : ℕ} → Refuses ver s at c l → Ended (refusal c l)
 
-    then-ended : (i : Part) (p : ℕ) (g : Item) (f : ℕ → ℕ → Decoded) → Judged i p g → Reading ver s at p i → ((v q : ℕ) → Holds s p (form i) v q → Ended (f v q)) → Ended (andThen g f)
+    then-ended : (i : Part) (p : ℕ) (g : Item) (f : ℕ → ℕ → Decoded) → Judged i p g → Reading ver s at p i
+        → ((v q : ℕ) → ItemAt s p (form i) v q → Ended (f v q)) → Ended (andThen g f)
     then-ended i p (got v q) f j r k = k v q (j .0)
-    then-ended i p (no c l) f j r k = inr (item r j)
+    then-ended i p (no c l) f j r k = ended-wrong (item r j)
+
+    items-ended : {v n q : ℕ} {c : Code} {d : Decoded} → Opcode s at v n q → rowAt ver v n ≡ carried c → Ends (partsOf c) q d → Ended d
+    items-ended o e (goes-well z) = ended-well z
+    items-ended o e (goes-wrong f) = ended-wrong (item (immediate o e (f .next)) (f .wrong))
 
     body-ended : (v n q : ℕ) → Opcode s at v n q → (r : Row) → rowAt ver v n ≡ r → Ended (bodyOf r s at q (head v n))
     unfolding bodyOf
-    body-ended v n q o (carried c) e = by (immediates-end (immediates c) (movedBy (carried c)) (lanesOf (carried c)) at q (head v n))
-      where
-        by : {code place : ℕ} → (code ≡ DONE) ⊎ Falls s (partsOf c) q code place → (code ≡ DONE) ⊎ Refuses ver s at code place
-        by (inl z) = inl z
-        by (inr f) = inr (item (immediate o e (f .next)) (f .wrong))
-    body-ended v n q o float e = inr (a-float o e)
-    body-ended v n q o unassigned e = inr (not-assigned o e)
+    body-ended v n q o (carried c) e = items-ended o e (immediates-end (immediates c) (movedBy (carried c)) (lanesOf (carried c)) at q (head v n))
+    body-ended v n q o float e = ended-wrong (a-float o e)
+    body-ended v n q o unassigned e = ended-wrong (not-assigned o e)
 
-    after-first : (v p : ℕ) → Holds s at byte v p → (t : Bool) → eqb v PREFIX ≡ t
+    after-first : (v p : ℕ) → ItemAt s at byte v p → (t : Bool) → eqb v PREFIX ≡ t
         → Ended (andThen (itemOf s p (cond t (numberAt false 32 s p) (Val 0 0))) (λ n q. bodyOf (rowAt ver v n) s at q (head v n)))
     after-first v p h true e =
         let is = eqb-true v PREFIX e in
-        let first = subst (λ (x : ℕ). Holds s at byte x p) is h in
+        let first = subst (λ (x : ℕ). ItemAt s at byte x p) is h in
         then-ended (any (number false 32)) p (itemOf s p (numberAt false 32 s p)) _ (leb-judged false 32 p (omega arith)) (after-prefix first)
         (λ n q c. body-ended v n q (subst (λ (x : ℕ). Opcode s at x n q) (sym is) (prefixed first c)) (rowAt ver v n) refl)
     after-first v p h false e =
@@ -388,32 +398,50 @@ module _ (s : List ℕ) (b : bytes s) where
     unfolding decodeAt opcodeNumber
     decode-ended = then-ended (any byte) at (byteAt s at) _ (byte-judged at) first (λ v p h. after-first v p h (eqb v PREFIX) refl)
 
+    answer-of : (d : Decoded) → decodeAt ver s at ≡ d → Ended d → Decodes ver s at d
+    answer-of d e (ended-well z) =
+        let t = decode-got s b ver at .1 (ap (λ (x : Decoded). x .code) e ∙ z) in
+        subst (Decodes ver s at) (sym (stands-decodes ver s at _ _ (t .1)) ∙ e) (whole (t .1))
+    answer-of d e (ended-wrong r) = refused r
+
+    -- the answer is one of the two
+    pub decode-decodes : Decodes ver s at (decodeAt ver s at)
+    decode-decodes = answer-of (decodeAt ver s at) refl decode-ended
+
+    refuses-by : {d : Decoded} {c l : ℕ} → Decodes ver s at d → Refuses ver s at c l → d ≡ refusal c l
+    refuses-by (whole t) r = absurd (stands-refuses s ver at t r)
+    refuses-by (refused f) r = let e = refuses-once ver s at f r in ap₂ refusal (e .0) (e .1)
+
+    refused-by : {d : Decoded} → Decodes ver s at d → (d .code ≡ DONE → ⊥) → Refuses ver s at (d .code) (d .place)
+    refused-by (whole t) z = absurd (z refl)
+    refused-by (refused f) z = f
+
     -- a refusal is one of the card's
     pub decoded-refuses : (decodeAt ver s at .code ≡ DONE → ⊥) → Refuses ver s at (decodeAt ver s at .code) (decodeAt ver s at .place)
-    decoded-refuses z = by decode-ended
-      where
-        by : Ended (decodeAt ver s at) → Refuses ver s at (decodeAt ver s at .code) (decodeAt ver s at .place)
-        by (inl e) = absurd (z e)
-        by (inr r) = r
-
-    refuses-decoded : {c l : ℕ} → Refuses ver s at c l → (decodeAt ver s at .code ≡ c) × (decodeAt ver s at .place ≡ l)
-    refuses-decoded r = refuses-once ver s at (decoded-refuses (λ z. stands-refuses s ver at (decoded-stands s b ver at z) r)) r
+    decoded-refuses z = refused-by decode-decodes z
 
     -- EXACTLY
-    pub refuses-exact : (c l : ℕ) → ((decodeAt ver s at .code ≡ c) × (decodeAt ver s at .place ≡ l) × (c ≡ DONE → ⊥)) ↔ Refuses ver s at c l
-    refuses-exact c l = (
-      (λ e. subst (λ (x : ℕ). Refuses ver s at x l) (e .0) (subst (Refuses ver s at (decodeAt ver s at .code)) (e .1) (decoded-refuses (λ z. e .2 (sym (e .0) ∙ z))))),
-      λ r. let t = refuses-decoded r in (t .0, t .1, refuses-coded ver s at r),
-    )
+    pub refuses-exact : (c l : ℕ) → ((decodeAt ver s at ≡ refusal c l) × (c ≡ DONE → ⊥)) ↔ Refuses ver s at c l
+    refuses-exact c l = (to, λ r. (refuses-by decode-decodes r, refuses-coded ver s at r))
+      where
+        to : (decodeAt ver s at ≡ refusal c l) × (c ≡ DONE → ⊥) → Refuses ver s at c l
+        to e = refused-by (subst (Decodes ver s at) (e .0) decode-decodes) (e .1)
+
+    decodes-by : {d : Decoded} → Decodes ver s at d → decodeAt ver s at ≡ d
+    decodes-by (whole {i} {n} t) = stands-decodes ver s at i n t
+    decodes-by (refused f) = refuses-by decode-decodes f
+
+    pub decodes-exact : (d : Decoded) → (decodeAt ver s at ≡ d) ↔ Decodes ver s at d
+    decodes-exact d = ((λ e. subst (Decodes ver s at) e decode-decodes), decodes-by)
 
     -- a place lies in the file, or is its length
     pub refuses-place : {c l : ℕ} → Refuses ver s at c l → l ≤ length s
-    refuses-place r = omega (arith, refuses-decoded r .1, decoded-place s b ver at)
+    refuses-place r = omega (arith, ap (λ (d : Decoded). d .place) (refuses-by decode-decodes r), decoded-place s b ver at)
 
     -- one of the two holds
     pub refuses-or-stands : ((c : ℕ) × (l : ℕ) × Refuses ver s at c l) ⊎ ((i : Instr) × (n : ℕ) × Stands ver s at i n)
-    refuses-or-stands = by decode-ended
+    refuses-or-stands = by decode-decodes
       where
-        by : Ended (decodeAt ver s at) → ((c : ℕ) × (l : ℕ) × Refuses ver s at c l) ⊎ ((i : Instr) × (n : ℕ) × Stands ver s at i n)
-        by (inl z) = inr (decodeAt ver s at .instr, decodeAt ver s at .len, decoded-stands s b ver at z)
-        by (inr r) = inl (decodeAt ver s at .code, decodeAt ver s at .place, r)
+        by : {d : Decoded} → Decodes ver s at d → ((c : ℕ) × (l : ℕ) × Refuses ver s at c l) ⊎ ((i : Instr) × (n : ℕ) × Stands ver s at i n)
+        by (whole {i} {n} t) = inr (i, n, t)
+        by (refused {code} {place} f) = inl (code, place, f)

@@ -9,8 +9,8 @@ use Rattle.card.specs.Card.{DONE, VERSION}
 use Rattle.opcode.specs.Table.{Row, carried, float, unassigned, known, latest, PREFIX, rowAt}
 use Rattle.opcode.specs.Number.{classOf, rowOf, sinceOf}
 use Rattle.opcode.proofs.Versions.{row-since, row-latest}
-use Rattle.instr.specs.Layout.{rowIn}
-use Rattle.instr.specs.Decode.{refusal, decodeAt, decodeIn}
+use Rattle.instr.specs.Layout.{rowIn, refusal}
+use Rattle.instr.specs.Decode.{decodeAt, decodeIn}
 use Rattle.instr.specs.Encode.{faultOf, fault}
 use Rattle.instr.specs.declared.Instr.{Instr}
 

@@ -13,13 +13,9 @@ use Rattle.leb128.specs.declared.read.Leb.the-variants.{Val, Short, Number}
 use Rattle.opcode.specs.BlockType.{isBlockType}
 use Rattle.opcode.specs.Table.{Row, carried, float, unassigned, known, PREFIX, rowAt}
 use Rattle.opcode.specs.Immediate.{Immediates, nothing, index, blockType, word, long, memory, memoryLane, laneIndex, sixteenBytes, sixteenLanes, immediates, movedBy, lanesOf}
-use Rattle.instr.specs.Layout.{Head, head, zeros, instr, blockInstr, found}
+use Rattle.instr.specs.Layout.{Head, head, zeros, instr, blockInstr, found, refusal}
 use Rattle.instr.specs.declared.Instr.{Instr}
 use Rattle.instr.specs.declared.Decoded.{Decoded}
-
--- a refusal: all but code and place zero
-abbrev pub refusal : ℕ → ℕ → Decoded
-refusal c p = record { code = c; place = p; len = 0; instr = instr (head 0 0) 0 0 0 0 0 0 zeros }
 
 -- an instruction from at up to next
 abbrev pub done : ℕ → ℕ → Instr → Decoded

@@ -179,3 +179,7 @@ pub record Stands (ver : ℕ) (s : List ℕ) (at : ℕ) (i : Instr) (n : ℕ) : 
 -- the answer that it does
 abbrev pub found : ℕ → Instr → Decoded
 found n i = record { code = DONE; place = 0; len = n; instr = i }
+
+-- a refusal: all but code and place zero
+abbrev pub refusal : ℕ → ℕ → Decoded
+refusal c p = record { code = c; place = p; len = 0; instr = instr (head 0 0) 0 0 0 0 0 0 zeros }

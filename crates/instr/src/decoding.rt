@@ -18,8 +18,8 @@ ghost use lib.ListN.{length};
 ghost use Rattle.opcode.specs.Table.{Row};
 ghost use Rattle.opcode.specs.Number.{idOf};
 ghost use Rattle.opcode.specs.Entry.{entryOf, movedIn};
-ghost use Rattle.instr.specs.Layout.{head, instr};
-ghost use Rattle.instr.specs.Decode.{refusal, done, itemOf, opcodeNumber, bodyOf, decodeIn};
+ghost use Rattle.instr.specs.Layout.{head, instr, refusal};
+ghost use Rattle.instr.specs.Decode.{done, itemOf, opcodeNumber, bodyOf, decodeIn};
 ghost use Rattle.instr.specs.Fetch.{fetchOf};
 ghost use Rattle.instr.specs.Inner.Steps.{item};
 

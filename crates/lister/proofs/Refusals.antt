@@ -14,7 +14,7 @@ use Rattle.text.proofs.Decimals.{decimal-short}
 use Rattle.rules.specs.Strip.{Valid}
 use Rattle.rules.specs.Breach.{Breach}
 use Rattle.rules.proofs.Verdicts.{one-breach, valid-no-breach}
-use Rattle.lister.specs.Refusal.{told, Refuses, kept, broken}
+use Rattle.lister.specs.Refusal.{told, PrintsRefusal, kept, broken}
 use Rattle.lister.proofs.refusal.refusal.Reads as refusal
 
 parted : (c p : ℕ) → ((decimal c ++ blank ∷ []) ++ decimal p) ++ newline ∷ [] ≡ told c p
@@ -39,18 +39,18 @@ some : (c p : ℕ) → 1 ≤ length (told c p)
 unfolding told
 some c p = omega (arith, length-append (joined (decimal c ∷ decimal p ∷ [])) (newline ∷ []))
 
-pub is-broken : {s out out′ : List ℕ} {c p n : ℕ} → Breach s c p → length (told c p) ≤ 42 → 42 ≤ length out → Appends (told c p) out 0 n out′ → Refuses s out n out′
+pub is-broken : {s out out′ : List ℕ} {c p n : ℕ} → Breach s c p → length (told c p) ≤ 42 → 42 ≤ length out → Appends (told c p) out 0 n out′ → PrintsRefusal s out n out′
 is-broken {s} {out} {out′} {c} {p} {n} b short room a =
     let e = appended a (omega arith) in
     let long : length (told c p) ≡ n = omega (arith, e .0) in
-    subst (λ (x : List ℕ). Refuses s out n x) (sym (e .1)) (subst (λ (k : ℕ). Refuses s out k (sets out 0 (told c p))) long (broken b))
+    subst (λ (x : List ℕ). PrintsRefusal s out n x) (sym (e .1)) (subst (λ (k : ℕ). PrintsRefusal s out k (sets out 0 (told c p))) long (broken b))
 
 -- nothing is printed only of a strip that keeps every rule
-pub none-valid : {s out out′ : List ℕ} {n : ℕ} → Refuses s out n out′ → n ≡ 0 → Valid s
+pub none-valid : {s out out′ : List ℕ} {n : ℕ} → PrintsRefusal s out n out′ → n ≡ 0 → Valid s
 none-valid (kept v) e = v
 none-valid (broken {code} {place} b) e = absurd (let z : ⊥ = omega (arith, some code place) in z)
 
-refuses-once : {s out o o′ : List ℕ} {n m : ℕ} → Refuses s out n o → Refuses s out m o′ → (n ≡ m) × (o ≡ o′)
+refuses-once : {s out o o′ : List ℕ} {n m : ℕ} → PrintsRefusal s out n o → PrintsRefusal s out m o′ → (n ≡ m) × (o ≡ o′)
 refuses-once (kept v) (kept w) = (refl, refl)
 refuses-once (kept v) (broken b) = absurd (valid-no-breach v b)
 refuses-once (broken b) (kept v) = absurd (valid-no-breach v b)

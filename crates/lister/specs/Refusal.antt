@@ -13,6 +13,6 @@ unfoldable pub told : ℕ → ℕ → List ℕ
 told code place = joined (decimal code ∷ decimal place ∷ []) ++ newline ∷ []
 
 -- how many bytes are printed, and the buffer that holds them: none of a strip that keeps every rule
-pub data Refuses (s out : List ℕ) : ℕ → List ℕ → Type 0 where
-  kept : Valid s → Refuses s out 0 out
-  broken : {code place : ℕ} → Breach s code place → Refuses s out (length (told code place)) (sets out 0 (told code place))
+pub data PrintsRefusal (s out : List ℕ) : ℕ → List ℕ → Type 0 where
+  kept : Valid s → PrintsRefusal s out 0 out
+  broken : {code place : ℕ} → Breach s code place → PrintsRefusal s out (length (told code place)) (sets out 0 (told code place))

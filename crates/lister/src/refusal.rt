@@ -2,7 +2,7 @@
 ghost use Prim.Native.Nat.{_≤_};
 ghost use lib.ListN.{length};
 ghost use Rattle.text.specs.Append.{Appends};
-ghost use Rattle.lister.specs.Refusal.{told, Refuses};
+ghost use Rattle.lister.specs.Refusal.{told, PrintsRefusal};
 
 // Two numbers of at most twenty digits and a byte after each.
 pub(crate) const LONGEST: usize = 42;
@@ -11,7 +11,7 @@ pub(crate) const LONGEST: usize = 42;
 pub(crate) fn refusal(strip: &[u8], out: &mut [u8]) -> usize
     requires { ⌜ 42 ≤ length (now out) ⌝ }
     ensures { λ r. ⌜ r ≤ 42 ⌝ }
-    ensures { λ r. ⌜ Refuses (now (strip .entry)) (now (out .entry)) r (now (out .exit)) ⌝ }
+    ensures { λ r. ⌜ PrintsRefusal (now (strip .entry)) (now (out .entry)) r (now (out .exit)) ⌝ }
 {
     let a = checker::check(strip);
     if a.code == card::DONE {

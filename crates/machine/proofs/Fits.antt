@@ -10,7 +10,7 @@ use lib.ListN.{length}
 use borrow.Author.Tests.{lt-leb, leb-false}
 use mir.Syntax.{Width, w8, w16, w32, w64, w128}
 use Rattle.operation.specs.Vector.{le}
-use Rattle.operation.specs.Op.{Loadop, Op, Load, LoadLane, Store, StoreLane, Const, Shuffle, Splat, ExtractLane, ReplaceLane, Unary, Binary, Bitselect, Test, Shift, extracted}
+use Rattle.operation.specs.Op.{Loadop, Whole, Widen, Repeat, ZeroPad, Op, Load, LoadLane, Store, StoreLane, Const, Shuffle, Splat, ExtractLane, ReplaceLane, Unary, Binary, Bitselect, Test, Shift, extracted}
 use Rattle.limits.specs.Limits.{slot, stackLimit}
 use Rattle.opcode.specs.Kind.{Kind}
 use Rattle.opcode.specs.Table.{Plain, End, Drop, LocalGet, LocalSet, LocalTee, I32Const, I64Const, I32Add, I32Sub, I32Eqz, I32LtU, Code, plain, control, vector}
@@ -20,35 +20,19 @@ use Rattle.machine.specs.Value.{Value, I32, I64}
 use Rattle.machine.specs.Exec.{State, Outcome, goes, done, trap, stuck, pushScalar, goOn, access, ofKinds, popI32, popV128, execPlain, execVector, exec}
 use Rattle.machine.specs.Inner.Flat.{slotAt, topOf, low32, reach}
 use Rattle.machine.specs.Inner.Fit.{takenByPlain, takenByOp, takenBy, Slotted, boundsAt, boundsOp, boundsOf}
-use Rattle.machine.specs.declared.access.Bounds.{Bounds}
-use Rattle.machine.specs.declared.access.Bounds.the-variants.{Clear, Past}
+use Rattle.machine.specs.Answer.{Told, inReach, outOfReach}
+use Rattle.machine.specs.Accesses.{Accesses, load, load-extend, load-splat, load-zero, load-lane, store, store-lane}
 use Rattle.machine.specs.Inner.Rep.{Rep}
 use Rattle.machine.proofs.Laws.Rep.{low-i32}
-use Rattle.machine.proofs.Laws.Pops.{pop-i32, pop-v128, pop-any, pop-scalar, named, same-kind}
+use Rattle.machine.proofs.Laws.Pops.{pop-i32, pop-v128, pop-any, pop-scalar, named, same-kind, on-not-trap}
 use Rattle.machine.proofs.Laws.Update.{all-held}
-
--- ---- what a push leads to
-
-pub on-not-trap : (vs ws : List Value) (m : List ℕ) (a n : ℕ) → goOn vs ws m ≡ trap a n → ⊥
-unfolding goOn
-on-not-trap vs ws m a n e = at (ltb stackLimit (length vs)) e
-  where
-    at : (t : Bool) → cond t stuck (goes (record { stack = vs; locals = ws; memory = m })) ≡ trap a n → ⊥
-    at true q = let z : _≡_ {A = ℕ} 0 1 = cc in omega arith
-    at false q = let z : _≡_ {A = ℕ} 0 1 = cc in omega arith
-
-scalar-not-trap : (w : Width) (c : State) (vs : List Value) (x a n : ℕ) → pushScalar w c vs x ≡ trap a n → ⊥
-scalar-not-trap w8 c vs x a n e = on-not-trap (I32 x ∷ vs) (c .locals) (c .memory) a n e
-scalar-not-trap w16 c vs x a n e = on-not-trap (I32 x ∷ vs) (c .locals) (c .memory) a n e
-scalar-not-trap w32 c vs x a n e = on-not-trap (I32 x ∷ vs) (c .locals) (c .memory) a n e
-scalar-not-trap w64 c vs x a n e = on-not-trap (I64 x ∷ vs) (c .locals) (c .memory) a n e
-scalar-not-trap w128 c vs x a n e = let z : _≡_ {A = ℕ} 0 1 = cc in omega arith
+use Rattle.machine.proofs.Traps.{traps-exact}
 
 -- ---- an access
 
 -- p is where it goes on to
 pub record Within (c : State) (at n : ℕ) (p o : Outcome) : Type 0 where
-  pub clear : boundsAt at n (length (c .memory)) ≡ Clear
+  pub clear : boundsAt at n (length (c .memory)) ≡ inReach
   pub next : p ≡ o
 
 pub data Access (c : State) (at n : ℕ) (p o : Outcome) : Type 0 where
@@ -60,25 +44,28 @@ unfolding access
 accessed c at n p o e = go (leb (at + n) (length (c .memory))) refl e
   where
     go : (t : Bool) → leb (at + n) (length (c .memory)) ≡ t → cond t p (trap at n) ≡ o → Access c at n p o
-    go true q e = within (record { clear = ap (λ (t : Bool). cond t Clear (Past (max at (length (c .memory))))) q; next = e })
+    go true q e = within (record { clear = ap (λ (t : Bool). cond t inReach (outOfReach (max at (length (c .memory))))) q; next = e })
     go false q e = past (leb-false (at + n) (length (c .memory)) q) e
 
 -- where it goes on, it is clear
-goes-clear : (c : State) (at n : ℕ) (p : Outcome) (σ : State) → Access c at n p (goes σ) → boundsAt at n (length (c .memory)) ≡ Clear
+goes-clear : (c : State) (at n : ℕ) (p : Outcome) (σ : State) → Access c at n p (goes σ) → boundsAt at n (length (c .memory)) ≡ inReach
 goes-clear c at n p σ (within w) = w .clear
 goes-clear c at n p σ (past l e) = absurd (let z : _≡_ {A = ℕ} 0 1 = cc in omega arith)
 
-pub record Beyond (b : Bounds) (len a k : ℕ) : Type 0 where
-  pub bounds : b ≡ Past (max a len)
+pub record Beyond (b : Told) (len a k : ℕ) : Type 0 where
+  pub bounds : b ≡ outOfReach (max a len)
   pub outside : len < a + k
 
 -- where it traps, it is past the end
-traps-past : (c : State) (at n : ℕ) (p : Outcome) (a k : ℕ) → (p ≡ trap a k → ⊥) → Access c at n p (trap a k) → Beyond (boundsAt at n (length (c .memory))) (length (c .memory)) a k
+traps-past : (c : State) (at n : ℕ) (p : Outcome) (a k : ℕ) → (p ≡ trap a k → ⊥) → Access c at n p (trap a k)
+    → Beyond (boundsAt at n (length (c .memory))) (length (c .memory)) a k
 traps-past c at n p a k never (within w) = absurd (never (w .next))
 traps-past c at n p a k never (past l e) =
     let ea : at ≡ a = cc in let en : n ≡ k = cc in
     record {
-      bounds = ap (λ (t : Bool). cond t Clear (Past (max at (length (c .memory))))) (lt-leb (at + n) (length (c .memory)) l) ∙ ap (λ (x : ℕ). Past (max x (length (c .memory)))) ea;
+      bounds =
+          ap (λ (t : Bool). cond t inReach (outOfReach (max at (length (c .memory))))) (lt-leb (at + n) (length (c .memory)) l)
+          ∙ ap (λ (x : ℕ). outOfReach (max x (length (c .memory)))) ea;
       outside = omega arith;
     }
 
@@ -184,10 +171,10 @@ module _ (rs : List Kind) (i : Instr) (σ : State) (st : List ℕ) (d : ℕ) (ls
     moves-on : goes σ′ ≡ stuck → ⊥
     moves-on e = let z : _≡_ {A = ℕ} 0 1 = cc in omega arith
 
-    clear-by : (v : Op) → Reaches (goes σ′) moves-on v → boundsOp v i st d (length m) ≡ Clear
+    clear-by : (v : Op) → Reaches (goes σ′) moves-on v → boundsOp v i st d (length m) ≡ inReach
     clear-by v r = r .bounds ∙ goes-clear σ (r .at) (moved v) (r .next) σ′ (r .access)
 
-    clear-op : (v : Op) → execVector v i σ ≡ goes σ′ → boundsOp v i st d (length m) ≡ Clear
+    clear-op : (v : Op) → execVector v i σ ≡ goes σ′ → boundsOp v i st d (length m) ≡ inReach
     clear-op (Load l) e = clear-by (Load l) (reach-load (goes σ′) moves-on l e)
     clear-op (LoadLane w) e = clear-by (LoadLane w) (reach-lane (goes σ′) moves-on w e)
     clear-op Store e = clear-by Store (reach-store (goes σ′) moves-on e)
@@ -203,7 +190,7 @@ module _ (rs : List Kind) (i : Instr) (σ : State) (st : List ℕ) (d : ℕ) (ls
     clear-op (Test f) e = refl
     clear-op (Shift f) e = refl
 
-    pub clear : (c : Code) → exec rs c i σ ≡ goes σ′ → boundsOf c i st d (length m) ≡ Clear
+    pub clear : (c : Code) → exec rs c i σ ≡ goes σ′ → boundsOf c i st d (length m) ≡ inReach
     clear (plain p) e = refl
     clear (control k′) e = refl
     clear (vector v) e = clear-op v e
@@ -218,65 +205,16 @@ module _ (rs : List Kind) (i : Instr) (σ : State) (st : List ℕ) (d : ℕ) (ls
         let b = traps-past σ (r .at) (moved v) (r .next) a k (r .goes-on a k) (r .access) in
         record { bounds = r .bounds ∙ b .bounds; outside = b .outside }
 
-    not-plain : (p : Plain) → execPlain rs p i σ ≡ trap a k → ⊥
-    not-plain End e = at (ofKinds (σ .stack) (reverse rs)) e
-      where
-        at : (t : Bool) → cond t (done (reverse (σ .stack))) stuck ≡ trap a k → ⊥
-        at true q = let z : _≡_ {A = ℕ} 0 1 = cc in omega arith
-        at false q = traps-on (sym q)
-    not-plain Drop e = on-not-trap _ (σ .locals) (σ .memory) a k (pop-any st (trap a k) traps-on (σ .stack) _ (all-held rep) e .next)
-    not-plain LocalGet e = on-not-trap _ (σ .locals) (σ .memory) a k (named st (trap a k) traps-on σ (i .index) _ e .next)
-    not-plain LocalSet e =
-        let p = pop-any st (trap a k) traps-on (σ .stack) _ (all-held rep) e in let n = named st (trap a k) traps-on σ (i .index) _ (p .next) in
-        on-not-trap (p .rest) _ (σ .memory) a k (same-kind st (trap a k) traps-on (p .value) _ _ (n .next) .1)
-    not-plain LocalTee e =
-        let p = pop-any st (trap a k) traps-on (σ .stack) _ (all-held rep) e in let n = named st (trap a k) traps-on σ (i .index) _ (p .next) in
-        on-not-trap (p .value ∷ p .rest) _ (σ .memory) a k (same-kind st (trap a k) traps-on (p .value) _ _ (n .next) .1)
-    not-plain I32Const e = on-not-trap _ (σ .locals) (σ .memory) a k e
-    not-plain I64Const e = on-not-trap _ (σ .locals) (σ .memory) a k e
-    not-plain I32Add e =
-        let p = pop-i32 st (trap a k) traps-on (σ .stack) _ (all-held rep) e in
-        on-not-trap _ (σ .locals) (σ .memory) a k (pop-i32 st (trap a k) traps-on (p .rest) _ (p .under) (p .next) .next)
-    not-plain I32Sub e =
-        let p = pop-i32 st (trap a k) traps-on (σ .stack) _ (all-held rep) e in
-        on-not-trap _ (σ .locals) (σ .memory) a k (pop-i32 st (trap a k) traps-on (p .rest) _ (p .under) (p .next) .next)
-    not-plain I32Eqz e = on-not-trap _ (σ .locals) (σ .memory) a k (pop-i32 st (trap a k) traps-on (σ .stack) _ (all-held rep) e .next)
-    not-plain I32LtU e =
-        let p = pop-i32 st (trap a k) traps-on (σ .stack) _ (all-held rep) e in
-        on-not-trap _ (σ .locals) (σ .memory) a k (pop-i32 st (trap a k) traps-on (p .rest) _ (p .under) (p .next) .next)
-
-    -- one vector, or two
-    not-one : (f : List ℕ → List Value → Outcome) → ((x : List ℕ) (vs : List Value) → f x vs ≡ trap a k → ⊥) → popV128 (σ .stack) f ≡ trap a k → ⊥
-    not-one f never e = let p = pop-v128 st (trap a k) traps-on (σ .stack) f (all-held rep) e in never (p .value) (p .rest) (p .next)
-
-    not-two : (f : List ℕ → List ℕ → List Value → Outcome) → ((x y : List ℕ) (vs : List Value) → f x y vs ≡ trap a k → ⊥) → popV128 (σ .stack) (λ y vs. popV128 vs (λ x vs. f x y vs)) ≡ trap a k → ⊥
-    not-two f never e =
-        let p = pop-v128 st (trap a k) traps-on (σ .stack) _ (all-held rep) e in let q = pop-v128 st (trap a k) traps-on (p .rest) _ (p .under) (p .next) in
-        never (q .value) (p .value) (q .rest) (q .next)
-
-    pub past-op : (v : Op) → execVector v i σ ≡ trap a k → Beyond (boundsOp v i st d (length m)) (length (σ .memory)) a k
-    past-op (Load l) e = past-by (Load l) (reach-load (trap a k) traps-on l e)
-    past-op (LoadLane w) e = past-by (LoadLane w) (reach-lane (trap a k) traps-on w e)
-    past-op Store e = past-by Store (reach-store (trap a k) traps-on e)
-    past-op (StoreLane w) e = past-by (StoreLane w) (reach-store-lane (trap a k) traps-on w e)
-    past-op Const e = absurd (on-not-trap _ (σ .locals) (σ .memory) a k e)
-    past-op Shuffle e = absurd (not-two _ (λ x y vs. on-not-trap _ (σ .locals) (σ .memory) a k) e)
-    past-op (Splat w) e = absurd (on-not-trap _ (σ .locals) (σ .memory) a k (pop-scalar st (trap a k) traps-on w (σ .stack) _ (all-held rep) e .next))
-    past-op (ExtractLane s w) e = absurd (not-one _ (λ x vs. scalar-not-trap w σ vs (extracted s w x (i .lane)) a k) e)
-    past-op (ReplaceLane w) e =
-        let p = pop-scalar st (trap a k) traps-on w (σ .stack) _ (all-held rep) e in
-        absurd (on-not-trap _ (σ .locals) (σ .memory) a k (pop-v128 st (trap a k) traps-on (p .rest) _ (p .under) (p .next) .next))
-    past-op (Unary f) e = absurd (not-one _ (λ x vs. on-not-trap _ (σ .locals) (σ .memory) a k) e)
-    past-op (Binary f) e = absurd (not-two _ (λ x y vs. on-not-trap _ (σ .locals) (σ .memory) a k) e)
-    past-op Bitselect e =
-        let p = pop-v128 st (trap a k) traps-on (σ .stack) _ (all-held rep) e in let q = pop-v128 st (trap a k) traps-on (p .rest) _ (p .under) (p .next) in
-        absurd (on-not-trap _ (σ .locals) (σ .memory) a k (pop-v128 st (trap a k) traps-on (q .rest) _ (q .under) (q .next) .next))
-    past-op (Test f) e = absurd (not-one _ (λ x vs. on-not-trap _ (σ .locals) (σ .memory) a k) e)
-    past-op (Shift f) e =
-        let p = pop-i32 st (trap a k) traps-on (σ .stack) _ (all-held rep) e in
-        absurd (on-not-trap _ (σ .locals) (σ .memory) a k (pop-v128 st (trap a k) traps-on (p .rest) _ (p .under) (p .next) .next))
+    -- only an access traps
+    past-access : {c : Code} {vs : List Value} {b n : ℕ} → Accesses i c vs b n → exec rs c i σ ≡ trap a k
+        → Beyond (boundsOf c i st d (length m)) (length (σ .memory)) a k
+    past-access load e = past-by (Load Whole) (reach-load (trap a k) traps-on Whole e)
+    past-access (load-extend {s} {w}) e = past-by (Load (Widen s w)) (reach-load (trap a k) traps-on (Widen s w) e)
+    past-access (load-splat {w}) e = past-by (Load (Repeat w)) (reach-load (trap a k) traps-on (Repeat w) e)
+    past-access (load-zero {w}) e = past-by (Load (ZeroPad w)) (reach-load (trap a k) traps-on (ZeroPad w) e)
+    past-access (load-lane {w}) e = past-by (LoadLane w) (reach-lane (trap a k) traps-on w e)
+    past-access store e = past-by Store (reach-store (trap a k) traps-on e)
+    past-access (store-lane {w}) e = past-by (StoreLane w) (reach-store-lane (trap a k) traps-on w e)
 
     pub past-end : (c : Code) → exec rs c i σ ≡ trap a k → Beyond (boundsOf c i st d (length m)) (length (σ .memory)) a k
-    past-end (plain p) e = absurd (not-plain p e)
-    past-end (control k′) e = absurd (traps-on (sym e))
-    past-end (vector v) e = past-op v e
+    past-end c e = past-access (traps-exact rs i σ c a k .0 e .0) e

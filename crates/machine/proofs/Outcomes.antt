@@ -1,4 +1,5 @@
--- Whatever an instruction comes to: it goes on by `goOn`, traps at an access of its own past the memory's end, ends or is stuck. What is so of these is so of every instruction.
+-- Whatever an instruction comes to: it goes on by `goOn`, traps at an access of its own past the memory's end, ends or is stuck. What is so of these
+-- is so of every instruction.
 use Prim.Native.Nat.{ℕ, _+_, _<_}
 use mathlib.Core.Path.{_≡_, refl, ap, sym, _∙_, subst}
 use mathlib.Core.Bool.{Bool, true, false, cond}
@@ -16,7 +17,8 @@ use Rattle.machine.specs.Value.{Value, I32, I64, V128, kindOf}
 use Rattle.machine.specs.Exec.{State, Outcome, done, trap, stuck, popI32, popI64, popV128, popAny, popScalar, pushScalar, goOn, local, alike, access, ofKinds, execPlain, execVector, exec}
 use Rattle.machine.specs.Accesses.{Accesses, load, load-extend, load-splat, load-zero, load-lane, store, store-lane}
 
-module _ (i : Instr) (σ : State) (P : Outcome → Type 0) (sticks : P stuck) (ends : (vs : List Value) → P (done vs)) (on : (st ls : List Value) (m : List ℕ) → P (goOn st ls m)) where
+module _ (i : Instr) (σ : State) (P : Outcome → Type 0) (sticks : P stuck) (ends : (vs : List Value) → P (done vs))
+    (on : (st ls : List Value) (m : List ℕ) → P (goOn st ls m)) where
   -- ---- pops, with what was on the stack
 
   pop-i32 : (vs : List Value) (f : ℕ → List Value → Outcome) → ((n : ℕ) (ws : List Value) → vs ≡ I32 n ∷ ws → P (f n ws)) → P (popI32 vs f)
@@ -95,27 +97,29 @@ module _ (i : Instr) (σ : State) (P : Outcome → Type 0) (sticks : P stuck) (e
       accessed (x + i .offset) n (traps (x + i .offset) n (subst (λ (vs : List Value). Accesses i c vs (x + i .offset) n) (sym e) (is x st))) (next x st))
 
   -- or under a vector
-  under : (c : Code) (n : ℕ) (f : List ℕ → ℕ → List Value → Outcome) → ((v : List ℕ) (x : ℕ) (st : List Value) → Accesses i c (V128 v ∷ I32 x ∷ st) (x + i .offset) n) → Traps c
+  under : (c : Code) (n : ℕ) (f : List ℕ → ℕ → List Value → Outcome)
+      → ((v : List ℕ) (x : ℕ) (st : List Value) → Accesses i c (V128 v ∷ I32 x ∷ st) (x + i .offset) n) → Traps c
       → ((v : List ℕ) (x : ℕ) (st : List Value) → P (f v x st)) → P (popV128 (σ .stack) (λ v st. popI32 st (λ x st. access σ (x + i .offset) n (f v x st))))
   under c n f is traps next =
       pop-v128 (σ .stack) _ (λ v st e. pop-i32 st _ (λ x ws q.
       let all : σ .stack ≡ V128 v ∷ I32 x ∷ ws = e ∙ ap (λ (vs : List Value). V128 v ∷ vs) q in
-      accessed (x + i .offset) n (traps (x + i .offset) n (subst (λ (vs : List Value). Accesses i c vs (x + i .offset) n) (sym all) (is v x ws))) (next v x ws)))
+      accessed (x + i .offset) n (traps (x + i .offset) n (subst (λ (vs : List Value). Accesses i c vs (x + i .offset) n) (sym all) (is v x ws)))
+      (next v x ws)))
 
   -- ---- the instructions
 
-  of-plain : (rs : List Kind) (p : Plain) → P (execPlain rs p i σ)
-  of-plain rs End = either (ofKinds (σ .stack) (reverse rs)) (ends (reverse (σ .stack))) sticks
-  of-plain rs Drop = pop-any (σ .stack) _ (λ v st. on st _ _)
-  of-plain rs LocalGet = named (i .index) _ (λ v. on _ _ _)
-  of-plain rs LocalSet = pop-any (σ .stack) _ (λ v st. named (i .index) _ (λ w. same-kind v w (on _ _ _)))
-  of-plain rs LocalTee = pop-any (σ .stack) _ (λ v st. named (i .index) _ (λ w. same-kind v w (on _ _ _)))
-  of-plain rs I32Const = on _ _ _
-  of-plain rs I64Const = on _ _ _
-  of-plain rs I32Add = pop-i32 (σ .stack) _ (λ b st e. pop-i32 st _ (λ a st e. on _ _ _))
-  of-plain rs I32Sub = pop-i32 (σ .stack) _ (λ b st e. pop-i32 st _ (λ a st e. on _ _ _))
-  of-plain rs I32Eqz = pop-i32 (σ .stack) _ (λ a st e. on _ _ _)
-  of-plain rs I32LtU = pop-i32 (σ .stack) _ (λ b st e. pop-i32 st _ (λ a st e. on _ _ _))
+  of-plain : (rs : List Kind) (p : Plain) → Traps (plain p) → P (execPlain rs p i σ)
+  of-plain rs End traps = either (ofKinds (σ .stack) (reverse rs)) (ends (reverse (σ .stack))) sticks
+  of-plain rs Drop traps = pop-any (σ .stack) _ (λ v st. on st _ _)
+  of-plain rs LocalGet traps = named (i .index) _ (λ v. on _ _ _)
+  of-plain rs LocalSet traps = pop-any (σ .stack) _ (λ v st. named (i .index) _ (λ w. same-kind v w (on _ _ _)))
+  of-plain rs LocalTee traps = pop-any (σ .stack) _ (λ v st. named (i .index) _ (λ w. same-kind v w (on _ _ _)))
+  of-plain rs I32Const traps = on _ _ _
+  of-plain rs I64Const traps = on _ _ _
+  of-plain rs I32Add traps = pop-i32 (σ .stack) _ (λ b st e. pop-i32 st _ (λ a st e. on _ _ _))
+  of-plain rs I32Sub traps = pop-i32 (σ .stack) _ (λ b st e. pop-i32 st _ (λ a st e. on _ _ _))
+  of-plain rs I32Eqz traps = pop-i32 (σ .stack) _ (λ a st e. on _ _ _)
+  of-plain rs I32LtU traps = pop-i32 (σ .stack) _ (λ b st e. pop-i32 st _ (λ a st e. on _ _ _))
 
   of-vector : (o : Op) → Traps (vector o) → P (execVector o i σ)
   of-vector (Load Whole) traps = on-top _ 16 _ (λ x st. load) traps (λ x st. on _ _ _)
@@ -137,6 +141,6 @@ module _ (i : Instr) (σ : State) (P : Outcome → Type 0) (sticks : P stuck) (e
   of-vector (Shift o) traps = pop-i32 (σ .stack) _ (λ n st e. pop-v128 st _ (λ a st e. on _ _ _))
 
   pub of-exec : (rs : List Kind) (c : Code) → Traps c → P (exec rs c i σ)
-  of-exec rs (plain p) traps = of-plain rs p
+  of-exec rs (plain p) traps = of-plain rs p traps
   of-exec rs (control k) traps = sticks
   of-exec rs (vector o) traps = of-vector o traps

@@ -8,6 +8,7 @@ use lib.Dec.{T, leb}
 use lib.ListN.{length}
 use borrow.Author.Tests.{leb-true}
 use Rattle.operation.specs.Op.{Load, LoadLane, Store, StoreLane, Const, Shuffle, Splat, ExtractLane, ReplaceLane, Unary, Binary, Bitselect, Test, Shift}
+use Rattle.card.specs.Card.{DONE, TRAP}
 use Rattle.limits.specs.Limits.{stackLimit}
 use Rattle.opcode.specs.Table.{End, Drop, LocalGet, LocalSet, LocalTee, I32Const, I64Const, I32Add, I32Sub, I32Eqz, I32LtU, Code, plain, control, vector, carried}
 use Rattle.opcode.specs.Immediate.{movedBy}
@@ -21,22 +22,23 @@ use Rattle.opcode.proofs.Arms.{anyKey}
 use Rattle.instr.specs.declared.Instr.{Instr}
 use Rattle.machine.specs.Inner.Flat.{flat, flatOf}
 use Rattle.machine.specs.Inner.Fit.{Fit, Fits, Named, Ready, Did, DidBy, boundsAt, boundsOf}
-use Rattle.machine.specs.declared.access.Bounds.the-variants.{Clear, Past}
+use Rattle.machine.specs.Answer.{Told, inReach, outOfReach}
 
 -- an access that is clear lies within the memory
-pub within : (at n len : ℕ) → boundsAt at n len ≡ Clear → at + n ≤ len
+pub within : (at n len : ℕ) → boundsAt at n len ≡ inReach → at + n ≤ len
 within at n len e = go (leb (at + n) len) refl e
   where
-    go : (t : Bool) → leb (at + n) len ≡ t → cond t Clear (Past (max at len)) ≡ Clear → at + n ≤ len
+    go : (t : Bool) → leb (at + n) len ≡ t → cond t inReach (outOfReach (max at len)) ≡ inReach → at + n ≤ len
     go true q e = leb-true (at + n) len q
-    go false q e = let wrong : _≡_ {A = ℕ} 0 1 = cc in omega arith
+    go false q e = let wrong : TRAP ≡ DONE = ap (λ (x : Told). x .code) e in absurd (omega (arith, wrong))
 
 -- the keys of arms of one number each
 abbrev pub alone : List ℕ → List (List ℕ)
 alone = map (λ k. k ∷ [])
 
 -- past the arms of 1 to 24 are `end`, blocks and branches, which leave all as it is
-pub idle : (i : Instr) (st : List ℕ) (d : ℕ) (ls m : List ℕ) (c : Code) → (T (anyKey (alone (1 to 24)) (groupOfCode c)) → ⊥) → flat c i st d ls m ≡ flatOf d st ls m
+pub idle : (i : Instr) (st : List ℕ) (d : ℕ) (ls m : List ℕ) (c : Code) → (T (anyKey (alone (1 to 24)) (groupOfCode c)) → ⊥)
+    → flat c i st d ls m ≡ flatOf d st ls m
 idle i st d ls m (plain End) h = refl
 idle i st d ls m (plain Drop) h = absurd (h tt)
 idle i st d ls m (plain LocalGet) h = absurd (h tt)
@@ -65,7 +67,7 @@ idle i st d ls m (vector (Test o)) h = absurd (h tt)
 idle i st d ls m (vector (Shift o)) h = absurd (h tt)
 
 -- past the arms of 9 to 12 is what leaves the memory alone
-pub untouched : (i : Instr) (st : List ℕ) (d len : ℕ) (c : Code) → (T (anyKey (alone (9 to 12)) (groupOfCode c)) → ⊥) → Clear ≡ boundsOf c i st d len
+pub untouched : (i : Instr) (st : List ℕ) (d len : ℕ) (c : Code) → (T (anyKey (alone (9 to 12)) (groupOfCode c)) → ⊥) → inReach ≡ boundsOf c i st d len
 untouched i st d len (plain p) h = refl
 untouched i st d len (control k) h = refl
 untouched i st d len (vector (Load l)) h = absurd (h tt)
@@ -99,7 +101,8 @@ module _ (id : ℕ) {e : ℕ} (entry : e ≡ entryOf (rowOf id)) where
   each group P {k} at f c row = by-group (λ c. rowOf id ≡ carried c → P c) k f c (sym (group-of group c row) ∙ at) row
 
 -- of the code that it has
-pub fitting : {id e : ℕ} {st : List ℕ} {d : ℕ} → (e ≡ entryOf (rowOf id)) × Fits id st d → {g k : ℕ} {X : Type 0} → g ≡ groupIn e → g ≡ k → Each (λ c. rowOf id ≡ carried c → Fit c st d → X) k → X
+pub fitting : {id e : ℕ} {st : List ℕ} {d : ℕ} → (e ≡ entryOf (rowOf id)) × Fits id st d → {g k : ℕ} {X : Type 0} → g ≡ groupIn e → g ≡ k
+    → Each (λ c. rowOf id ≡ carried c → Fit c st d → X) k → X
 fitting {id} {e} {st} {d} (entry, r) {X = X} group at f = each id entry group (λ c. Fit c st d → X) at f (r .code) (r .row) (r .fit)
 
 -- a code's part of Ready
@@ -107,7 +110,7 @@ pub record Asks (c : Code) (i : Instr) (st : List ℕ) (d : ℕ) (ls m : List �
   pub fit : Fit c st d
   pub named : Named c i
   pub room : flat c i st d ls m .depth ≤ stackLimit
-  pub clear : boundsOf c i st d (length m) ≡ Clear
+  pub clear : boundsOf c i st d (length m) ≡ inReach
 
 module _ {id e : ℕ} {i : Instr} {st : List ℕ} {d : ℕ} {ls m : List ℕ} (pre : (e ≡ entryOf (rowOf id)) × Ready id i st d ls m) {g : ℕ} (group : g ≡ groupIn e) where
   asks : Asks (pre .1 .code) i st d ls m
@@ -116,7 +119,8 @@ module _ {id e : ℕ} {i : Instr} {st : List ℕ} {d : ℕ} {ls m : List ℕ} (p
   pub ready : {X : Type 0} {k : ℕ} → g ≡ k → Each (λ c. rowOf id ≡ carried c → Asks c i st d ls m → X) k → X
   ready {X} at f = each id (pre .0) group (λ c. Asks c i st d ls m → X) at f (pre .1 .code) (pre .1 .row) asks
 
-  pub did : {k d′ : ℕ} {st′ ls′ m′ : List ℕ} → g ≡ k → Each (λ c. rowOf id ≡ carried c → Asks c i st d ls m → Did (flat c i st d ls m) d′ st′ ls′ m′) k → DidBy id i st d ls m d′ st′ ls′ m′
+  pub did : {k d′ : ℕ} {st′ ls′ m′ : List ℕ} → g ≡ k → Each (λ c. rowOf id ≡ carried c → Asks c i st d ls m → Did (flat c i st d ls m) d′ st′ ls′ m′) k
+      → DidBy id i st d ls m d′ st′ ls′ m′
   did {k} {d′} {st′} {ls′} {m′} at f =
       record {
         does = λ c row.

@@ -99,7 +99,8 @@ module _ (rs : List Kind) (i : Instr) (apt : Apt i) (σ σ′ : State) (st : Lis
   sim-i64-const e = pushed rep (σ .stack) (all-held rep) (I64 (i .long)) (le slot (i .long)) d (d + 1) (apt .long) refl (sym (rep .depth)) (omega (arith, rep .depth)) e
 
   -- two numbers
-  sim-two : (f : ℕ → ℕ → ℕ) → ((a b : ℕ) → f a b < 2 ^ 32) → popI32 (σ .stack) (λ b vs. popI32 vs (λ a vs. goOn (I32 (f a b) ∷ vs) (σ .locals) (σ .memory))) ≡ goes σ′
+  sim-two : (f : ℕ → ℕ → ℕ) → ((a b : ℕ) → f a b < 2 ^ 32)
+      → popI32 (σ .stack) (λ b vs. popI32 vs (λ a vs. goOn (I32 (f a b) ∷ vs) (σ .locals) (σ .memory))) ≡ goes σ′
       → Rep σ′ (putSlot st (d - 2) (le slot (f (low32 (topOf st d 2)) (low32 (topOf st d 1))))) (d - 1) ls m
   sim-two f small e =
       let p = pop-i32 st (goes σ′) moves (σ .stack) _ (all-held rep) e in

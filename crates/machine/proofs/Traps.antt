@@ -15,7 +15,7 @@ use Rattle.instr.specs.declared.Instr.{Instr}
 use Rattle.machine.specs.Value.{Value, I32, V128}
 use Rattle.machine.specs.Exec.{State, Outcome, goes, done, trap, stuck, popI32, popV128, goOn, access, exec}
 use Rattle.machine.specs.Accesses.{Accesses, load, load-extend, load-splat, load-zero, load-lane, store, store-lane}
-use Rattle.machine.proofs.Fits.{on-not-trap}
+use Rattle.machine.proofs.Laws.Pops.{on-not-trap}
 use Rattle.machine.proofs.Outcomes.{of-exec}
 
 takes-i32 : (vs : List Value) (x : ℕ) (st : List Value) (f : ℕ → List Value → Outcome) → vs ≡ I32 x ∷ st → popI32 vs f ≡ f x st
@@ -35,7 +35,8 @@ module _ (rs : List Kind) (i : Instr) (σ : State) where
       → popI32 (σ .stack) (λ x st. access σ (x + i .offset) n (f x st)) ≡ trap (x + i .offset) n
   on-top x n st f e l = takes-i32 (σ .stack) x st _ e ∙ past (x + i .offset) n (f x st) l
 
-  under : (v : List ℕ) (x n : ℕ) (st : List Value) (f : List ℕ → ℕ → List Value → Outcome) → σ .stack ≡ V128 v ∷ I32 x ∷ st → length (σ .memory) < x + i .offset + n
+  under : (v : List ℕ) (x n : ℕ) (st : List Value) (f : List ℕ → ℕ → List Value → Outcome) → σ .stack ≡ V128 v ∷ I32 x ∷ st
+      → length (σ .memory) < x + i .offset + n
       → popV128 (σ .stack) (λ v st. popI32 st (λ x st. access σ (x + i .offset) n (f v x st))) ≡ trap (x + i .offset) n
   under v x n st f e l = takes-v128 (σ .stack) v (I32 x ∷ st) _ e ∙ takes-i32 (I32 x ∷ st) x st _ refl ∙ past (x + i .offset) n (f v x st) l
 
@@ -50,7 +51,8 @@ module _ (rs : List Kind) (i : Instr) (σ : State) where
 
   traps-strays : (c : Code) (a n : ℕ) → exec rs c i σ ≡ trap a n → Accesses i c (σ .stack) a n × (length (σ .memory) < a + n)
   traps-strays c a n =
-      of-exec i σ (λ o. o ≡ trap a n → Accesses i c (σ .stack) a n × (length (σ .memory) < a + n)) (λ e. absurd (let z : _≡_ {A = ℕ} 0 1 = cc (e) in omega arith))
+      of-exec i σ (λ o. o ≡ trap a n → Accesses i c (σ .stack) a n × (length (σ .memory) < a + n))
+      (λ e. absurd (let z : _≡_ {A = ℕ} 0 1 = cc (e) in omega arith))
       (λ vs e. absurd (let z : _≡_ {A = ℕ} 0 1 = cc (e) in omega arith)) (λ st ls m e. absurd (on-not-trap st ls m a n e)) rs c
       (λ b k at l e.
       let ea : b ≡ a = cc (e) in let en : k ≡ n = cc (e) in

@@ -3,6 +3,7 @@ ghost use mathlib.Core.Path.{_≡_};
 ghost use Rattle.opcode.specs.Table.{Code, carried};
 ghost use Rattle.opcode.specs.Number.{rowOf};
 ghost use Rattle.opcode.specs.Entry.{entryOf};
+ghost use Rattle.machine.specs.Answer.{toldBounds};
 ghost use Rattle.machine.specs.Inner.Fit.{Fits, Ready, DidBy, boundsOf};
 use crate::access;
 use crate::access::Bounds;
@@ -14,7 +15,7 @@ use lane::V128;
 // The address is the value on top, or the one under it.
 pub fn bounds(id: u32, entry: u64, i: Instr, stack: &[u8], depth: usize, len: usize) -> Bounds
     requires { ⌜ (entry ≡ entryOf (rowOf id)) × Fits id (now stack) depth ⌝ }
-    ensures { λ r. ⌜ ((c : Code) → rowOf id ≡ carried c → r ≡ boundsOf c i (now (stack .entry)) depth len) ⌝ }
+    ensures { λ r. ⌜ ((c : Code) → rowOf id ≡ carried c → toldBounds r ≡ boundsOf c i (now (stack .entry)) depth len) ⌝ }
 {
     match opcode::group(entry) {
         opcode::GROUP_LOAD => access::bounds_at(

@@ -1,3 +1,4 @@
 pub mod Shape
 pub mod Vector
 pub mod Op
+pub mod Exact

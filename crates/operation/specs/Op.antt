@@ -8,7 +8,9 @@ use lib.Dec.{eqb, ltb}
 use lib.IntN.{pos}
 use lib.Signed.{ltZ}
 use mir.Syntax.{Width, w8, w16, w32, w64, w128}
-use Rattle.scalar.specs.Scalar.{Sign, S, value, wrap, iadd, isub, imul, ineg, iabs, iaddsat, isubsat, imin, imax, iavgr, iq15mulrsat, ipopcnt, ishl, ishr, ieq, ine, ilt, ile, iextend, inarrow, iextmul, iextadd, idot}
+use Rattle.scalar.specs.Scalar.{Sign, S, value, wrap}
+use Rattle.scalar.specs.Scalar.{iadd, isub, imul, ineg, iabs, iaddsat, isubsat, imin, imax, iavgr, iq15mulrsat}
+use Rattle.scalar.specs.Scalar.{ipopcnt, ishl, ishr, ieq, ine, ilt, ile, iextend, inarrow, iextmul, iextadd, idot}
 use Rattle.operation.specs.Shape.{i8x16, i16x8, i32x4, lanes, half, twice}
 use Rattle.operation.specs.Vector.{number, le, lane, vec, lanewise1, lanewise2}
 

@@ -8,7 +8,8 @@ use lib.ListN.{length, length-append}
 use Rattle.opcode.specs.Kind.{Kind, kindByte}
 use Rattle.opcode.proofs.Effects.{kind-once}
 use Rattle.card.specs.Card.{VERSION}
-use Rattle.instr.specs.Decode.{refusal, decodeAt, decodeIn}
+use Rattle.instr.specs.Layout.{refusal}
+use Rattle.instr.specs.Decode.{decodeAt, decodeIn}
 use Rattle.rules.specs.Header.{Version, Header, Declares, kinds, locals}
 use Rattle.rules.proofs.Lists.{parts-once}
 

@@ -36,8 +36,8 @@ abbrev pub between : {s : List ℕ} {h : Header} {p q : ℕ} {κs λs : List Fra
 between here = []
 between (next {i = i} r t l o) = i ∷ between o
 
-stand-between : {s : List ℕ} {h : Header} {p q : ℕ} {κs λs : List Frame} {is : List Instr} (o : Onward s h p κs q λs) → Instructions (h .version) s q is
-    → Instructions (h .version) s p (between o ++ is)
+stand-between : {s : List ℕ} {h : Header} {p q : ℕ} {κs λs : List Frame} {is : List Instr} (o : Onward s h p κs q λs)
+    → Instructions (h .version) s q is → Instructions (h .version) s p (between o ++ is)
 stand-between here k = k
 stand-between (next r t l o) k = one-more (r .stands) (stand-between o k)
 

@@ -50,7 +50,8 @@ module _ {s : List ℕ} {w : Answer} (checked : Checked s w) where
       results-told : slot * getD s 7 0 ≡ slot * length (passed done .header .results)
       results-told = ap (λ (n : ℕ). slot * n) (result-count (header-of done))
 
-      pub no-room : {r : Answer} → (r .code ≡ ROOM) × (r .place ≡ 0) × (r .steps ≡ 0) → memoryLimit < length mem → Runs s args mem out budget (leaves (r .code) (r .place) (r .steps) mem out)
+      pub no-room : {r : Answer} → (r .code ≡ ROOM) × (r .place ≡ 0) × (r .steps ≡ 0) → memoryLimit < length mem
+          → Runs s args mem out budget (leaves (r .code) (r .place) (r .steps) mem out)
       no-room e l = early e (room (passed done) l)
 
       module _ (l : length mem ≤ memoryLimit) where
@@ -71,7 +72,8 @@ module _ {s : List ℕ} {w : Answer} (checked : Checked s w) where
             here : Tells ((vs : List Value) × Arguments (passed done .header .parameters) args vs) t
             here = told (passed done .header) (header-of done)
 
-            pub other-form : {r : Answer} → (r .code ≡ FORM) × (r .place ≡ 0) × (r .steps ≡ 0) → t ≡ false → Runs s args mem out budget (leaves (r .code) (r .place) (r .steps) mem out)
+            pub other-form : {r : Answer} → (r .code ≡ FORM) × (r .place ≡ 0) × (r .steps ≡ 0) → t ≡ false
+                → Runs s args mem out budget (leaves (r .code) (r .place) (r .steps) mem out)
             other-form e f = early e (malformed (passed done) l (a ∙ parameters-told) (o ∙ results-told) (λ vs g. told-no here f (vs, g)))
 
             -- asked of the run itself

@@ -54,6 +54,8 @@ module _ {s args out : List ℕ} (r : Prepared s args out) where
 
     -- what is left then is what the standard's machine leaves
     pub drove : {budget : ℕ} {l : Left}
-        → ((v : Valid s) (c : Config) → Carries s (v .header) c at 0 (openIn (replicate (3 * nestLimit + 1) 0)) (replicate stackBytes 0) (replicate (3 * nestLimit + 1) 0) locals mem → l ≡ meter s (v .header) budget 0 c out)
+        → ((v : Valid s) (c : Config)
+        → Carries s (v .header) c at 0 (openIn (replicate (3 * nestLimit + 1) 0)) (replicate stackBytes 0) (replicate (3 * nestLimit + 1) 0) locals mem
+        → l ≡ meter s (v .header) budget 0 c out)
         → Drove s args mem out budget l
     drove went = record { ready = r; same = went (r .valid) c begins }

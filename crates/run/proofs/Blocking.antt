@@ -37,7 +37,8 @@ use Rattle.run.proofs.Marking.{count-under, rep-under, rep-same, part-b
 use Rattle.run.proofs.Leading.{sound-of, ended-many}
 
 -- of those that are no ordinary instructions, the ones that are left
-branching : (k : Code) → turnsAt (groupOfCode k) ≡ true → (groupOfCode k ≡ 0 → ⊥) → (groupOfCode k ≡ 25 → ⊥) → (groupOfCode k ≡ 26 → ⊥) → (k ≡ control Br) ⊎ (k ≡ control BrIf)
+branching : (k : Code) → turnsAt (groupOfCode k) ≡ true → (groupOfCode k ≡ 0 → ⊥) → (groupOfCode k ≡ 25 → ⊥) → (groupOfCode k ≡ 26 → ⊥)
+    → (k ≡ control Br) ⊎ (k ≡ control BrIf)
 branching (control Br) t a b c = inl refl
 branching (control BrIf) t a b c = inr refl
 branching (control Block) t a b c = absurd (b refl)
@@ -79,7 +80,8 @@ block-few b = by (eqb b 0x40) (eqb b (kindByte i32)) (eqb b (kindByte i64)) (eqb
     by false false false false = omega arith
 
 -- the strip's `end`, not stuck
-ended-by : {s : List ℕ} {h : Header} {b : Config} (c : Config) (n : ℕ) (t : Bool) (vs : List Value) → Safe s h b (after c n (cond t (done vs) stuck)) → after c n (cond t (done vs) stuck) ≡ ended vs (c .state .memory)
+ended-by : {s : List ℕ} {h : Header} {b : Config} (c : Config) (n : ℕ) (t : Bool) (vs : List Value) → Safe s h b (after c n (cond t (done vs) stuck))
+    → after c n (cond t (done vs) stuck) ≡ ended vs (c .state .memory)
 ended-by c n true vs safe = refl
 ended-by c n false vs safe = absurd (safe-unhalted safe refl)
 
@@ -131,7 +133,8 @@ module _ {s : List ℕ} (v : Valid s) {c : Config} {at depth nest : ℕ} {stack 
         by [] f =
             let there : step s h c ≡ ended (reverse (σ .stack)) (σ .memory) =
             ends-step [] f ∙ ended-by {s = s} {h = h} {b = c} c len (ofKinds (σ .stack) (reverse (h .results))) (reverse (σ .stack)) (safe (ends-step [] f)) in
-            leads-out (there ∙ ap (ended (reverse (σ .stack))) (C .rep .memory)) refl (ended-many (safe there)) (omega (arith, whole-many, length-reverse (σ .stack), C .rep .deep)) (C .rep .stack-long)
+            leads-out (there ∙ ap (ended (reverse (σ .stack))) (C .rep .memory)) refl (ended-many (safe there))
+            (omega (arith, whole-many, length-reverse (σ .stack), C .rep .deep)) (C .rep .stack-long)
             (ap (λ (k : ℕ). part (slot * k) (slot * 0) stack) (length-reverse (σ .stack))
             ∙ part-bytes (σ .stack) [] stack (subst (λ (ls : List Label). Slots (σ .stack ++ underAll ls) stack) f (C .rep .slots)))
 
@@ -164,7 +167,9 @@ module _ {s : List ℕ} (v : Valid s) {c : Config} {at depth nest : ℕ} {stack 
     entered = record { place = c .place + len; state = withStack σ []; labels = label ∷ c .labels }
 
     few : nest < nestLimit
-    few = omega (arith, C .many, ltb-true (length (c .labels)) nestLimit (unhalted-if {s = s} {h = h} {b = c} (ltb (length (c .labels)) nestLimit) (going entered) (safe e)))
+    few =
+        let room = unhalted-if {s = s} {h = h} {b = c} (ltb (length (c .labels)) nestLimit) (going entered) (safe e) in
+        omega (arith, C .many, ltb-true (length (c .labels)) nestLimit room)
 
     enters : {way : ℕ} {marks′ : List ℕ} → way ≡ wayOf label → marks′ ≡ set (set (set marks (3 * nest) depth) (3 * nest + 1) way) (3 * nest + 2) (at + len)
         → Led s h (step s h c) (at + len) depth (nest + 1) stack marks′ locals mem
@@ -191,7 +196,8 @@ module _ {s : List ℕ} (v : Valid s) {c : Config} {at depth nest : ℕ} {stack 
     pub room-for-block : (nest < nestLimit) × (length marks ≡ 3 * nestLimit + 1)
     room-for-block = (few false block-step, C .marks-long)
 
-    pub block-begins : {way : ℕ} {marks′ : List ℕ} → way ≡ length (blockResults block) → marks′ ≡ set (set (set marks (3 * nest) depth) (3 * nest + 1) way) (3 * nest + 2) (at + len)
+    pub block-begins : {way : ℕ} {marks′ : List ℕ} → way ≡ length (blockResults block)
+        → marks′ ≡ set (set (set marks (3 * nest) depth) (3 * nest + 1) way) (3 * nest + 2) (at + len)
         → Led s h (step s h c) (at + len) depth (nest + 1) stack marks′ locals mem
     block-begins w m = enters false block-step (w ∙ ap (λ (x : ℕ). length (blockResults x)) (S .block-is)) m
 
@@ -275,7 +281,10 @@ module _ {s : List ℕ} (v : Valid s) {c : Config} {at depth nest : ℕ} {stack 
       below : {d : ℕ} → d ≡ depth - 1 → Rep (withStack σ (q .under ++ underAll (c .labels))) stack d locals mem
       below f = rep-under σ (I32 (q .number) ∷ []) (q .under ++ underAll (c .labels)) above (f ∙ omega (arith, above .depth))
 
-      if-step : step s h c ≡ cond (eqb (q .number) 0) (going (record { place = c .place + len; state = withStack σ (q .under); labels = c .labels })) (branch s h (withStack σ (q .under)) (i .index) (c .labels))
+      abbrev after-if : Config
+      after-if = record { place = c .place + len; state = withStack σ (q .under); labels = c .labels }
+
+      if-step : step s h c ≡ cond (eqb (q .number) 0) (going after-if) (branch s h (withStack σ (q .under)) (i .index) (c .labels))
       if-step = stepped (control BrIf) e ∙ ap (branchIf s h c len (i .index)) (q .stack-is)
 
     -- br_if has something to ask
@@ -315,7 +324,7 @@ module _ {s : List ℕ} (v : Valid s) {c : Config} {at depth nest : ℕ} {stack 
           by (inr e) =
               let unequal : eqb (q e .number) 0 ≡ false = not-yes (eqb (q e .number) 0) (sym tr ∙ if-test e) in
               takes (withStack σ (q e .under))
-              (if-step e ∙ ap (λ (x : Bool). cond x (going (record { place = c .place + len; state = withStack σ (q e .under); labels = c .labels })) (branch s h (withStack σ (q e .under)) (i .index) (c .labels))) unequal)
+              (if-step e ∙ ap (λ (x : Bool). cond x (going (after-if e)) (branch s h (withStack σ (q e .under)) (i .index) (c .labels))) unequal)
               (below e {d = depth - 1} refl) (omega (arith, if-group e))
 
       pub not-taken : t ≡ false → Led s h (step s h c) (at + len) (depth - (group - 27)) nest stack marks locals mem
@@ -323,7 +332,9 @@ module _ {s : List ℕ} (v : Valid s) {c : Config} {at depth nest : ℕ} {stack 
         where
           by : (S .code ≡ control Br) ⊎ (S .code ≡ control BrIf) → Led s h (step s h c) (at + len) (depth - (group - 27)) nest stack marks locals mem
           by (inl e) =
-              absurd (let z : false ≡ true = sym fa ∙ test ∙ ap (λ (x : Bool). cond x true (not (eqb (low32 (topOf stack depth 1)) 0))) (eq-eqb group 27 (br-group e)) in let w : _≡_ {A = ℕ} 0 1 = cc (z) in omega arith)
+              let z : false ≡ true =
+              sym fa ∙ test ∙ ap (λ (x : Bool). cond x true (not (eqb (low32 (topOf stack depth 1)) 0))) (eq-eqb group 27 (br-group e)) in
+              absurd (let w : _≡_ {A = ℕ} 0 1 = cc (z) in omega arith)
           by (inr e) =
               let equal : eqb (q e .number) 0 ≡ true = not-no (eqb (q e .number) 0) (sym fa ∙ if-test e) in
               let next : Config = record { place = c .place + len; state = withStack σ (q e .under); labels = c .labels } in

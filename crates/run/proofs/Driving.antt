@@ -24,6 +24,7 @@ use Rattle.machine.specs.Inner.Fit.{Fits, DidBy, boundsOf}
 use Rattle.machine.specs.Inner.Fit.{Ready}
 use Rattle.machine.specs.declared.access.Bounds.{Bounds}
 use Rattle.machine.specs.declared.access.Bounds.the-variants.{Clear, Past}
+use Rattle.machine.specs.Answer.{Told, inReach, toldBounds}
 use Rattle.rules.specs.Header.{Header}
 use Rattle.rules.specs.Strip.{Reads, Valid}
 use Rattle.rules.proofs.Onward.{declared}
@@ -42,6 +43,10 @@ use Rattle.run.proofs.Ways.{Way, turning, goes-to, traps-at, way}
 pub not-clear : {b : Bounds} {a : ℕ} → b ≡ Past a → b ≡ Clear → ⊥
 not-clear e f = let z : _≡_ {A = ℕ} 0 1 = cc in omega arith
 
+reach-clear : (b : Bounds) → toldBounds b ≡ inReach → b ≡ Clear
+reach-clear Clear e = refl
+reach-clear (Past a) e = absurd (let z : TRAP ≡ DONE = ap (λ (x : Told). x .code) e in omega (arith, z))
+
 -- a strip has one number of results
 results-once : {s : List ℕ} (v w : Valid s) (out : List ℕ) → Slots (v .header .results) out → Slots (w .header .results) out
 results-once v w out e = e ∙ ap (λ (n : ℕ). slot * n) (sym (result-count (declared (v .reached))) ∙ result-count (declared (w .reached)))
@@ -56,7 +61,8 @@ pub record Drives (s : List ℕ) (v : Valid s) (c₀ : Config) (mem₀ out : Lis
   pub untouched : results ≡ out
   pub long : length mem ≡ length mem₀
 
-pub starts : {s : List ℕ} (v : Valid s) (c₀ : Config) (budget : ℕ) {out stack marks locals mem : List ℕ} {at depth nest : ℕ} → Carries s (v .header) c₀ at depth nest stack marks locals mem
+pub starts : {s : List ℕ} (v : Valid s) (c₀ : Config) (budget : ℕ) {out stack marks locals mem : List ℕ} {at depth nest : ℕ}
+    → Carries s (v .header) c₀ at depth nest stack marks locals mem
     → Going s out at depth nest stack marks locals mem → Drives s v c₀ mem out budget mem out stack marks locals at depth nest budget
 starts {s} v c₀ budget {out} C g =
     record {
@@ -107,7 +113,8 @@ module _ {s : List ℕ} {v : Valid s} {c₀ : Config} {mem₀ out : List ℕ} {b
       ap (λ (k : ℕ). meter s h k steps c out) next ∙ ap (meterBy steps c out (λ c. meter s h (left - 1) (suc steps) c out)) e
 
   -- one step further
-  goes-on : 0 < left → {d : Config} → step s h c ≡ going d → {mem′ stack′ marks′ locals′ : List ℕ} {at′ depth′ nest′ : ℕ} → Carries s h d at′ depth′ nest′ stack′ marks′ locals′ mem′
+  goes-on : 0 < left → {d : Config} → step s h c ≡ going d → {mem′ stack′ marks′ locals′ : List ℕ} {at′ depth′ nest′ : ℕ}
+      → Carries s h d at′ depth′ nest′ stack′ marks′ locals′ mem′
       → length mem′ ≡ length mem → Drives s v c₀ mem₀ out budget mem′ results stack′ marks′ locals′ at′ depth′ nest′ (left - 1)
   goes-on more {d} e C kept =
       let further : suc steps ≡ budget - (left - 1) = omega (arith, D .within) in
@@ -207,7 +214,7 @@ module _ {s : List ℕ} {v : Valid s} {c₀ : Config} {mem₀ out : List ℕ} {b
               by (goes-to r e q x) = fits r (h .results) (D .carries .rep) q (λ z. let w : _≡_ {A = ℕ} 0 1 = cc in omega arith)
               by (traps-at r e q x) = fits r (h .results) (D .carries .rep) q (λ z. let w : _≡_ {A = ℕ} 0 1 = cc in omega arith)
 
-          module _ (b : Bounds) (told : (c : Code) → rowOf id ≡ carried c → b ≡ boundsOf c i stack depth (length mem)) where
+          module _ (b : Bounds) (told : (c : Code) → rowOf id ≡ carried c → toldBounds b ≡ boundsOf c i stack depth (length mem)) where
             -- within the memory: asked of `exec`, and what it leaves
             module _ (clear : b ≡ Clear) where
               pub exec-apt : (f .entry ≡ entryOf (rowOf id)) × Ready id i stack depth locals mem
@@ -218,7 +225,8 @@ module _ {s : List ℕ} {v : Valid s} {c₀ : Config} {mem₀ out : List ℕ} {b
                   by (goes-to r e q x) = ready r (h .results) (D .carries .rep) q
                   by (traps-at r e q x) = absurd (is-past r (h .results) (D .carries .rep) q b (told _ (row r)) clear)
 
-              pub onward : 0 < left → {depth′ : ℕ} {stack′ locals′ mem′ : List ℕ} → DidBy id i stack depth locals mem depth′ stack′ locals′ mem′ → length mem′ ≡ length mem
+              pub onward : 0 < left → {depth′ : ℕ} {stack′ locals′ mem′ : List ℕ} → DidBy id i stack depth locals mem depth′ stack′ locals′ mem′
+                  → length mem′ ≡ length mem
                   → Drives s v c₀ mem₀ out budget mem′ results stack′ marks locals′ (at + d .len) depth′ nest (left - 1)
               onward more {depth′} {stack′} {locals′} {mem′} by-code kept = by stands
                 where
@@ -243,7 +251,7 @@ module _ {s : List ℕ} {v : Valid s} {c₀ : Config} {mem₀ out : List ℕ} {b
               where
                 by : Way s h c i (d .len) → Is (leaves TRAP at steps mem results)
                 by (turning r e) = both (sort r ∙ e) ordinary
-                by (goes-to r e q x) = absurd (out-of-reach (told _ (row r) ∙ is-clear r (h .results) (D .carries .rep) q))
+                by (goes-to r e q x) = absurd (out-of-reach (reach-clear b (told _ (row r) ∙ is-clear r (h .results) (D .carries .rep) q)))
                 by (traps-at {a = a} {m = m} r e q x) = stops (one more (trapped a m) x ∙ here TRAP)
 
   -- ---- what `turn` leaves
@@ -276,6 +284,7 @@ module _ {s : List ℕ} {v : Valid s} {c₀ : Config} {mem₀ out : List ℕ} {b
     pub turned : 0 < left → (at′ ≡ 0 → ⊥) → Drives s v c₀ mem₀ out budget mem results stack′ marks′ locals at′ depth′ nest′ (left - 1)
     turned more ne = by led
       where
-        by : Led s h (step s h c) at′ depth′ nest′ stack′ marks′ locals mem → Drives s v c₀ mem₀ out budget mem results stack′ marks′ locals at′ depth′ nest′ (left - 1)
+        by : Led s h (step s h c) at′ depth′ nest′ stack′ marks′ locals mem
+            → Drives s v c₀ mem₀ out budget mem results stack′ marks′ locals at′ depth′ nest′ (left - 1)
         by (leads-on e C) = goes-on more e C refl
         by (leads-out e q n few long bytes) = absurd (ne q)

@@ -147,7 +147,8 @@ module _ {s : List ℕ} (v : Valid s) {σ : State} {ls : List Label} {index dept
     safe-jump = subst (Safe s h (L .from)) (T .jumps) (L .safe)
 
     -- a loop begins again
-    pub loops : getD marks (3 * k + 1) 0 ≡ LOOP → Led s h (branch s h σ index ls) (getD marks (3 * k + 2) 0) (getD marks (3 * k) 0) (k + 1) stack marks locals mem
+    pub loops : getD marks (3 * k + 1) 0 ≡ LOOP
+        → Led s h (branch s h σ index ls) (getD marks (3 * k + 2) 0) (getD marks (3 * k) 0) (k + 1) stack marks locals mem
     loops e =
         let again : Config = record { place = l .body; state = withStack σ []; labels = l ∷ rest } in
         let is-loop : l .loop ≡ true = loop-by (l .loop) (length (l .results)) (T .marked .3) (sym way-is ∙ e) in
@@ -202,7 +203,8 @@ module _ {s : List ℕ} (v : Valid s) {σ : State} {ls : List Label} {index dept
 
       block-jump : jump s h σ l rest ≡ along (l .results) (σ .stack) (λ vs. resume σ l rest vs (close (h .version) s (l .body)))
       block-jump =
-          ap (λ (t : Bool). cond t (going (record { place = l .body; state = withStack σ []; labels = l ∷ rest })) (along (l .results) (σ .stack) (λ vs. resume σ l rest vs (close (h .version) s (l .body)))))
+          let again : Config = record { place = l .body; state = withStack σ []; labels = l ∷ rest } in
+          ap (λ (t : Bool). cond t (going again) (along (l .results) (σ .stack) (λ vs. resume σ l rest vs (close (h .version) s (l .body)))))
           no-loop
 
       safe-along : Safe s h (L .from) (along (l .results) (σ .stack) (λ vs. resume σ l rest vs (close (h .version) s (l .body))))
@@ -213,7 +215,10 @@ module _ {s : List ℕ} (v : Valid s) {σ : State} {ls : List Label} {index dept
 
       taken-many : length taken ≡ length (l .results)
       taken-many =
-          sym (length-map taken kindOf) ∙ ap length (fit-kinds taken (reverse (l .results)) (unhalted-if {s = s} {h = h} {b = L .from} (ofKinds taken (reverse (l .results))) (resume σ l rest taken (close (h .version) s (l .body))) safe-along))
+          sym (length-map taken kindOf)
+          ∙ ap length (fit-kinds taken (reverse (l .results))
+          (unhalted-if {s = s} {h = h} {b = L .from} (ofKinds taken (reverse (l .results))) (resume σ l rest taken (close (h .version) s (l .body)))
+          safe-along))
           ∙ length-reverse (l .results)
 
       leaves-block : {stack′ : List ℕ} {depth′ : ℕ} → Rep (withStack σ (taken ++ underAll (l ∷ rest))) stack′ depth′ locals mem

@@ -18,3 +18,4 @@ pub mod Metered
 pub mod Promises
 pub mod NeverStuck
 pub mod Unique
+pub mod Exponents

@@ -38,12 +38,14 @@ count-under [] = refl
 count-under (l ∷ ls) = omega (arith, count-under ls, length-append (l .under) (underAll ls))
 
 -- only those under are left
-pub rep-under : (σ : State) {st : List ℕ} {d : ℕ} {locals mem : List ℕ} (vs ws : List Value) → Rep (withStack σ (vs ++ ws)) st d locals mem → {d′ : ℕ} → d′ ≡ length ws
+pub rep-under : (σ : State) {st : List ℕ} {d : ℕ} {locals mem : List ℕ} (vs ws : List Value) → Rep (withStack σ (vs ++ ws)) st d locals mem → {d′ : ℕ}
+    → d′ ≡ length ws
     → Rep (withStack σ ws) st d′ locals mem
 rep-under σ {st} vs ws rep {d′} e =
     rep-pop rep ws (slots-under vs ws st (rep .slots)) (range-under vs ws (rep .stack-range)) d′ e (omega (arith, rep .depth, rep .deep, length-append vs ws, e))
 
-pub rep-same : (σ : State) {st : List ℕ} {d : ℕ} {locals mem : List ℕ} {vs ws : List Value} → vs ≡ ws → Rep (withStack σ vs) st d locals mem → Rep (withStack σ ws) st d locals mem
+pub rep-same : (σ : State) {st : List ℕ} {d : ℕ} {locals mem : List ℕ} {vs ws : List Value} → vs ≡ ws → Rep (withStack σ vs) st d locals mem
+    → Rep (withStack σ ws) st d locals mem
 rep-same σ {st} {d} {locals} {mem} e rep = subst (λ (x : List Value). Rep (withStack σ x) st d locals mem) e rep
 
 -- the bytes of the values on top of others, the lowest first
@@ -77,13 +79,16 @@ pub marked-more : (l : Label) (ls : List Label) (ms : List ℕ) (n height way bo
     → Marked (l ∷ ls) (set (set (set ms (3 * n) height) (3 * n + 1) way) (3 * n + 2) body)
 marked-more l ls ms n height way body e few long a b c d m =
     subst (λ (k : ℕ). Marked (l ∷ ls) (set (set (set ms (3 * k) height) (3 * k + 1) way) (3 * k + 2) body)) (sym e) (
-      getD-set-other (set (set ms (3 * length ls) height) (3 * length ls + 1) way) (3 * length ls + 2) (3 * length ls) body 0 (λ e. omega arith) ∙ getD-set-other (set ms (3 * length ls) height) (3 * length ls + 1) (3 * length ls) way 0 (λ e. omega arith)
+      getD-set-other (set (set ms (3 * length ls) height) (3 * length ls + 1) way) (3 * length ls + 2) (3 * length ls) body 0 (λ e. omega arith)
+          ∙ getD-set-other (set ms (3 * length ls) height) (3 * length ls + 1) (3 * length ls) way 0 (λ e. omega arith)
           ∙ getD-set-same ms (3 * length ls) height 0 (omega (arith, few, long, e)) ∙ a,
       getD-set-other (set (set ms (3 * length ls) height) (3 * length ls + 1) way) (3 * length ls + 2) (3 * length ls + 1) body 0 (λ e. omega arith)
           ∙ getD-set-same (set ms (3 * length ls) height) (3 * length ls + 1) way 0 (lt-length-set ms (3 * length ls) height (omega (arith, few, long, e))) ∙ b,
-      getD-set-same (set (set ms (3 * length ls) height) (3 * length ls + 1) way) (3 * length ls + 2) body 0 (lt-length-set (set ms (3 * length ls) height) (3 * length ls + 1) way (lt-length-set ms (3 * length ls) height (omega (arith, few, long, e)))) ∙ c,
+      getD-set-same (set (set ms (3 * length ls) height) (3 * length ls + 1) way) (3 * length ls + 2) body 0
+          (lt-length-set (set ms (3 * length ls) height) (3 * length ls + 1) way (lt-length-set ms (3 * length ls) height (omega (arith, few, long, e)))) ∙ c,
       d,
-      marked-kept ls (set (set ms (3 * length ls) height) (3 * length ls + 1) way) (3 * length ls + 2) body (omega arith) (marked-kept ls (set ms (3 * length ls) height) (3 * length ls + 1) way (omega arith) (marked-kept ls ms (3 * length ls) height (omega arith) m)),
+      marked-kept ls (set (set ms (3 * length ls) height) (3 * length ls + 1) way) (3 * length ls + 2) body (omega arith)
+          (marked-kept ls (set ms (3 * length ls) height) (3 * length ls + 1) way (omega arith) (marked-kept ls ms (3 * length ls) height (omega arith) m)),
     )
 
 -- ---- what is not stuck

@@ -84,7 +84,8 @@ module _ {s : List ℕ} (v : Valid s) (vs : List Value) (mem out : List ℕ) (bu
   told-place (told-trap k l e f g) = reached-inside (sound-at k e .0 .reached)
   told-place (told-budget e) = reached-inside (sound-at budget e .0 .reached)
 
-  told-long : {x : Left} → Slots (h .results) out → Told s h (begin h vs mem) out budget x → (length (x .memory) ≡ length mem) × (length (x .results) ≡ length out)
+  told-long : {x : Left} → Slots (h .results) out → Told s h (begin h vs mem) out budget x
+      → (length (x .memory) ≡ length mem) × (length (x .results) ≡ length out)
   told-long o (told-done k l e f w) = (ended-long k e f, w ∙ sym o)
   told-long o (told-trap k l e f g) = (sound-at k e .1, refl)
   told-long o (told-budget e) = (sound-at budget e .1, refl)
@@ -99,12 +100,14 @@ told-code (told-done k l e f w) = inl (omega arith)
 told-code (told-trap k l e f g) = inr (inr (inl refl))
 told-code (told-budget e) = inr (inr (inr refl))
 
-told-results : {s : List ℕ} {h : Header} {b : Config} {out : List ℕ} {budget : ℕ} {x : Left} → Told s h b out budget x → (x .answer .code ≡ DONE → ⊥) → x .results ≡ out
+told-results : {s : List ℕ} {h : Header} {b : Config} {out : List ℕ} {budget : ℕ} {x : Left} → Told s h b out budget x → (x .answer .code ≡ DONE → ⊥)
+    → x .results ≡ out
 told-results (told-done k l e f w) ne = absurd (ne refl)
 told-results (told-trap k l e f g) ne = refl
 told-results (told-budget e) ne = refl
 
-told-late : {s : List ℕ} {h : Header} {b : Config} {out : List ℕ} {budget : ℕ} {x : Left} → Told s h b out budget x → (x .answer .code ≡ DONE → ⊥) → SMALL < x .answer .code
+told-late : {s : List ℕ} {h : Header} {b : Config} {out : List ℕ} {budget : ℕ} {x : Left} → Told s h b out budget x → (x .answer .code ≡ DONE → ⊥)
+    → SMALL < x .answer .code
 told-late (told-done k l e f w) ne = absurd (ne refl)
 told-late (told-trap k l e f g) ne = omega arith
 told-late (told-budget e) ne = omega arith
@@ -135,7 +138,8 @@ module _ {s args mem out : List ℕ} {budget : ℕ} (m : bytes mem) where
     pub refusal-changes-nothing : (x .answer .code ≡ DONE → ⊥) → x .answer .code ≤ SMALL → (x .answer .steps ≡ 0) × (x .memory ≡ mem) × (x .results ≡ out)
     refusal-changes-nothing ne most = by (run-told r) ne most
       where
-        by : {x : Left} → Ran s args mem out budget x → (x .answer .code ≡ DONE → ⊥) → x .answer .code ≤ SMALL → (x .answer .steps ≡ 0) × (x .memory ≡ mem) × (x .results ≡ out)
+        by : {x : Left} → Ran s args mem out budget x → (x .answer .code ≡ DONE → ⊥) → x .answer .code ≤ SMALL
+            → (x .answer .steps ≡ 0) × (x .memory ≡ mem) × (x .results ≡ out)
         by (turned-away t) ne most = (refl, refl, refl)
         by (ran v vs a o t) ne most = absurd (let late = told-late t ne in omega arith)
 

@@ -1,10 +1,11 @@
 -- One instruction of a strip that keeps the rules, as the code does it: what is asked of the machine's two functions holds, and what they do is the standard's.
 use Prim.Native.Nat.{ℕ, zero, suc, _<_}
-use mathlib.Core.Path.{_≡_, refl, sym, _∙_, subst}
+use mathlib.Core.Path.{_≡_, refl, ap, sym, _∙_, subst}
 use mathlib.Core.List.{List, [], _∷_}
 use mathlib.Core.Logic.{inl, inr}
 use native.Mathlib.Omega.{arith}
 use lib.ListN.{length, getD}
+use Rattle.card.specs.Card.{DONE, TRAP}
 use Rattle.operation.specs.Op.{Op, Load, LoadLane, Store, StoreLane, Const, Shuffle, Splat, ExtractLane, ReplaceLane, Unary, Binary, Bitselect, Test, Shift}
 use Rattle.operation.proofs.Laws.Lane.{lane-byte}
 use Rattle.opcode.specs.Kind.{Kind}
@@ -19,7 +20,8 @@ use Rattle.machine.specs.Exec.{State, Outcome, goes, trap, stuck, exec}
 use Rattle.machine.specs.Inner.Flat.{flat}
 use Rattle.machine.specs.Inner.Fit.{Fit, Fits, Indexed, Named, Ready, DidBy, boundsOf}
 use Rattle.machine.specs.declared.access.Bounds.{Bounds}
-use Rattle.machine.specs.declared.access.Bounds.the-variants.{Clear, Past}
+use Rattle.machine.specs.declared.access.Bounds.the-variants.{Clear}
+use Rattle.machine.specs.Answer.{Told, inReach, outOfReach, toldBounds}
 use Rattle.machine.proofs.Simulates.{simulates}
 use Rattle.machine.proofs.Fits.{slotted, enough, clear, past-end}
 use Rattle.machine.specs.Inner.Rep.{Rep}
@@ -90,7 +92,7 @@ module _ {v : ℕ} {s : List ℕ} {p n : ℕ} {i : Instr} {c : Code} (r : Reads 
             clear = clear rs i σ st d ls m rep σ′ c e;
           }
 
-      pub is-clear : boundsOf c i st d (length m) ≡ Clear
+      pub is-clear : boundsOf c i st d (length m) ≡ inReach
       is-clear = clear rs i σ st d ls m rep σ′ c e
 
       -- and what it did holds the next state
@@ -101,7 +103,7 @@ module _ {v : ℕ} {s : List ℕ} {p n : ℕ} {i : Instr} {c : Code} (r : Reads 
           (subst (λ (z : List ℕ). Rep σ′ z (f .depth) ls′ m′) (sym (x .stack))
           (subst (λ (z : List ℕ). Rep σ′ (f .stack) (f .depth) z m′) (sym (x .locals)) (subst (λ (z : List ℕ). Rep σ′ (f .stack) (f .depth) (f .locals) z) (sym (x .memory)) after)))
 
-    pub is-past : {a k : ℕ} → exec rs c i σ ≡ trap a k → (b : Bounds) → b ≡ boundsOf c i st d (length m) → b ≡ Clear → ⊥
+    pub is-past : {a k : ℕ} → exec rs c i σ ≡ trap a k → (b : Bounds) → toldBounds b ≡ boundsOf c i st d (length m) → b ≡ Clear → ⊥
     is-past {a} {k} e b f g =
-        let past : Clear ≡ Past _ = sym g ∙ f ∙ past-end rs i σ st d ls m rep a k c e .bounds in
-        let z : _≡_ {A = ℕ} 0 1 = cc in omega arith
+        let past : inReach ≡ outOfReach _ = ap toldBounds (sym g) ∙ f ∙ past-end rs i σ st d ls m rep a k c e .bounds in
+        let z : DONE ≡ TRAP = ap (λ (x : Told). x .code) past in omega (arith, z)

@@ -57,7 +57,7 @@ holds-slots : {ks : List Kind} {args : List ℕ} {vs : List Value} → Arguments
 holds-slots {vs = vs} a = ap length (a .bytes) ∙ all-long vs (a .range) ∙ ap (λ (n : ℕ). slot * n) (sym (length-map vs kindOf) ∙ ap length (a .kinds))
 
 -- a strip that keeps the rules has one header
-header-once : {s : List ℕ} (v w : Valid s) → v .header ≡ w .header
+pub header-once : {s : List ℕ} (v w : Valid s) → v .header ≡ w .header
 header-once {s} v w = declares-once s (v .header) (w .header) (declared (v .reached)) (declared (w .reached))
 
 -- ---- the questions in order: the first that is not answered well is one, and it settles what is left
@@ -103,11 +103,13 @@ module _ (s args mem out : List ℕ) (budget : ℕ) where
   holds-for v w {vs} = subst (λ (h : Header). Arguments (h .parameters) args vs) (header-once v w)
 
   first : {x : Left} → Runs s args mem out budget x → First x
-  first (refused (breaks {c} {p} b)) = record { question = 0; stop = record { kept = none-asked Question; broken = λ v. valid-no-breach v b }; settled = (c, p, b, refl) }
+  first (refused (breaks {c} {p} b)) =
+      record { question = 0; stop = record { kept = none-asked Question; broken = λ v. valid-no-breach v b }; settled = (c, p, b, refl) }
   first (refused (room v g)) = record { question = 1; stop = record { kept = passed v; broken = λ l. omega arith }; settled = refl }
   first (refused (arguments v l f)) = record { question = 2; stop = record { kept = roomy v l; broken = λ q. f (q v) }; settled = refl }
   first (refused (outsized v l a f)) = record { question = 3; stop = record { kept = args-kept v l a; broken = λ q. f (q v) }; settled = refl }
-  first (refused (malformed v l a o f)) = record { question = 4; stop = record { kept = results-kept v l a o; broken = λ q. f (q v .0) (q v .1) }; settled = refl }
+  first (refused (malformed v l a o f)) =
+      record { question = 4; stop = record { kept = results-kept v l a o; broken = λ q. f (q v .0) (q v .1) }; settled = refl }
   first (metered v vs l a o) =
       record {
         question = 5;
@@ -133,7 +135,8 @@ module _ (s args mem out : List ℕ) (budget : ℕ) where
       settled-once (b .question) (subst (λ (k : ℕ). Settled k x) (stop-once (a .stop) (b .stop)) (a .settled)) (b .settled)
 
 -- of the function's own contract
-pub one-run : (κs : _) (a : _) (e e′ : _) (r r′ : Answer) → run.Post κs a r e → run.Post κs a r′ e′ → (r ≡ r′) × (now (e .1 .1 .0) ≡ now (e′ .1 .1 .0)) × (now (e .1 .1 .1 .0) ≡ now (e′ .1 .1 .1 .0))
+pub one-run : (κs : _) (a : _) (e e′ : _) (r r′ : Answer) → run.Post κs a r e → run.Post κs a r′ e′
+    → (r ≡ r′) × (now (e .1 .1 .0) ≡ now (e′ .1 .1 .0)) × (now (e .1 .1 .1 .0) ≡ now (e′ .1 .1 .1 .0))
 one-run κs a e e′ r r′ p q =
     let same = runs-once _ _ _ _ _ p q in
     (ap (λ (x : Left). x .answer) same, ap (λ (x : Left). x .memory) same, ap (λ (x : Left). x .results) same)

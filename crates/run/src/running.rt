@@ -44,8 +44,9 @@ pub(crate) fn drive(
     let mut ends = Closings {
         words: [0u32; crate::ENDS],
     };
+    let values = stack.depth;
     let mut locals = locals_of(args, count);
-    let at = 8 + count + strip[7] as usize;
+    let at = 8 + locals.count + strip[7] as usize;
     go_on(
         strip,
         mem,
@@ -53,7 +54,7 @@ pub(crate) fn drive(
         budget,
         at,
         &mut stack.bytes,
-        0,
+        values,
         &mut labels.marks,
         &mut ends.words,
         &mut locals.bytes,

@@ -4,3 +4,4 @@ pub mod Twos
 pub mod Saturate
 pub mod Product
 pub mod Integers
+pub mod Exact

@@ -1,4 +1,5 @@
-// The four integer shapes: a type each, with its lane count, its width, and its least and largest values.
+// The four integer shapes: a type each, with its lane count, its width, and its least and largest values. Each of the twenty constants is
+// used where a contract fixes it: LANES by the lane index (lane), WIDTH in shift, LEAST in wrapping, LARGEST in sign, ALL in compare.
 
 // A lane of 8 bits.
 pub struct I8x16 {

@@ -4,10 +4,9 @@ use mathlib.Core.Path.{_≡_, refl, ap, _∙_}
 use mathlib.Core.Bool.{false}
 use mathlib.Core.List.{List, [], _∷_, _++_, map}
 use native.Mathlib.Omega.{arith}
-use Rattle.limits.specs.Limits.{slot}
+use Rattle.operation.proofs.Laws.Vectors.{sixteen-zeros}
 use Rattle.opcode.specs.Kind.{Kind, i32, i64, v128}
 use Rattle.machine.specs.Value.{Value, kindOf, InRange, AllInRange}
-use Rattle.machine.proofs.Laws.Ranges.{zero-bytes}
 use Rattle.rules.specs.Header.{Header, Declares}
 use Rattle.rules.specs.Typing.{opened}
 use Rattle.rules.specs.Strip.{front, Valid}
@@ -24,7 +23,7 @@ zero-kinds (v128 ∷ ks) = ap (λ l. v128 ∷ l) (zero-kinds ks)
 zero-range : (k : Kind) → InRange (zeroOf k)
 zero-range i32 = omega arith
 zero-range i64 = omega arith
-zero-range v128 = record { long = refl; bytes = zero-bytes slot }
+zero-range v128 = sixteen-zeros
 
 all-kinds : (vs : List Value) (ks : List Kind) → map kindOf (vs ++ map zeroOf ks) ≡ map kindOf vs ++ ks
 all-kinds [] ks = zero-kinds ks

@@ -34,11 +34,13 @@ fits-with p vs ls rest e r n =
     record { stacked = e; nested = n; held = rest .held; stack-range = r; local-range = rest .local-range; memory-range = rest .memory-range }
 
 -- these kinds are on top and go along
-pub goes-along : (ks : List Kind) (vs : List Value) (f : List Value → Stage) → map kindOf (take (length ks) vs) ≡ reverse ks → along ks vs f ≡ f (take (length ks) vs)
+pub goes-along : (ks : List Kind) (vs : List Value) (f : List Value → Stage) → map kindOf (take (length ks) vs) ≡ reverse ks
+    → along ks vs f ≡ f (take (length ks) vs)
 goes-along ks vs f e = ap (λ (t : Bool). cond t (f (take (length ks) vs)) halted) (kinds-fit (take (length ks) vs) (reverse ks) e)
 
 -- from b on, where the state is σ
-module _ {s : List ℕ} (v : Valid s) (b : Config) (σ : State) (long : length (σ .memory) ≡ length (b .state .memory)) (rest : Rest (v .header) σ) (range : AllInRange (σ .stack)) where
+module _ {s : List ℕ} (v : Valid s) (b : Config) (σ : State) (long : length (σ .memory) ≡ length (b .state .memory))
+    (rest : Rest (v .header) σ) (range : AllInRange (σ .stack)) where
   abbrev h : Header
   h = v .header
 
@@ -50,7 +52,8 @@ module _ {s : List ℕ} (v : Valid s) (b : Config) (σ : State) (long : length (
   out top =
       let vs = take (length (h .results)) (σ .stack) in
       subst Good (sym (goes-along (h .results) (σ .stack) (λ vs. ended (reverse vs) (σ .memory)) top))
-      (safe-ended (reverse-kinds vs ∙ ap reverse top ∙ reverse-reverse (h .results)) (reverse-range vs (range-take (length (h .results)) (σ .stack) range)) long)
+      (safe-ended (reverse-kinds vs ∙ ap reverse top ∙ reverse-reverse (h .results))
+      (reverse-range vs (range-take (length (h .results)) (σ .stack) range)) long)
 
   module _ (f g : Frame) (fs : List Frame) (l : Label) (ls : List Label) (live : Live (g ∷ fs)) (a : l .loop ≡ f .loop) (r : l .results ≡ f .results)
       (c : map kindOf (l .under) ≡ reverse (g .values)) (d : AllInRange (l .under)) (e : Reaches s h (l .body) (opened (f .loop) (f .results) ∷ g ∷ fs)) (n : Nested s h (g ∷ fs) ls) where
@@ -66,7 +69,8 @@ module _ {s : List ℕ} (v : Valid s) (b : Config) (σ : State) (long : length (
         }) long
 
     -- a block is left
-    leaves : map kindOf (take (length (l .results)) (σ .stack)) ≡ reverse (l .results) → Good (along (l .results) (σ .stack) (λ vs. resume σ l ls vs (close (h .version) s (l .body))))
+    leaves : map kindOf (take (length (l .results)) (σ .stack)) ≡ reverse (l .results)
+        → Good (along (l .results) (σ .stack) (λ vs. resume σ l ls vs (close (h .version) s (l .body))))
     leaves top =
         let vs = take (length (l .results)) (σ .stack) in
         let to = finds-end v e in

@@ -7,11 +7,11 @@ use native.Mathlib.Omega.{arith}
 use lib.ListN.{replicate}
 use Rattle.card.specs.Card.{LOCAL, TRAILING}
 use Rattle.limits.specs.Limits.{slot}
+use Rattle.operation.proofs.Laws.Vectors.{sixteen-zeros}
 use Rattle.opcode.specs.Kind.{Kind, i32, i64, v128}
 use Rattle.opcode.specs.Table.{Code}
 use Rattle.instr.specs.declared.Instr.{Instr}
 use Rattle.machine.specs.Value.{Value, I32, I64, V128, kindOf, InRange, AllInRange}
-use Rattle.machine.proofs.Laws.Ranges.{zero-bytes}
 use Rattle.rules.specs.Header.{Header, locals}
 use Rattle.rules.specs.Typing.{Frame, opened, Types, ordinary, branches, may-branch, opens-block, opens-loop, closes}
 use Rattle.rules.specs.Strip.{Reaches, front, past}
@@ -36,7 +36,7 @@ ones-kinds (v128 ∷ ks) = ap (λ (l : List Kind). v128 ∷ l) (ones-kinds ks)
 one-range : (k : Kind) → InRange (one k)
 one-range i32 = omega arith
 one-range i64 = omega arith
-one-range v128 = record { long = refl; bytes = zero-bytes slot }
+one-range v128 = sixteen-zeros
 
 ones-range : (ks : List Kind) → AllInRange (map one ks)
 ones-range [] = tt

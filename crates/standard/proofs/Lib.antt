@@ -16,6 +16,7 @@ pub mod Branching
 pub mod Turn
 pub mod Begin
 pub mod Never
+pub mod Realigning
 pub mod Full
 pub mod Sticking
 pub mod Stuck

@@ -40,12 +40,14 @@ module _ (s : List ℕ) (h : Header) (old : h .version ≡ 1) (b : Config) where
   no-control {i = i} {x = x} r e = one-straight (i .first) (i .number) x (ap (λ (v : ℕ). rowIn v i) (sym old) ∙ r .does ∙ ap carried e)
 
   module _ {p n : ℕ} {i : Instr} (j : ℕ) (c : Config) (ran : runs s h j b ≡ going c) (at : c .place ≡ p) where
-    typed : {k : Code} → Reads (h .version) s (c .place) i k n → {f : Frame} {fs′ : List Frame} → f .dead ≡ false → Fits s h f [] c → Types (locals h) i k (f ∷ []) fs′ → Within fs′ → Arrives s h b (p + n) fs′
+    typed : {k : Code} → Reads (h .version) s (c .place) i k n → {f : Frame} {fs′ : List Frame} → f .dead ≡ false → Fits s h f [] c
+        → Types (locals h) i k (f ∷ []) fs′ → Within fs′ → Arrives s h b (p + n) fs′
     typed {k} r live fits (ordinary {outs = outs} {below = below} {f = f} t x) w =
         by (exec (h .results) k i (c .state)) refl (step-does h c r ∙ does-ordinary s h c n i k (end-untyped t) (λ y. control-untyped t))
         (typed-runs c fits below r t (live-has live x) (omega (arith, w .values, length-append (allValues []) (below ++ outs))))
       where
-        by : (o : Outcome) → exec (h .results) k i (c .state) ≡ o → step s h c ≡ after c n o → Fine (c .state) (reverse (below ++ outs)) o → Arrives s h b (p + n) (holding f (below ++ outs) ∷ [])
+        by : (o : Outcome) → exec (h .results) k i (c .state) ≡ o → step s h c ≡ after c n o → Fine (c .state) (reverse (below ++ outs)) o
+            → Arrives s h b (p + n) (holding f (below ++ outs) ∷ [])
         by o d q (on {τ} kept) =
             comes (suc j) (record { place = c .place + n; state = τ; labels = c .labels }) (holding f (below ++ outs)) (one-more s h j b c ran ∙ q ∙ goes-after c fits n w kept)
             (ap (λ (y : ℕ). y + n) at) refl live (kept-fits c fits (c .place + n) kept)
@@ -55,19 +57,22 @@ module _ (s : List ℕ) (h : Header) (old : h .version ≡ 1) (b : Config) where
     typed r live fits opens-block w = absurd (no-control r refl)
     typed r live fits opens-loop w = absurd (no-control r refl)
 
-  arrives-past : {p n : ℕ} {i : Instr} {k : Code} {fs fs′ : List Frame} → Reads (h .version) s p i k n → Types (locals h) i k fs fs′ → Within fs′ → Arrives s h b p fs
+  arrives-past : {p n : ℕ} {i : Instr} {k : Code} {fs fs′ : List Frame} → Reads (h .version) s p i k n → Types (locals h) i k fs fs′ → Within fs′
+      → Arrives s h b p fs
       → Arrives s h b (p + n) fs′
   arrives-past r t w (strays j a m c e before f g) = strays j a m c e (omega (arith, before)) f g
   arrives-past {p} {n} {i} {k} {fs} {fs′} r t w (comes j c f e at one live fits) =
       typed {i = i} j c e at (subst (λ (q : ℕ). Reads (h .version) s q i k n) (sym at) r) live fits (subst (λ (x : List Frame). Types (locals h) i k x fs′) one t) w
 
-  pub arrives : {p : ℕ} {fs : List Frame} → b .place ≡ length (headerBytes h) → Fits s h (opened false (h .results)) [] b → Reaches s h p fs → Arrives s h b p fs
+  pub arrives : {p : ℕ} {fs : List Frame} → b .place ≡ length (headerBytes h) → Fits s h (opened false (h .results)) [] b → Reaches s h p fs
+      → Arrives s h b p fs
   unfolding runs
   arrives at f (front d) = comes 0 b (opened false (h .results)) refl at refl refl f
   arrives at f (past reached r t w) = arrives-past r t w (arrives at f reached)
 
 -- the run form, as in version 1 before
-pub stuck-straight : {s : List ℕ} {h : Header} {code p : ℕ} → h .version ≡ 1 → Declares s h → Breach s code p → LOCAL ≤ code → (code ≡ TRAILING → ⊥) → (vs : List Value) (mem : List ℕ)
+pub stuck-straight : {s : List ℕ} {h : Header} {code p : ℕ} → h .version ≡ 1 → Declares s h → Breach s code p → LOCAL ≤ code → (code ≡ TRAILING → ⊥)
+    → (vs : List Value) (mem : List ℕ)
     → Given h vs mem → StuckAt s h (begin h vs mem) p
 stuck-straight {s} {h} {code} {p} old d b lo hi vs mem g =
     let w = breach-reached b lo hi in

@@ -1,4 +1,5 @@
--- WHO MAY TRAP, of the standard's machine: in any state, of any strip, a step traps exactly where the instruction that stands there accesses bytes past the memory's end.
+-- WHO MAY TRAP, of the standard's machine: in any state, of any strip, a step traps exactly where the instruction that stands there accesses bytes past the
+-- memory's end.
 use Prim.Native.Nat.{ℕ, zero, suc, _+_}
 use mathlib.Core.Path.{_≡_, refl, ap, ap₂, sym, _∙_}
 use mathlib.Core.Bool.{Bool, true, false, cond}
@@ -32,7 +33,8 @@ use Rattle.standard.proofs.Steps.{step-does}
 
 -- ---- what an instruction that is read comes to
 
-pub strays-there : {s : List ℕ} (h : Header) (c : Config) {i : Instr} {k : Code} {n : ℕ} → Reads (h .version) s (c .place) i k n → {a m : ℕ} → exec (h .results) k i (c .state) ≡ trap a m
+pub strays-there : {s : List ℕ} (h : Header) (c : Config) {i : Instr} {k : Code} {n : ℕ} → Reads (h .version) s (c .place) i k n → {a m : ℕ}
+    → exec (h .results) k i (c .state) ≡ trap a m
     → Strays s h c a m
 strays-there h c {i} {k} {n} r {a} {m} e =
     let at = traps-exact (h .results) i (c .state) k a m .0 e in record { instr = i; code = k; size = n; reads = r; accesses = at .0; past = at .1 }
@@ -70,7 +72,8 @@ module _ (s : List ℕ) (h : Header) (a m : ℕ) where
   calm-branch : (σ : State) (n : ℕ) (ls : List Label) → Calm (branch s h σ n ls)
   calm-branch σ zero [] = calm-along (h .results) (σ .stack) _ (λ vs. calm-ended (reverse vs) (σ .memory))
   calm-branch σ (suc n) [] = calm-halted
-  calm-branch σ zero (l ∷ ls) = either (l .loop) (calm-going _) (calm-along (l .results) (σ .stack) _ (λ vs. calm-resume σ l ls vs (close (h .version) s (l .body))))
+  calm-branch σ zero (l ∷ ls) =
+      either (l .loop) (calm-going _) (calm-along (l .results) (σ .stack) _ (λ vs. calm-resume σ l ls vs (close (h .version) s (l .body))))
   calm-branch σ (suc n) (l ∷ ls) = calm-branch σ n ls
 
   calm-if : (c : Config) (n x : ℕ) (vs : List Value) → Calm (branchIf s h c n x vs)
@@ -92,7 +95,8 @@ module _ (s : List ℕ) (h : Header) (a m : ℕ) where
       by [] e = after-traps c n (exec (h .results) (plain p) i (c .state)) e
       by (l ∷ ls) e = at (isEnd p) e
         where
-          at : (t : Bool) → cond t (leave n c l ls) (after c n (exec (h .results) (plain p) i (c .state))) ≡ trapped a m → exec (h .results) (plain p) i (c .state) ≡ trap a m
+          at : (t : Bool) → cond t (leave n c l ls) (after c n (exec (h .results) (plain p) i (c .state))) ≡ trapped a m
+              → exec (h .results) (plain p) i (c .state) ≡ trap a m
           at true q = absurd (either (ofKinds (c .state .stack) (reverse (l .results))) (calm-going _) calm-halted q)
           at false q = after-traps c n (exec (h .results) (plain p) i (c .state)) q
   code-traps c n i (control Block) e = absurd (either (ltb (length (c .labels)) nestLimit) (calm-going _) calm-halted e)
@@ -106,7 +110,8 @@ module _ (s : List ℕ) (h : Header) (a m : ℕ) where
 
   -- ---- and an access past the end does
 
-  access-vector : {i : Instr} {k : Code} {st : List Value} {b j : ℕ} (c : Config) (n : ℕ) → Accesses i k st b j → stepCode s h c n i k ≡ after c n (exec (h .results) k i (c .state))
+  access-vector : {i : Instr} {k : Code} {st : List Value} {b j : ℕ} (c : Config) (n : ℕ) → Accesses i k st b j
+      → stepCode s h c n i k ≡ after c n (exec (h .results) k i (c .state))
   access-vector c n load = refl
   access-vector c n load-extend = refl
   access-vector c n load-splat = refl
@@ -128,7 +133,8 @@ module _ (s : List ℕ) (h : Header) (a m : ℕ) where
       d = decodeAt (h .version) s (c .place)
 
       row : d .code ≡ DONE → (r : Row) → rowIn (h .version) (d .instr) ≡ r → stepRow s h c d r ≡ trapped a m → Strays s h c a m
-      row z (carried k) w e = strays-there h c (record { stands = decoded-stands s b (h .version) (c .place) z; does = w }) (code-traps c (d .len) (d .instr) k e)
+      row z (carried k) w e =
+          strays-there h c (record { stands = decoded-stands s b (h .version) (c .place) z; does = w }) (code-traps c (d .len) (d .instr) k e)
       row z float w e = absurd (calm-halted e)
       row z unassigned w e = absurd (calm-halted e)
 

@@ -37,7 +37,8 @@ ranged t = record { stack = t .stack-range; locals = t .local-range; memory = λ
 
 module _ {s : List ℕ} {h : Header} {f : Frame} {fs : List Frame} (c : Config) (fits : Fits s h f fs c) where
   -- typed by the rules
-  pub typed-runs : {p n : ℕ} {i : Instr} {k : Code} {ins outs : List Kind} (below : List Kind) → Reads (h .version) s p i k n → Typed (locals h) (i .index) k ins outs → f .values ≡ below ++ ins
+  pub typed-runs : {p n : ℕ} {i : Instr} {k : Code} {ins outs : List Kind} (below : List Kind) → Reads (h .version) s p i k n
+      → Typed (locals h) (i .index) k ins outs → f .values ≡ below ++ ins
       → length (below ++ outs) ≤ stackLimit → Fine (c .state) (reverse (below ++ outs)) (exec (h .results) k i (c .state))
   typed-runs {i = i} {k} {ins} {outs} below r t e room =
       let left = reverse-append below outs in
@@ -46,7 +47,8 @@ module _ {s : List ℕ} {h : Header} {f : Frame} {fs : List Frame} (c : Config) 
       (subst (λ (ls : List Kind). Typed ls (i .index) k ins outs) (sym (fits .held)) t)
       (reverse below) (fits .stacked ∙ ap reverse e ∙ reverse-append below ins) (omega (arith, room, ap length left, length-reverse (below ++ outs))))
 
-  pub kept-fits : {ks : List Kind} {τ : State} (p : ℕ) → Kept (c .state) (reverse ks) τ → Fits s h (holding f ks) fs (record { place = p; state = τ; labels = c .labels })
+  pub kept-fits : {ks : List Kind} {τ : State} (p : ℕ) → Kept (c .state) (reverse ks) τ
+      → Fits s h (holding f ks) fs (record { place = p; state = τ; labels = c .labels })
   kept-fits {ks} p k =
       record {
         stacked = k .stack .kinds;
@@ -73,13 +75,15 @@ module _ {s : List ℕ} {h : Header} {f : Frame} {fs : List Frame} (c : Config) 
         length-reverse ks,
       )))
 
-  pub fine-safe : {ks : List Kind} {n : ℕ} {i : Instr} {k : Code} {o : Outcome} → Reads (h .version) s (c .place) i k n → exec (h .results) k i (c .state) ≡ o → Live (f ∷ fs)
+  pub fine-safe : {ks : List Kind} {n : ℕ} {i : Instr} {k : Code} {o : Outcome} → Reads (h .version) s (c .place) i k n
+      → exec (h .results) k i (c .state) ≡ o → Live (f ∷ fs) → Reaches s h (c .place) (f ∷ fs)
       → Within (holding f ks ∷ fs) → Reaches s h (c .place + n) (holding f ks ∷ fs) → Fine (c .state) (reverse ks) o → Safe s h c (after c n o)
   unfolding runs
-  fine-safe {ks} {n} r e live w reached (on {τ} k) =
+  fine-safe {ks} {n} r e live here w reached (on {τ} k) =
       subst (Safe s h c) (sym (goes-after n w k))
       (safe-going (record { frame = holding f ks; outer = fs; reached = reached; live = live; fits = kept-fits (c .place + n) k }) (k .long))
-  fine-safe r e live w reached (trapped-past l) = safe-trapped 0 refl refl (strays-there h c r e)
+  fine-safe r e live here w reached (trapped-past l) =
+      safe-trapped 0 refl (record { frame = f; outer = fs; reached = here; live = live; fits = fits }) refl (strays-there h c r e)
 
 module _ {s : List ℕ} (v : Valid s) (c : Config) where
   abbrev h : Header
@@ -90,7 +94,8 @@ module _ {s : List ℕ} (v : Valid s) (c : Config) where
 
   -- ---- blocks
 
-  entered : (b : Bool) (i : Instr) (n : ℕ) {f : Frame} {fs : List Frame} → Fits s h f fs c → Live (f ∷ fs) → Within (opened b (blockResults (i .block)) ∷ f ∷ fs)
+  entered : (b : Bool) (i : Instr) (n : ℕ) {f : Frame} {fs : List Frame} → Fits s h f fs c → Live (f ∷ fs)
+      → Within (opened b (blockResults (i .block)) ∷ f ∷ fs)
       → Reaches s h (c .place + n) (opened b (blockResults (i .block)) ∷ f ∷ fs) → Good (enter b i n c)
   entered b i n {f} {fs} fits live w reached =
       let l : Label = record { loop = b; results = blockResults (i .block); under = c .state .stack; body = c .place + n } in
@@ -139,7 +144,8 @@ module _ {s : List ℕ} (v : Valid s) (c : Config) where
     decided [] e r = absurd (let z : _≡_ {A = ℕ} 0 1 = cc (e, on-top) in omega arith)
     decided (I32 a ∷ st) e r = by (eqb a 0)
       where
-        by : (t : Bool) → Good (cond t (going (record { place = c .place + n; state = withStack (c .state) st; labels = c .labels })) (branch s h (withStack (c .state) st) x (c .labels)))
+        by : (t : Bool)
+            → Good (cond t (going (record { place = c .place + n; state = withStack (c .state) st; labels = c .labels })) (branch s h (withStack (c .state) st) x (c .labels)))
         by true =
             safe-going (record {
               frame = holding f (below ++ branchKinds g);
@@ -148,17 +154,20 @@ module _ {s : List ℕ} (v : Valid s) (c : Config) where
               live = live;
               fits = fits-with (c .place + n) st (c .labels) (rest-of fits) (under i32 (map kindOf st) e .1) (r .1) (nested-same (below ++ branchKinds g) (fits .nested));
             }) refl
-        by false = branch-safe v c (withStack (c .state) st) refl (record { held = fits .held; local-range = fits .local-range; memory-range = fits .memory-range }) (r .1) below target (fits .nested) live (under i32 (map kindOf st) e .1)
+        by false =
+            branch-safe v c (withStack (c .state) st) refl (record { held = fits .held; local-range = fits .local-range; memory-range = fits .memory-range })
+            (r .1) below target (fits .nested) live (under i32 (map kindOf st) e .1)
     decided (I64 a ∷ st) e r = absurd (let same = under _ (map kindOf st) e .0 in let z : _≡_ {A = ℕ} 0 1 = cc (same) in omega arith)
     decided (V128 a ∷ st) e r = absurd (let same = under _ (map kindOf st) e .0 in let z : _≡_ {A = ℕ} 0 1 = cc (same) in omega arith)
 
   -- ---- each instruction
 
-  typed-safe : {f : Frame} {fs fs′ : List Frame} {n : ℕ} {i : Instr} {k : Code} → Fits s h f fs c → Live (f ∷ fs) → Reaches s h (c .place) (f ∷ fs) → Reads (h .version) s (c .place) i k n
+  typed-safe : {f : Frame} {fs fs′ : List Frame} {n : ℕ} {i : Instr} {k : Code} → Fits s h f fs c → Live (f ∷ fs) → Reaches s h (c .place) (f ∷ fs)
+      → Reads (h .version) s (c .place) i k n
       → Types (locals h) i k (f ∷ fs) fs′ → Within fs′ → Good (stepCode s h c n i k)
   typed-safe {fs = fs} {n = n} {i} {k} fits live reached r (ordinary {outs = outs} {below = below} {f = f} t x) w =
       subst Good (sym (does-ordinary s h c n i k (end-untyped t) (λ y. control-untyped t)))
-      (fine-safe c fits r refl live w (past reached r (ordinary t x) w)
+      (fine-safe c fits r refl live reached w (past reached r (ordinary t x) w)
       (typed-runs c fits below r t (live-has (live .0) x) (omega (arith, w .values, length-append (allValues fs) (below ++ outs)))))
   typed-safe {fs = fs} fits live reached r (branches {below = below} {f = f} {g = g} l x) w =
       branch-safe v c (c .state) refl (rest-of fits) (fits .stack-range) below l (fits .nested) live (fits .stacked ∙ ap reverse (live-has (live .0) x))
@@ -178,7 +187,8 @@ module _ {s : List ℕ} (v : Valid s) (c : Config) where
           subst Good (sym (ap (λ (t : Bool). after c n (cond t (done (reverse (c .state .stack))) stuck)) (kinds-fit (c .state .stack) (reverse (h .results)) kinds)))
           (safe-ended (reverse-kinds (c .state .stack) ∙ ap reverse kinds ∙ reverse-reverse (h .results)) (reverse-range (c .state .stack) (fits .stack-range)) refl)
 
-  next-safe : {f : Frame} {fs : List Frame} → Fits s h f fs c → Live (f ∷ fs) → Reaches s h (c .place) (f ∷ fs) → Next s h (c .place) (f ∷ fs) → Good (step s h c)
+  next-safe : {f : Frame} {fs : List Frame} → Fits s h f fs c → Live (f ∷ fs) → Reaches s h (c .place) (f ∷ fs) → Next s h (c .place) (f ∷ fs)
+      → Good (step s h c)
   next-safe fits live reached (last {i = i} r e) = subst Good (sym (step-does h c r)) (ended-safe 1 i fits live e)
   next-safe fits live reached (goes-on r t w) = subst Good (sym (step-does h c r)) (typed-safe fits live reached r t w)
 

@@ -64,11 +64,14 @@ pub record Strays (s : List ℕ) (h : Header) (c : Config) (a n : ℕ) : Type 0 
   pub accesses : Accesses instr code (c .state .stack) a n
   pub past : length (c .state .memory) < a + n
 
--- from b on: going on, ended with results of the declared kinds and in range, or trapped at an access past the end, in a state that the machine came to; the memory is as long as it was
+-- from b on: going on in a sound state, ended with results of the declared kinds and in range, or trapped at an access past the end, in a sound state that
+-- the machine came to; the memory is as long as it was
 pub data Safe (s : List ℕ) (h : Header) (b : Config) : Stage → Type 0 where
   safe-going : {c : Config} → Sound s h c → length (c .state .memory) ≡ length (b .state .memory) → Safe s h b (going c)
-  safe-ended : {vs : List Value} {mem : List ℕ} → map kindOf vs ≡ h .results → AllInRange vs → length mem ≡ length (b .state .memory) → Safe s h b (ended vs mem)
-  safe-trapped : (j : ℕ) {c : Config} {a n : ℕ} → runs s h j b ≡ going c → length (c .state .memory) ≡ length (b .state .memory) → Strays s h c a n → Safe s h b (trapped a n)
+  safe-ended : {vs : List Value} {mem : List ℕ} → map kindOf vs ≡ h .results → AllInRange vs → length mem ≡ length (b .state .memory)
+      → Safe s h b (ended vs mem)
+  safe-trapped : (j : ℕ) {c : Config} {a n : ℕ} → runs s h j b ≡ going c → Sound s h c → length (c .state .memory) ≡ length (b .state .memory)
+      → Strays s h c a n → Safe s h b (trapped a n)
 
 -- stuck where it is; or at a br_if over 0, which by Core pops it and asks no more
 pub data StuckHere (s : List ℕ) (h : Header) (c : Config) : Type 0 where

@@ -1,4 +1,4 @@
--- 01, "Test weights": those marked P, in one list. A weight is put on a vector operation as lane's contracts name it, or on a reading of leb128's.
+-- 01, "Test weights": those marked P, in one list. A weight is put on the contract of a function of lane, or on a reading by leb128's contract.
 use Prim.Native.Nat.{ℕ}
 use mathlib.Core.Path.{_≡_}
 use mathlib.Core.Bool.{Bool, true, false}
@@ -22,7 +22,7 @@ use Rattle.leb128.specs.Promise.{ReadsNumber}
 use Rattle.leb128.specs.declared.read.Leb.{Leb}
 use Rattle.leb128.specs.declared.read.Leb.the-variants.{Val, Number}
 
--- The functions of lane that a weight names, and what each promises of its answer r to the vectors a and b: its contract, as the prover reads it from lane.
+-- the functions of lane that 01 weighs
 pub data Function : Type 0 where
   i8x16-add : Function
   i8x16-add-sat-u : Function
@@ -32,6 +32,8 @@ pub data Function : Type 0 where
   i16x8-q15mulr-sat-s : Function
   i32x4-dot-i16x8-s : Function
 
+-- What each promises of its answer r to the vectors a and b. `Post` is made by the prover out of the `ensures` in lane's text, and speaks of the
+-- lifetimes (none), the arguments, the answer, and the arguments at the end, which are as they were.
 abbrev pub Promises : Function → V128 → V128 → V128 → Type 0
 Promises i8x16-add a b r = add.Post tt (a, (b, tt)) r (a, (b, tt))
 Promises i8x16-add-sat-u a b r = add-sat-u.Post tt (a, (b, tt)) r (a, (b, tt))

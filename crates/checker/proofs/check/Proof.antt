@@ -27,13 +27,19 @@ add-locals : tie.Need-add-locals
 add-locals c = omega (arith, c .shared-slice-known3 .given 5, c .shared-slice-known3 .given 6)
 
 shared-slice-read-results : tie.Need-shared-slice-read-results
-shared-slice-read-results c = omega (arith, counts-inside (headed-opens (c .before .before .before .before .before .header .ensures) (c .before .before .before .if1 .left) .counts))
+shared-slice-read-results c =
+    let at-if1 = c .before .before .before in
+    let at-header = at-if1 .before .before in
+    omega (arith, counts-inside (headed-opens (at-header .header .ensures) (at-if1 .if1 .left) .counts))
 
 cast-results : tie.Need-cast-results
 cast-results c = omega (arith, c .shared-slice-known4 .given 7)
 
 shared-slice-read-version : tie.Need-shared-slice-read-version
-shared-slice-read-version c = omega (arith, counts-inside (headed-opens (c .before .before .before .before .before .before .header .ensures) (c .before .before .before .before .if1 .left) .counts))
+shared-slice-read-version c =
+    let at-if1 = c .before .before .before .before in
+    let at-header = at-if1 .before .before in
+    omega (arith, counts-inside (headed-opens (at-header .header .ensures) (at-if1 .if1 .left) .counts))
 
 cast-version : tie.Need-cast-version
 cast-version c = omega (arith, c .shared-slice-known5 .given 3)
@@ -45,7 +51,10 @@ add-body-2 : tie.Need-add-body-2
 add-body-2 c = omega (arith, c .shared-slice-known5 .given 5, c .shared-slice-known5 .given 6, c .shared-slice-known5 .given 7)
 
 body-requires : tie.Need-body-requires
-body-requires c κs = headed-opens (c .before .before .before .before .before .before .header .ensures) (c .before .before .before .before .if1 .left)
+body-requires c κs =
+    let at-if1 = c .before .before .before .before in
+    let at-header = at-if1 .before .before in
+    headed-opens (at-header .header .ensures) (at-if1 .if1 .left)
 
 returns-2 : tie.Need-returns-2
 returns-2 c = search needs

@@ -27,10 +27,19 @@ group-requires : tie.Need-group-requires
 group-requires c κs = search needs
 
 returns : tie.Need-returns
-returns c = let a = c .before .before .before .before .args in
-    let row = row-in (a .first) (a .number) _ (search needs) (c .before .before .before .id-of .ensures) in
-    let is = c .before .before .entry .ensures ∙ ap entryOf row in
-    record { row = rowAt latest (a .first) (a .number); entry = is; in-version = row-early (a .version) (a .first) (a .number) (search needs) (known-range (a .version) (c .before .before .before .before .pre) .0) (omega (arith, c .if1 .taken, c .before .group .ensures, group-in (rowAt latest (a .first) (a .number)) is)) }
+returns c =
+    let at-entry = c .before .before in
+    let at-id-of = at-entry .before in
+    let start = at-id-of .before in
+    let a = start .args in
+    let row = row-in (a .first) (a .number) _ (search needs) (at-id-of .id-of .ensures) in
+    let is = at-entry .entry .ensures ∙ ap entryOf row in
+    record {
+      row = rowAt latest (a .first) (a .number);
+      entry = is;
+      in-version = row-early (a .version) (a .first) (a .number) (search needs)
+          (known-range (a .version) (start .pre) .0) (omega (arith, c .if1 .taken, c .before .group .ensures, group-in (rowAt latest (a .first) (a .number)) is));
+    }
 
 id-in-requires : tie.Need-id-in-requires
 id-in-requires c κs = search needs

@@ -27,7 +27,8 @@ back o k p a q hp ha = ap (drop (o + k)) (sym (append-assoc p a q)) ∙ drop-at 
 
 -- one run put at o, and one behind it, is both at o
 put-twice : (o k : ℕ) (lo hi v : List ℕ) → length lo ≡ k → o + (k + k) ≤ length v
-    → take o v ++ ((lo ++ hi) ++ drop (o + (k + k)) v) ≡ take (o + k) (take o v ++ (lo ++ drop (o + k) v)) ++ (hi ++ drop (o + k + k) (take o v ++ (lo ++ drop (o + k) v)))
+    → take o v ++ ((lo ++ hi) ++ drop (o + (k + k)) v) ≡ take (o + k) (take o v ++ (lo ++ drop (o + k) v)) ++
+    (hi ++ drop (o + k + k) (take o v ++ (lo ++ drop (o + k) v)))
 put-twice o k lo hi v e h =
     ap (λ (a : List ℕ). take o v ++ a) (append-assoc lo hi (drop (o + (k + k)) v))
     ∙ sym (append-assoc (take o v) lo (hi ++ drop (o + (k + k)) v))
@@ -44,9 +45,12 @@ pub put-join : (k : ℕ) (v : List ℕ) (n x : ℕ) → n * (k + k) + (k + k) �
     → put (k + k) v n x ≡ put k (put k v (2 * n) (x % 2 ^ (8 * k))) (2 * n + 1) (x / 2 ^ (8 * k))
 unfolding put
 put-join k v n x h =
-    ap (λ (a : List ℕ). take (n * (k + k)) v ++ (a ++ drop (n * (k + k) + (k + k)) v)) (le-split k k x ∙ ap (λ (a : List ℕ). a ++ le k (x / 2 ^ (8 * k))) (sym (le-mod k x)))
+    ap (λ (a : List ℕ). take (n * (k + k)) v ++ (a ++ drop (n * (k + k) + (k + k)) v))
+    (le-split k k x ∙ ap (λ (a : List ℕ). a ++ le k (x / 2 ^ (8 * k))) (sym (le-mod k x)))
     ∙ put-twice (n * (k + k)) k (le k (x % 2 ^ (8 * k))) (le k (x / 2 ^ (8 * k))) v (length-le k (x % 2 ^ (8 * k))) h
-    ∙ ap₂ (λ (a b : ℕ). take b (take a v ++ (le k (x % 2 ^ (8 * k)) ++ drop (a + k) v)) ++ (le k (x / 2 ^ (8 * k)) ++ drop (b + k) (take a v ++ (le k (x % 2 ^ (8 * k)) ++ drop (a + k) v)))) even odd
+    ∙ ap₂
+    (λ (a b : ℕ). take b (take a v ++ (le k (x % 2 ^ (8 * k)) ++ drop (a + k) v)) ++
+    (le k (x / 2 ^ (8 * k)) ++ drop (b + k) (take a v ++ (le k (x % 2 ^ (8 * k)) ++ drop (a + k) v)))) even odd
   where
     even : n * (k + k) ≡ 2 * n * k
     even = mul-add n k k ∙ sym (add-mul n n k) ∙ ap (λ (m : ℕ). m * k) (sym (two-mul n))

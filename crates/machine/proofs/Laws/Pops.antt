@@ -108,6 +108,14 @@ going vs ws m σ e = at (ltb stackLimit (length vs)) refl e
         never p = let z : _≡_ {A = ℕ} 0 1 = cc in omega arith
     at false q e = (ltb-false stackLimit (length vs) q, once (state vs ws m) σ e)
 
+pub on-not-trap : (vs ws : List Value) (m : List ℕ) (a n : ℕ) → goOn vs ws m ≡ trap a n → ⊥
+unfolding goOn
+on-not-trap vs ws m a n e = at (ltb stackLimit (length vs)) e
+  where
+    at : (t : Bool) → cond t stuck (goes (record { stack = vs; locals = ws; memory = m })) ≡ trap a n → ⊥
+    at true q = let z : _≡_ {A = ℕ} 0 1 = cc in omega arith
+    at false q = let z : _≡_ {A = ℕ} 0 1 = cc in omega arith
+
 -- an access that goes on is in the memory
 pub reached : (c : State) (at n : ℕ) (p : Outcome) (σ : State) → access c at n p ≡ goes σ → (at + n ≤ length (c .memory)) × (p ≡ goes σ)
 unfolding access

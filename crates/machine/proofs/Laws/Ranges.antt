@@ -2,19 +2,13 @@
 use Prim.Native.Nat.{ℕ, zero, suc, _+_, _-_, _≤_, _<_}
 use mathlib.Core.Path.{_≡_, ap, _∙_}
 use mathlib.Core.List.{List, [], _∷_, _++_}
-use native.Mathlib.Nat.{zero-lt-suc}
 use native.Mathlib.Omega.{arith}
 use lib.ListN.{replicate, length, getD, set, take, drop, length-append, length-replicate, length-drop}
 use lib.Seq.{length-take-le}
 use Rattle.operation.specs.Vector.{Sixteen}
-use Rattle.operation.proofs.Laws.Number.{Bytes, bytes-append, bytes-take, bytes-drop}
+use Rattle.operation.proofs.Laws.Number.{Bytes, bytes-zeros, bytes-append, bytes-take, bytes-drop}
 use Rattle.machine.specs.Value.{Value, I32, InRange, AllInRange}
 use Rattle.machine.specs.Memory.{part, padded, stored}
-
-pub zero-bytes : (n : ℕ) → Bytes (replicate n 0)
-zero-bytes zero k = record { fits = zero-lt-suc 255 }
-zero-bytes (suc n) zero = record { fits = zero-lt-suc 255 }
-zero-bytes (suc n) (suc k) = zero-bytes n k
 
 pub bytes-part : (n at : ℕ) (m : List ℕ) → Bytes m → Bytes (part n at m)
 bytes-part n at m h = bytes-take n (drop at m) (bytes-drop at m h)
@@ -26,7 +20,7 @@ pub sixteen-padded : (bs : List ℕ) → length bs ≤ 16 → Bytes bs → Sixte
 sixteen-padded bs h b =
     record {
       long = length-append bs (replicate (16 - length bs) 0) ∙ ap (λ (n : ℕ). length bs + n) (length-replicate (16 - length bs) 0) ∙ omega arith;
-      bytes = bytes-append bs (replicate (16 - length bs) 0) b (zero-bytes (16 - length bs));
+      bytes = bytes-append bs (replicate (16 - length bs) 0) b (bytes-zeros (16 - length bs));
     }
 
 pub bytes-stored : (m : List ℕ) (at : ℕ) (v : List ℕ) → Bytes m → Bytes v → Bytes (stored m at v)

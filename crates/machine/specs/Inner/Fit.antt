@@ -15,8 +15,7 @@ use Rattle.opcode.specs.Number.{rowOf}
 use Rattle.opcode.specs.Immediate.{moved}
 use Rattle.instr.specs.declared.Instr.{Instr}
 use Rattle.machine.specs.Inner.Flat.{Flat, flat, topOf, reach}
-use Rattle.machine.specs.declared.access.Bounds.{Bounds}
-use Rattle.machine.specs.declared.access.Bounds.the-variants.{Clear, Past}
+use Rattle.machine.specs.Answer.{Told, inReach, outOfReach}
 
 -- how many values are taken, and left
 abbrev pub takenByPlain : Plain → ℕ
@@ -100,29 +99,29 @@ pub record Fits (id : ℕ) (st : List ℕ) (d : ℕ) : Type 0 where
   pub row : rowOf id ≡ carried code
   pub fit : Fit code st d
 
--- n bytes from an address on in a memory of this length: clear, or the first address out of reach
-abbrev pub boundsAt : ℕ → ℕ → ℕ → Bounds
-boundsAt at n len = cond (leb (at + n) len) Clear (Past (max at len))
+-- n bytes from an address on in a memory of this length: in reach, or the first address that is not
+abbrev pub boundsAt : ℕ → ℕ → ℕ → Told
+boundsAt at n len = cond (leb (at + n) len) inReach (outOfReach (max at len))
 
-abbrev pub boundsOp : Op → Instr → List ℕ → ℕ → ℕ → Bounds
+abbrev pub boundsOp : Op → Instr → List ℕ → ℕ → ℕ → Told
 boundsOp (Load l) i st d len = boundsAt (reach i (topOf st d 1)) (moved (Load l)) len
 boundsOp (LoadLane w) i st d len = boundsAt (reach i (topOf st d 2)) (moved (LoadLane w)) len
 boundsOp Store i st d len = boundsAt (reach i (topOf st d 2)) (moved Store) len
 boundsOp (StoreLane w) i st d len = boundsAt (reach i (topOf st d 2)) (moved (StoreLane w)) len
-boundsOp Const i st d len = Clear
-boundsOp Shuffle i st d len = Clear
-boundsOp (Splat w) i st d len = Clear
-boundsOp (ExtractLane s w) i st d len = Clear
-boundsOp (ReplaceLane w) i st d len = Clear
-boundsOp (Unary o) i st d len = Clear
-boundsOp (Binary o) i st d len = Clear
-boundsOp Bitselect i st d len = Clear
-boundsOp (Test o) i st d len = Clear
-boundsOp (Shift o) i st d len = Clear
+boundsOp Const i st d len = inReach
+boundsOp Shuffle i st d len = inReach
+boundsOp (Splat w) i st d len = inReach
+boundsOp (ExtractLane s w) i st d len = inReach
+boundsOp (ReplaceLane w) i st d len = inReach
+boundsOp (Unary o) i st d len = inReach
+boundsOp (Binary o) i st d len = inReach
+boundsOp Bitselect i st d len = inReach
+boundsOp (Test o) i st d len = inReach
+boundsOp (Shift o) i st d len = inReach
 
-abbrev pub boundsOf : Code → Instr → List ℕ → ℕ → ℕ → Bounds
-boundsOf (plain p) i st d len = Clear
-boundsOf (control k) i st d len = Clear
+abbrev pub boundsOf : Code → Instr → List ℕ → ℕ → ℕ → Told
+boundsOf (plain p) i st d len = inReach
+boundsOf (control k) i st d len = inReach
 boundsOf (vector o) i st d len = boundsOp o i st d len
 
 -- what is asked before an instruction is done
@@ -133,7 +132,7 @@ pub record Ready (id : ℕ) (i : Instr) (st : List ℕ) (d : ℕ) (ls m : List �
   pub named : Named code i
   pub room : flat code i st d ls m .depth ≤ stackLimit
   pub locals-long : length ls ≡ localBytes
-  pub clear : boundsOf code i st d (length m) ≡ Clear
+  pub clear : boundsOf code i st d (length m) ≡ inReach
 
 -- the code did just that
 pub record Did (f : Flat) (d : ℕ) (st ls m : List ℕ) : Type 0 where

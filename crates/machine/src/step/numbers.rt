@@ -10,6 +10,8 @@ ghost use Rattle.scalar.specs.Scalar.{iadd, isub};
 ghost use Rattle.operation.specs.Vector.{le};
 ghost use Rattle.machine.specs.Inner.Flat.{HasOperands, slotAt, putSlot, topOf, low32};
 use crate::slot;
+use scalar::wrapping::add32;
+use scalar::wrapping::sub32;
 
 // A number as a new value.
 pub(crate) fn push_number(x: u64, stack: &mut [u8], depth: usize)
@@ -25,24 +27,16 @@ pub(crate) fn add(stack: &mut [u8], depth: usize)
 {
     let b = slot::word(slot::top(stack, depth, 1));
     let a = slot::word(slot::top(stack, depth, 2));
-    slot::put(
-        stack,
-        depth - 2,
-        slot::of_number(std::num::wrapping_add_u32(a, b) as u64),
-    );
+    slot::put(stack, depth - 2, slot::of_number(add32(a, b) as u64));
 }
 
 pub(crate) fn sub(stack: &mut [u8], depth: usize)
     requires { ⌜ HasOperands 2 (now stack) depth ⌝ }
     ensures { λ r. ⌜ now (stack .exit) ≡ putSlot (now (stack .entry)) (depth - 2) (le 16 (isub w32 (low32 (topOf (now (stack .entry)) depth 2)) (low32 (topOf (now (stack .entry)) depth 1)))) ⌝ }
 {
-    let b = slot::word(slot::top(stack, depth, 1)) as u64;
-    let a = slot::word(slot::top(stack, depth, 2)) as u64;
-    slot::put(
-        stack,
-        depth - 2,
-        slot::of_number((a + (4294967296 - b)) % 4294967296),
-    );
+    let b = slot::word(slot::top(stack, depth, 1));
+    let a = slot::word(slot::top(stack, depth, 2));
+    slot::put(stack, depth - 2, slot::of_number(sub32(a, b) as u64));
 }
 
 pub(crate) fn eqz(stack: &mut [u8], depth: usize)

@@ -3,7 +3,8 @@ use mathlib.Core.Path.{_≡_, refl, sym, ap, ap₂, _∙_, subst}
 use mathlib.Core.List.{List, _++_}
 use mathlib.Core.Logic.{_⊎_, inl, inr}
 use Prim.Native.Nat.{ℕ, zero, suc, _+_, _*_, _/_, _%_, _^_, _<_}
-use native.Mathlib.Nat.{mul-comm, mul-assoc, zero-mul, suc-mul, mul-suc, mul-zero, mod-lt, mod-mod, zero-lt-suc, eq-or-lt-of-le, le-of-suc-le-suc, not-suc-le-zero, mul-le-mul-left}
+use native.Mathlib.Nat.{mul-comm, mul-assoc, zero-mul, suc-mul, mul-suc, mul-zero, mod-lt}
+use native.Mathlib.Nat.{mod-mod, zero-lt-suc, eq-or-lt-of-le, le-of-suc-le-suc, not-suc-le-zero, mul-le-mul-left}
 use native.Mathlib.Omega.{arith}
 use lib.Arith.{digits-div, digits-lt}
 use lib.ListN.{length, length-append}
@@ -27,7 +28,8 @@ above : (k m : ℕ) (g : ℕ → ℕ) → number (build k (suc m) g) ≡ g m % 2
 unfolding build
 above k m g =
     number-append (build k m g) (le k (g m))
-    ∙ ap₂ (λ (x j : ℕ). x * 2 ^ j + number (build k m g)) (number-le k (g m)) (ap (λ (j : ℕ). 8 * j) (length-build k m g) ∙ omega (arith, mul-assoc 8 k m, mul-comm m k))
+    ∙ ap₂ (λ (x j : ℕ). x * 2 ^ j + number (build k m g)) (number-le k (g m))
+    (ap (λ (j : ℕ). 8 * j) (length-build k m g) ∙ omega (arith, mul-assoc 8 k m, mul-comm m k))
 
 build-lt : (k m : ℕ) (g : ℕ → ℕ) → number (build k m g) < 2 ^ (8 * k * m)
 unfolding build
@@ -43,7 +45,8 @@ field-step : (k m n : ℕ) (g : ℕ → ℕ) → (n < m → fieldOf (8 * k) (num
     → fieldOf (8 * k) (number (build k (suc m) g)) n ≡ g n % 2 ^ (8 * k)
 field-step k m n g f (inl e) =
     subst (λ (j : ℕ). fieldOf (8 * k) (number (build k (suc m) g)) j ≡ g j % 2 ^ (8 * k)) (sym e)
-    (ap (λ (x : ℕ). x % 2 ^ (8 * k)) (ap (λ (x : ℕ). x / 2 ^ (8 * k * m)) (above k m g) ∙ digits-div (g m % 2 ^ (8 * k)) (build-lt k m g)) ∙ mod-mod (g m) (2 ^ (8 * k)))
+    (ap (λ (x : ℕ). x % 2 ^ (8 * k)) (ap (λ (x : ℕ). x / 2 ^ (8 * k * m)) (above k m g) ∙ digits-div (g m % 2 ^ (8 * k)) (build-lt k m g))
+    ∙ mod-mod (g m) (2 ^ (8 * k)))
 field-step k m n g f (inr l) =
     ap (λ (x : ℕ). fieldOf (8 * k) x n) (above k m g)
     ∙ field-low (8 * k) n (8 * k * m) (g m % 2 ^ (8 * k)) (number (build k m g)) (omega (arith, mul-suc (8 * k) n, mul-le-mul-left (8 * k) l)) ∙ f l
@@ -57,7 +60,8 @@ pub build-fields : (k m x : ℕ) → build k m (fieldOf (8 * k) x) ≡ le (m * k
 unfolding build
 build-fields k zero x = ap (λ (j : ℕ). le j x) (sym (zero-mul k))
 build-fields k (suc m) x =
-    ap₂ (λ (a b : List ℕ). a ++ b) (build-fields k m x) (le-mod k (x / 2 ^ (8 * k * m)) ∙ ap (λ (j : ℕ). le k (x / 2 ^ j)) (omega (arith, mul-assoc 8 k m, mul-comm m k)))
+    ap₂ (λ (a b : List ℕ). a ++ b) (build-fields k m x)
+    (le-mod k (x / 2 ^ (8 * k * m)) ∙ ap (λ (j : ℕ). le k (x / 2 ^ j)) (omega (arith, mul-assoc 8 k m, mul-comm m k)))
     ∙ sym (le-split (m * k) k x) ∙ ap (λ (j : ℕ). le j x) (sym (suc-mul m k))
 
 -- sixteen bytes are those of their m lanes

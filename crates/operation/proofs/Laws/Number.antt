@@ -6,7 +6,7 @@ use native.Mathlib.Nat.{zero-add, suc-add, add-comm, mul-comm, mul-assoc, mul-ad
 use native.Mathlib.Nat.{two-mul, pow-zero, div-one, mod-one, mod-lt, zero-lt-suc, add-mul-mod-self-right, div-add-mod'}
 use native.Mathlib.Omega.{arith}
 use lib.Arith.{digits-div, digits-mod}
-use lib.ListN.{length, take, drop, set, getD}
+use lib.ListN.{replicate, length, take, drop, set, getD}
 use lib.Pow.{pow-pos, pow-add, shr-shr, mod-pow-add}
 use mir.Syntax.{w8}
 use mir.Val.{Fits}
@@ -77,6 +77,11 @@ pub le-mod : (k x : ℕ) → le k (x % 2 ^ (8 * k)) ≡ le k x
 le-mod k x = ap (le k) (sym (number-le k x)) ∙ subst (λ (m : ℕ). le m (number (le k x)) ≡ le k x) (length-le k x) (le-number (le k x) (bytes-le k x))
 
 -- ---- bytes of parts
+
+pub bytes-zeros : (n : ℕ) → Bytes (replicate n 0)
+bytes-zeros zero k = record { fits = zero-lt-suc 255 }
+bytes-zeros (suc n) zero = record { fits = zero-lt-suc 255 }
+bytes-zeros (suc n) (suc k) = bytes-zeros n k
 
 pub bytes-append : (xs ys : List ℕ) → Bytes xs → Bytes ys → Bytes (xs ++ ys)
 bytes-append [] ys h g k = g k

@@ -3,7 +3,7 @@ use mathlib.Core.Path.{_≡_, refl, sym, _∙_, subst}
 use mathlib.Core.Bool.{Bool, true, false, not}
 use mathlib.Core.List.{List}
 use Prim.Native.Nat.{ℕ, zero, suc, _*_, _%_, _^_, _<_}
-use native.Mathlib.Nat.{zero-lt-suc, lt-of-lt-of-le}
+use native.Mathlib.Nat.{lt-of-lt-of-le}
 use native.Mathlib.Omega.{arith}
 use lib.Dec.{T, leb, leb→le, eqb}
 use lib.ListN.{replicate, set, length-set}
@@ -15,12 +15,13 @@ use Rattle.scalar.proofs.Laws.Integers.{wrap-lt}
 use Rattle.operation.specs.Shape.{lanes}
 use Rattle.operation.specs.Vector.{number, le, lane, build, vec, Sixteen}
 use Rattle.operation.specs.Op.{Unop, Not, Abs, Neg, Popcnt, Extend, ExtaddPairwise, unary}
-use Rattle.operation.specs.Op.{Binop, And, Andnot, Or, Xor, Swizzle, Eq, Ne, Lt, Gt, Le, Ge, Add, Sub, Mul, AddSat, SubSat, Min, Max, AvgrU, Q15mulrSatS, DotS, Narrow, Extmul, binary}
+use Rattle.operation.specs.Op.{Binop, And, Andnot, Or, Xor, Swizzle, Eq, Ne, Lt, Gt, Le, Ge}
+use Rattle.operation.specs.Op.{Add, Sub, Mul, AddSat, SubSat, Min, Max, AvgrU, Q15mulrSatS, DotS, Narrow, Extmul, binary}
 use Rattle.operation.specs.Op.{bitselect, Testop, AnyTrue, AllTrue, Bitmask, truth, all, test}
 use Rattle.operation.specs.Op.{Shiftop, Shl, Shr, shift}
 use Rattle.operation.specs.Op.{splat, unpack, extracted, replaced}
 use Rattle.operation.specs.Op.{shuffled, Loadop, Whole, Widen, Repeat, ZeroPad, loaded, laneIn, laneOut}
-use Rattle.operation.proofs.Laws.Number.{Bytes, length-le, bytes-le, bytes-append, bytes-set, fieldOf}
+use Rattle.operation.proofs.Laws.Number.{Bytes, length-le, bytes-le, bytes-append, bytes-set, bytes-zeros, fieldOf}
 use Rattle.operation.proofs.Laws.Build.{length-build, field-build, in-lanes}
 use Rattle.operation.proofs.Laws.Scan.{tally-lt}
 
@@ -69,12 +70,7 @@ pub sixteen-set : (v : List ℕ) (i x : ℕ) → x < 2 ^ 8 → Sixteen v → Six
 sixteen-set v i x f s = record { long = length-set v i x ∙ s .long; bytes = bytes-set v i x f (s .bytes) }
 
 pub sixteen-zeros : Sixteen (replicate 16 0)
-sixteen-zeros = record { long = refl; bytes = zeros 16 }
-  where
-    zeros : (n : ℕ) → Bytes (replicate n 0)
-    zeros zero k = record { fits = zero-lt-suc 255 }
-    zeros (suc n) zero = record { fits = zero-lt-suc 255 }
-    zeros (suc n) (suc k) = zeros n k
+sixteen-zeros = record { long = refl; bytes = bytes-zeros 16 }
 
 pub sixteen-unary : (o : Unop) (a : List ℕ) → Sixteen (unary o a)
 sixteen-unary Not a = sixteen-le _

@@ -26,23 +26,31 @@ loop-in-requires : tie.Need-loop-in-requires
 loop-in-requires c κs = search needs
 
 returns-2 : tie.Need-returns-2
-returns-2 c = (
-  omega arith,
-  λ rs fs floor dead e few w small.
-      let d = label-block w small (c .before .before .before .before .before .args .n) (omega (arith, c .before .before .before .if1 .left, c .before .before .before .before .before .pre .1)) in
-      takes-none d (sym (c .before .loop-in .ensures (d .floor) (d .type) (d .target .loop) (d .dead) (omega (arith, d .floor-small)) (type-small (d .type) (d .is-type)) (d .word-is)) ∙ c .if2 .taken),
-)
+returns-2 c =
+    let at-if1 = c .before .before .before in
+    let start = at-if1 .before .before in (
+      omega arith,
+      λ rs fs floor dead e few w small.
+          let d = label-block w small (start .args .n) (omega (arith, at-if1 .if1 .left, start .pre .1)) in
+          takes-none d (sym (c .before .loop-in .ensures (d .floor) (d .type) (d .target .loop) (d .dead) (omega (arith, d .floor-small))
+          (type-small (d .type) (d .is-type)) (d .word-is)) ∙ c .if2 .taken),
+    )
 
 results-in-requires : tie.Need-results-in-requires
 results-in-requires c κs = search needs
 
 returns-3 : tie.Need-returns-3
-returns-3 c = (
-  omega (arith, c .results-in .ensures .0),
-  λ rs fs floor dead e few w small.
-      let d = label-block w small (c .before .before .before .before .before .before .args .n) (omega (arith, c .before .before .before .before .if1 .left, c .before .before .before .before .before .before .pre .1)) in
-      takes-results d (sym (c .before .before .loop-in .ensures (d .floor) (d .type) (d .target .loop) (d .dead) (omega (arith, d .floor-small)) (type-small (d .type) (d .is-type)) (d .word-is)) ∙ c .before .if2 .left) (c .results-in .ensures .1 (d .floor) (d .type) (d .target .loop) (d .dead) (omega (arith, d .floor-small)) (d .is-type) (d .word-is)),
-)
+returns-3 c =
+    let at-loop-in = c .before .before in
+    let at-if1 = at-loop-in .before .before in
+    let start = at-if1 .before .before in (
+      omega (arith, c .results-in .ensures .0),
+      λ rs fs floor dead e few w small.
+          let d = label-block w small (start .args .n) (omega (arith, at-if1 .if1 .left, start .pre .1)) in
+          takes-results d (sym (at-loop-in .loop-in .ensures (d .floor) (d .type) (d .target .loop) (d .dead) (omega (arith, d .floor-small))
+          (type-small (d .type) (d .is-type)) (d .word-is)) ∙ c .before .if2 .left)
+          (c .results-in .ensures .1 (d .floor) (d .type) (d .target .loop) (d .dead) (omega (arith, d .floor-small)) (d .is-type) (d .word-is)),
+    )
 
 pub takes-spec : {M : Type 1} → statement M
 takes-spec =

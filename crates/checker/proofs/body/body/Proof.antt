@@ -37,9 +37,12 @@ answer-requires c κs = search needs
 
 returns : tie.Need-returns Inv-loop μ-loop
 returns c =
+    let at-scan = c .before .before .before in
+    let at-loop = at-scan .before in
+    let at-shared-slice-known = at-loop .before .before .before in
     checked (c .answer .ensures)
-    (breach (refuses (c .before .before .before .before .loop .inv) (c .before .before .before .scan .result) (c .before .before .before .scan .ensures)
-    (λ j. c .before .before .before .before .before .before .before .shared-slice-known .given j .fits) (c .before .if1 .taken)))
+    (breach (refuses (at-loop .loop .inv) (at-scan .scan .result) (at-scan .scan .ensures)
+    (λ j. at-shared-slice-known .shared-slice-known .given j .fits) (c .before .if1 .taken)))
 
 is-last-requires : tie.Need-is-last-requires Inv-loop μ-loop
 is-last-requires c κs = search needs
@@ -48,7 +51,14 @@ slice-aggregate-ending : tie.Need-slice-aggregate-ending Inv-loop μ-loop
 slice-aggregate-ending c = search needs
 
 ending-requires : tie.Need-ending-requires Inv-loop μ-loop
-ending-requires c κs = at-end (c .before .before .before .before .before .before .loop .inv) (c .before .before .before .before .before .scan .result) (c .before .before .before .before .before .scan .ensures) (λ j. c .before .before .before .before .before .before .before .before .before .shared-slice-known .given j .fits) (c .before .before .before .if1 .left) (sym (c .before .before .is-last .ensures) ∙ c .before .if2 .taken)
+ending-requires c κs =
+    let at-is-last = c .before .before in
+    let at-if1 = at-is-last .before in
+    let at-scan = at-if1 .before .before in
+    let at-loop = at-scan .before in
+    let at-shared-slice-known = at-loop .before .before .before in
+    at-end (at-loop .loop .inv) (at-scan .scan .result) (at-scan .scan .ensures) (λ j. at-shared-slice-known .shared-slice-known .given j .fits)
+    (at-if1 .if1 .left) (sym (at-is-last .is-last .ensures) ∙ c .before .if2 .taken)
 
 returns-2 : tie.Need-returns-2 Inv-loop μ-loop
 returns-2 c = c .ending .ensures
@@ -60,22 +70,68 @@ slice-aggregate-turn-2 : tie.Need-slice-aggregate-turn-2 Inv-loop μ-loop
 slice-aggregate-turn-2 c = search needs
 
 turn-requires : tie.Need-turn-requires Inv-loop μ-loop
-turn-requires c κs = ready (c .before .before .before .before .before .before .before .loop .inv) (c .before .before .before .before .before .before .scan .result) (c .before .before .before .before .before .before .scan .ensures) (λ j. c .before .before .before .before .before .before .before .before .before .before .shared-slice-known .given j .fits) (c .before .before .before .before .if1 .left) (sym (c .before .before .before .is-last .ensures) ∙ c .before .before .if2 .left)
+turn-requires c κs =
+    let at-if2 = c .before .before in
+    let at-is-last = at-if2 .before in
+    let at-if1 = at-is-last .before in
+    let at-scan = at-if1 .before .before in
+    let at-loop = at-scan .before in
+    let at-shared-slice-known = at-loop .before .before .before in
+    ready (at-loop .loop .inv) (at-scan .scan .result) (at-scan .scan .ensures) (λ j. at-shared-slice-known .shared-slice-known .given j .fits)
+    (at-if1 .if1 .left) (sym (at-is-last .is-last .ensures) ∙ at-if2 .if2 .left)
 
 answer-requires-2 : tie.Need-answer-requires-2 Inv-loop μ-loop
 answer-requires-2 c κs = search needs
 
 returns-3 : tie.Need-returns-3 Inv-loop μ-loop
-returns-3 c = checked (c .answer2 .ensures) (breach (breaks (c .before .before .before .before .before .before .before .before .before .before .before .before .before .loop .inv) (c .before .before .before .before .before .before .before .before .before .before .before .before .scan .result) (c .before .before .before .before .before .before .before .before .before .before .before .before .scan .ensures) (λ j. c .before .before .before .before .before .before .before .before .before .before .before .before .before .before .before .before .shared-slice-known .given j .fits) (c .before .before .before .before .before .before .before .before .before .before .if1 .left) (sym (c .before .before .before .before .before .before .before .before .before .is-last .ensures) ∙ c .before .before .before .before .before .before .before .before .if2 .left) (c .before .before .before .before .before .turn .ensures .0) (c .before .if3 .taken)))
+returns-3 c =
+    let at-turn = c .before .before .before .before .before in
+    let at-if2 = at-turn .before .before .before in
+    let at-is-last = at-if2 .before in
+    let at-if1 = at-is-last .before in
+    let at-scan = at-if1 .before .before in
+    let at-loop = at-scan .before in
+    let at-shared-slice-known = at-loop .before .before .before in
+    checked (c .answer2 .ensures) (breach (breaks (at-loop .loop .inv) (at-scan .scan .result) (at-scan .scan .ensures)
+    (λ j. at-shared-slice-known .shared-slice-known .given j .fits) (at-if1 .if1 .left) (sym (at-is-last .is-last .ensures) ∙ at-if2 .if2 .left)
+    (at-turn .turn .ensures .0) (c .before .if3 .taken)))
 
 add-at : tie.Need-add-at Inv-loop μ-loop
-add-at c = omega (arith, moves (c .before .before .before .before .before .before .before .before .before .before .before .before .before .loop .inv) (c .before .before .before .before .before .before .before .before .before .before .before .before .scan .result) (c .before .before .before .before .before .before .before .before .before .before .before .before .scan .ensures) (λ j. c .before .before .before .before .before .before .before .before .before .before .before .before .before .before .before .before .shared-slice-known .given j .fits) (c .before .before .before .before .before .before .before .before .before .before .if1 .left))
+add-at c =
+    let at-if1 = c .before .before .before .before .before .before .before .before .before .before in
+    let at-scan = at-if1 .before .before in
+    let at-loop = at-scan .before in
+    let at-shared-slice-known = at-loop .before .before .before in
+    omega (
+      arith,
+      moves (at-loop .loop .inv) (at-scan .scan .result) (at-scan .scan .ensures)
+          (λ j. at-shared-slice-known .shared-slice-known .given j .fits) (at-if1 .if1 .left),
+    )
 
 loop-less : tie.Need-loop-less Inv-loop μ-loop
-loop-less c = omega (arith, moves (c .before .before .before .before .before .before .before .before .before .before .before .before .before .loop .inv) (c .before .before .before .before .before .before .before .before .before .before .before .before .scan .result) (c .before .before .before .before .before .before .before .before .before .before .before .before .scan .ensures) (λ j. c .before .before .before .before .before .before .before .before .before .before .before .before .before .before .before .before .shared-slice-known .given j .fits) (c .before .before .before .before .before .before .before .before .before .before .if1 .left))
+loop-less c =
+    let at-if1 = c .before .before .before .before .before .before .before .before .before .before in
+    let at-scan = at-if1 .before .before in
+    let at-loop = at-scan .before in
+    let at-shared-slice-known = at-loop .before .before .before in
+    omega (
+      arith,
+      moves (at-loop .loop .inv) (at-scan .scan .result) (at-scan .scan .ensures)
+          (λ j. at-shared-slice-known .shared-slice-known .given j .fits) (at-if1 .if1 .left),
+    )
 
 loop-again : tie.Need-loop-again Inv-loop μ-loop
-loop-again c = goes (c .before .before .before .before .before .before .before .before .before .before .before .before .before .loop .inv) (c .before .before .before .before .before .before .before .before .before .before .before .before .scan .result) (c .before .before .before .before .before .before .before .before .before .before .before .before .scan .ensures) (λ j. c .before .before .before .before .before .before .before .before .before .before .before .before .before .before .before .before .shared-slice-known .given j .fits) (c .before .before .before .before .before .before .before .before .before .before .if1 .left) (sym (c .before .before .before .before .before .before .before .before .before .is-last .ensures) ∙ c .before .before .before .before .before .before .before .before .if2 .left) (c .before .before .before .before .before .turn .ensures .0) (c .before .if3 .left) (search needs) (search needs)
+loop-again c =
+    (let at-turn = c .before .before .before .before .before in
+    let at-if2 = at-turn .before .before .before in
+    let at-is-last = at-if2 .before in
+    let at-if1 = at-is-last .before in
+    let at-scan = at-if1 .before .before in
+    let at-loop = at-scan .before in
+    let at-shared-slice-known = at-loop .before .before .before in
+    goes (at-loop .loop .inv) (at-scan .scan .result) (at-scan .scan .ensures) (λ j. at-shared-slice-known .shared-slice-known .given j .fits)
+    (at-if1 .if1 .left) (sym (at-is-last .is-last .ensures) ∙ at-if2 .if2 .left) (at-turn .turn .ensures .0) (c .before .if3 .left))
+    (search needs) (search needs)
 
 pub body-spec : {M : Type 1} → statement M
 body-spec =

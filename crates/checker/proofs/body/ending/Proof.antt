@@ -14,7 +14,10 @@ answer-requires : tie.Need-answer-requires
 answer-requires c κs = search needs
 
 returns : tie.Need-returns
-returns c = checked (c .answer .ensures) (breach (other-results (c .before .before .before .before .before .pre) (c .before .before .under .ensures) (c .before .if1 .taken)))
+returns c =
+    let at-under = c .before .before in
+    let start = at-under .before .before .before in
+    checked (c .answer .ensures) (breach (other-results (start .pre) (at-under .under .ensures) (c .before .if1 .taken)))
 
 add-if2 : tie.Need-add-if2
 add-if2 c = omega (arith, end-inside (c .before .before .before .before .pre))
@@ -26,13 +29,21 @@ answer-requires-2 : tie.Need-answer-requires-2
 answer-requires-2 c κs = search needs
 
 returns-2 : tie.Need-returns-2
-returns-2 c = checked (c .answer2 .ensures) (breach (trails (c .before .before .before .before .before .before .pre) (c .before .before .before .under .ensures) (c .before .before .if1 .left) (omega (arith, c .before .if2 .taken))))
+returns-2 c =
+    let at-if1 = c .before .before in
+    let at-under = at-if1 .before in
+    let start = at-under .before .before .before in
+    checked (c .answer2 .ensures) (breach (trails (start .pre) (at-under .under .ensures) (at-if1 .if1 .left) (omega (arith, c .before .if2 .taken))))
 
 answer-requires-3 : tie.Need-answer-requires-3
 answer-requires-3 c κs = search needs
 
 returns-3 : tie.Need-returns-3
-returns-3 c = checked (c .answer3 .ensures) (valid (passes (c .before .before .before .before .before .before .pre) (c .before .before .before .under .ensures) (c .before .before .if1 .left) (omega (arith, c .before .if2 .left))))
+returns-3 c =
+    let at-if1 = c .before .before in
+    let at-under = at-if1 .before in
+    let start = at-under .before .before .before in
+    checked (c .answer3 .ensures) (valid (passes (start .pre) (at-under .under .ensures) (at-if1 .if1 .left) (omega (arith, c .before .if2 .left))))
 
 pub ending-spec : {M : Type 1} → statement M
 ending-spec =

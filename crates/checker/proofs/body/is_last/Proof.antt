@@ -16,7 +16,10 @@ group-requires : tie.Need-group-requires
 group-requires c κs = search needs
 
 returns-2 : tie.Need-returns-2
-returns-2 c = ap (λ (x : ℕ). eqb x 0) (c .group .ensures) ∙ sym (ap (λ (x : Bool). x && eqb (groupIn (c .before .before .args .entry)) 0) (eq-eqb (c .before .before .args .nest) 0 (c .before .if1 .left)))
+returns-2 c =
+    let start = c .before .before in
+    ap (λ (x : ℕ). eqb x 0) (c .group .ensures) ∙ sym (ap (λ (x : Bool). x && eqb (groupIn (start .args .entry)) 0)
+    (eq-eqb (start .args .nest) 0 (c .before .if1 .left)))
 
 pub is-last-spec : {M : Type 1} → statement M
 is-last-spec = tie.close (tie.spec returns group-requires returns-2)

@@ -30,7 +30,11 @@ answer-requires-3 : tie.Need-answer-requires-3
 answer-requires-3 c κs = search needs
 
 returns-3 : tie.Need-returns-3
-returns-3 c = let sized : Sized (c .before .before .before .before .before .before .args .strip .now) = record { most = c .before .before .before .before .if1 .left; least = c .before .before .before .if2 .left } in
+returns-3 c =
+    let at-if2 = c .before .before .before in
+    let at-if1 = at-if2 .before in
+    let start = at-if1 .before .before in
+    let sized : Sized (start .args .strip .now) = record { most = at-if1 .if1 .left; least = at-if2 .if2 .left } in
     headed-broken (c .answer3 .ensures) (unmarked sized (λ rest e. c .before .if3 .taken (ap (λ (x : List ℕ). getD x 0 0) e)))
 
 shared-slice-read-if4 : tie.Need-shared-slice-read-if4
@@ -40,7 +44,11 @@ answer-requires-4 : tie.Need-answer-requires-4
 answer-requires-4 c κs = search needs
 
 returns-4 : tie.Need-returns-4
-returns-4 c = let sized : Sized (c .before .before .before .before .before .before .before .before .args .strip .now) = record { most = c .before .before .before .before .before .before .if1 .left; least = c .before .before .before .before .before .if2 .left } in
+returns-4 c =
+    let at-if2 = c .before .before .before .before .before in
+    let at-if1 = at-if2 .before in
+    let start = at-if1 .before .before in
+    let sized : Sized (start .args .strip .now) = record { most = at-if1 .if1 .left; least = at-if2 .if2 .left } in
     headed-broken (c .answer4 .ensures) (unmarked sized (λ rest e. c .before .if4 .taken (ap (λ (x : List ℕ). getD x 1 0) e)))
 
 shared-slice-read-if5 : tie.Need-shared-slice-read-if5
@@ -50,7 +58,11 @@ answer-requires-5 : tie.Need-answer-requires-5
 answer-requires-5 c κs = search needs
 
 returns-5 : tie.Need-returns-5
-returns-5 c = let sized : Sized (c .before .before .before .before .before .before .before .before .before .before .args .strip .now) = record { most = c .before .before .before .before .before .before .before .before .if1 .left; least = c .before .before .before .before .before .before .before .if2 .left } in
+returns-5 c =
+    let at-if2 = c .before .before .before .before .before .before .before in
+    let at-if1 = at-if2 .before in
+    let start = at-if1 .before .before in
+    let sized : Sized (start .args .strip .now) = record { most = at-if1 .if1 .left; least = at-if2 .if2 .left } in
     headed-broken (c .answer5 .ensures) (unmarked sized (λ rest e. c .before .if5 .taken (ap (λ (x : List ℕ). getD x 2 0) e)))
 
 shared-slice-read-is-other-version : tie.Need-shared-slice-read-is-other-version
@@ -63,10 +75,20 @@ answer-requires-6 : tie.Need-answer-requires-6
 answer-requires-6 c κs = search needs
 
 returns-6 : tie.Need-returns-6
-returns-6 c = let s = c .before .before .before .before .before .before .before .before .before .before .before .before .before .args .strip .now in
-    let sized : Sized s = record { most = c .before .before .before .before .before .before .before .before .before .before .before .if1 .left; least = c .before .before .before .before .before .before .before .before .before .before .if2 .left } in
+returns-6 c =
+    let at-is-other-version = c .before .before in
+    let at-if5 = at-is-other-version .before .before in
+    let at-if4 = at-if5 .before .before in
+    let at-if3 = at-if4 .before .before in
+    let at-if2 = at-if3 .before .before in
+    let at-if1 = at-if2 .before in
+    let start = at-if1 .before .before in
+    let s = start .args .strip .now in
+    let sized : Sized s = record { most = at-if1 .if1 .left; least = at-if2 .if2 .left } in
     headed-broken (c .answer6 .ensures)
-    (other-version _ sized (marked s (sized .least) (c .before .before .before .before .before .before .before .before .if3 .left) (c .before .before .before .before .before .before .if4 .left) (c .before .before .before .before .if5 .left)) (version-byte s (sized .least) (c .before .before .before .before .before .before .before .before .if3 .left) (c .before .before .before .before .before .before .if4 .left) (c .before .before .before .before .if5 .left) (inl (c .before .before .is-other-version .ensures .other (c .before .if6 .taken)))))
+    (other-version _ sized (marked s (sized .least) (at-if3 .if3 .left) (at-if4 .if4 .left) (at-if5 .if5 .left))
+    (version-byte s (sized .least) (at-if3 .if3 .left) (at-if4 .if4 .left) (at-if5 .if5 .left)
+    (inl (at-is-other-version .is-other-version .ensures .other (c .before .if6 .taken)))))
 
 shared-slice-read-if7 : tie.Need-shared-slice-read-if7
 shared-slice-read-if7 c = search needs
@@ -75,10 +97,18 @@ answer-requires-7 : tie.Need-answer-requires-7
 answer-requires-7 c κs = search needs
 
 returns-7 : tie.Need-returns-7
-returns-7 c = let s = c .before .before .before .before .before .before .before .before .before .before .before .before .before .before .before .args .strip .now in
-    let sized : Sized s = record { most = c .before .before .before .before .before .before .before .before .before .before .before .before .before .if1 .left; least = c .before .before .before .before .before .before .before .before .before .before .before .before .if2 .left } in
+returns-7 c =
+    let at-if5 = c .before .before .before .before .before .before in
+    let at-if4 = at-if5 .before .before in
+    let at-if3 = at-if4 .before .before in
+    let at-if2 = at-if3 .before .before in
+    let at-if1 = at-if2 .before in
+    let start = at-if1 .before .before in
+    let s = start .args .strip .now in
+    let sized : Sized s = record { most = at-if1 .if1 .left; least = at-if2 .if2 .left } in
     headed-broken (c .answer7 .ensures)
-    (other-version _ sized (marked s (sized .least) (c .before .before .before .before .before .before .before .before .before .before .if3 .left) (c .before .before .before .before .before .before .before .before .if4 .left) (c .before .before .before .before .before .before .if5 .left)) (version-byte s (sized .least) (c .before .before .before .before .before .before .before .before .before .before .if3 .left) (c .before .before .before .before .before .before .before .before .if4 .left) (c .before .before .before .before .before .before .if5 .left) (inr (c .before .if7 .taken))))
+    (other-version _ sized (marked s (sized .least) (at-if3 .if3 .left) (at-if4 .if4 .left) (at-if5 .if5 .left))
+    (version-byte s (sized .least) (at-if3 .if3 .left) (at-if4 .if4 .left) (at-if5 .if5 .left) (inr (c .before .if7 .taken))))
 
 shared-slice-read-p : tie.Need-shared-slice-read-p
 shared-slice-read-p c = search needs
@@ -90,10 +120,21 @@ answer-requires-8 : tie.Need-answer-requires-8
 answer-requires-8 c κs = search needs
 
 returns-8 : tie.Need-returns-8
-returns-8 c = let s = c .before .before .before .before .before .before .before .before .before .before .before .before .before .before .before .before .before .args .strip .now in
-    let sized : Sized s = record { most = c .before .before .before .before .before .before .before .before .before .before .before .before .before .before .before .if1 .left; least = c .before .before .before .before .before .before .before .before .before .before .before .before .before .before .if2 .left } in
+returns-8 c =
+    let at-if7 = c .before .before .before in
+    let at-if6 = at-if7 .before .before in
+    let at-is-other-version = at-if6 .before in
+    let at-if5 = at-is-other-version .before .before in
+    let at-if4 = at-if5 .before .before in
+    let at-if3 = at-if4 .before .before in
+    let at-if2 = at-if3 .before .before in
+    let at-if1 = at-if2 .before in
+    let start = at-if1 .before .before in
+    let s = start .args .strip .now in
+    let sized : Sized s = record { most = at-if1 .if1 .left; least = at-if2 .if2 .left } in
     headed-broken (c .answer8 .ensures)
-    (parameters _ _ _ sized (c .before .before .before .before .before .before .is-other-version .ensures .carried (c .before .before .before .before .before .if6 .left)) (fronted s (sized .least) (c .before .before .before .before .before .before .before .before .before .before .before .before .if3 .left) (c .before .before .before .before .before .before .before .before .before .before .if4 .left) (c .before .before .before .before .before .before .before .before .if5 .left) (c .before .before .before .if7 .left)) (c .before .if8 .taken))
+    (parameters _ _ _ sized (at-is-other-version .is-other-version .ensures .carried (at-if6 .if6 .left))
+    (fronted s (sized .least) (at-if3 .if3 .left) (at-if4 .if4 .left) (at-if5 .if5 .left) (at-if7 .if7 .left)) (c .before .if8 .taken))
 
 shared-slice-read-l : tie.Need-shared-slice-read-l
 shared-slice-read-l c = search needs
@@ -105,10 +146,22 @@ answer-requires-9 : tie.Need-answer-requires-9
 answer-requires-9 c κs = search needs
 
 returns-9 : tie.Need-returns-9
-returns-9 c = let s = c .before .before .before .before .before .before .before .before .before .before .before .before .before .before .before .before .before .before .before .args .strip .now in
-    let sized : Sized s = record { most = c .before .before .before .before .before .before .before .before .before .before .before .before .before .before .before .before .before .if1 .left; least = c .before .before .before .before .before .before .before .before .before .before .before .before .before .before .before .before .if2 .left } in
+returns-9 c =
+    let at-if8 = c .before .before .before in
+    let at-if7 = at-if8 .before .before in
+    let at-if6 = at-if7 .before .before in
+    let at-is-other-version = at-if6 .before in
+    let at-if5 = at-is-other-version .before .before in
+    let at-if4 = at-if5 .before .before in
+    let at-if3 = at-if4 .before .before in
+    let at-if2 = at-if3 .before .before in
+    let at-if1 = at-if2 .before in
+    let start = at-if1 .before .before in
+    let s = start .args .strip .now in
+    let sized : Sized s = record { most = at-if1 .if1 .left; least = at-if2 .if2 .left } in
     headed-broken (c .answer9 .ensures)
-    (further _ _ _ _ sized (c .before .before .before .before .before .before .before .before .is-other-version .ensures .carried (c .before .before .before .before .before .before .before .if6 .left)) (fronted s (sized .least) (c .before .before .before .before .before .before .before .before .before .before .before .before .before .before .if3 .left) (c .before .before .before .before .before .before .before .before .before .before .before .before .if4 .left) (c .before .before .before .before .before .before .before .before .before .before .if5 .left) (c .before .before .before .before .before .if7 .left)) (c .before .before .before .if8 .left) (c .before .if9 .taken))
+    (further _ _ _ _ sized (at-is-other-version .is-other-version .ensures .carried (at-if6 .if6 .left))
+    (fronted s (sized .least) (at-if3 .if3 .left) (at-if4 .if4 .left) (at-if5 .if5 .left) (at-if7 .if7 .left)) (at-if8 .if8 .left) (c .before .if9 .taken))
 
 shared-slice-read-r : tie.Need-shared-slice-read-r
 shared-slice-read-r c = search needs
@@ -120,10 +173,24 @@ answer-requires-10 : tie.Need-answer-requires-10
 answer-requires-10 c κs = search needs
 
 returns-10 : tie.Need-returns-10
-returns-10 c = let s = c .before .before .before .before .before .before .before .before .before .before .before .before .before .before .before .before .before .before .before .before .before .args .strip .now in
-    let sized : Sized s = record { most = c .before .before .before .before .before .before .before .before .before .before .before .before .before .before .before .before .before .before .before .if1 .left; least = c .before .before .before .before .before .before .before .before .before .before .before .before .before .before .before .before .before .before .if2 .left } in
+returns-10 c =
+    let at-if9 = c .before .before .before in
+    let at-if8 = at-if9 .before .before in
+    let at-if7 = at-if8 .before .before in
+    let at-if6 = at-if7 .before .before in
+    let at-is-other-version = at-if6 .before in
+    let at-if5 = at-is-other-version .before .before in
+    let at-if4 = at-if5 .before .before in
+    let at-if3 = at-if4 .before .before in
+    let at-if2 = at-if3 .before .before in
+    let at-if1 = at-if2 .before in
+    let start = at-if1 .before .before in
+    let s = start .args .strip .now in
+    let sized : Sized s = record { most = at-if1 .if1 .left; least = at-if2 .if2 .left } in
     headed-broken (c .answer10 .ensures)
-    (results _ _ _ _ _ sized (c .before .before .before .before .before .before .before .before .before .before .is-other-version .ensures .carried (c .before .before .before .before .before .before .before .before .before .if6 .left)) (fronted s (sized .least) (c .before .before .before .before .before .before .before .before .before .before .before .before .before .before .before .before .if3 .left) (c .before .before .before .before .before .before .before .before .before .before .before .before .before .before .if4 .left) (c .before .before .before .before .before .before .before .before .before .before .before .before .if5 .left) (c .before .before .before .before .before .before .before .if7 .left)) (c .before .before .before .before .before .if8 .left) (c .before .before .before .if9 .left) (c .before .if10 .taken))
+    (results _ _ _ _ _ sized (at-is-other-version .is-other-version .ensures .carried (at-if6 .if6 .left))
+    (fronted s (sized .least) (at-if3 .if3 .left) (at-if4 .if4 .left) (at-if5 .if5 .left) (at-if7 .if7 .left)) (at-if8 .if8 .left) (at-if9 .if9 .left)
+    (c .before .if10 .taken))
 
 add-kinds : tie.Need-add-kinds
 add-kinds c = search needs
@@ -135,10 +202,24 @@ kinds-requires : tie.Need-kinds-requires
 kinds-requires c κs = search needs
 
 returns-11 : tie.Need-returns-11
-returns-11 c = let s = c .before .before .before .before .before .before .before .before .before .before .before .before .before .before .before .before .before .before .before .before .before .args .strip .now in
-    let sized : Sized s = record { most = c .before .before .before .before .before .before .before .before .before .before .before .before .before .before .before .before .before .before .before .if1 .left; least = c .before .before .before .before .before .before .before .before .before .before .before .before .before .before .before .before .before .before .if2 .left } in
-    headed-kinds sized (getD s 3 0) (getD s 5 0) (getD s 6 0) (getD s 7 0) (c .before .before .before .before .before .before .before .before .before .before .is-other-version .ensures .carried (c .before .before .before .before .before .before .before .before .before .if6 .left)) (record { parameters = c .before .before .before .before .before .if8 .left; further = c .before .before .before .if9 .left; results = c .before .if10 .left })
-    (fronted s (sized .least) (c .before .before .before .before .before .before .before .before .before .before .before .before .before .before .before .before .if3 .left) (c .before .before .before .before .before .before .before .before .before .before .before .before .before .before .if4 .left) (c .before .before .before .before .before .before .before .before .before .before .before .before .if5 .left) (c .before .before .before .before .before .before .before .if7 .left))
+returns-11 c =
+    let at-if9 = c .before .before .before in
+    let at-if8 = at-if9 .before .before in
+    let at-if7 = at-if8 .before .before in
+    let at-if6 = at-if7 .before .before in
+    let at-is-other-version = at-if6 .before in
+    let at-if5 = at-is-other-version .before .before in
+    let at-if4 = at-if5 .before .before in
+    let at-if3 = at-if4 .before .before in
+    let at-if2 = at-if3 .before .before in
+    let at-if1 = at-if2 .before in
+    let start = at-if1 .before .before in
+    let s = start .args .strip .now in
+    let sized : Sized s = record { most = at-if1 .if1 .left; least = at-if2 .if2 .left } in
+    headed-kinds sized (getD s 3 0) (getD s 5 0) (getD s 6 0) (getD s 7 0)
+    (at-is-other-version .is-other-version .ensures .carried (at-if6 .if6 .left))
+    (record { parameters = at-if8 .if8 .left; further = at-if9 .if9 .left; results = c .before .if10 .left })
+    (fronted s (sized .least) (at-if3 .if3 .left) (at-if4 .if4 .left) (at-if5 .if5 .left) (at-if7 .if7 .left))
     (c .kinds .ensures .0) (c .kinds .ensures .1)
 
 pub header-spec : {M : Type 1} → statement M

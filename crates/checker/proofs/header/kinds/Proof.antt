@@ -25,8 +25,11 @@ answer-requires c κs = search needs
 
 returns : tie.Need-returns Inv-loop μ-loop
 returns c =
-    let a = c .before .before .before .before .before .args in let l = c .before .before .before .loop in
-    said (c .answer .ensures) (read-cut (a .strip .now) (l .inv .1) (a .n) (c .before .before .loop-test .taken) (c .before .if1 .taken))
+    let at-loop-test = c .before .before in
+    let at-loop = at-loop-test .before in
+    let start = at-loop .before .before in
+    let a = start .args in let l = at-loop .loop in
+    said (c .answer .ensures) (read-cut (a .strip .now) (l .inv .1) (a .n) (at-loop-test .loop-test .taken) (c .before .if1 .taken))
 
 add-is-kind : tie.Need-add-is-kind Inv-loop μ-loop
 add-is-kind c = search needs
@@ -45,9 +48,15 @@ answer-requires-2 c κs = search needs
 
 returns-2 : tie.Need-returns-2 Inv-loop μ-loop
 returns-2 c =
-    let a = c .before .before .before .before .before .before .before .before .args in let l = c .before .before .before .before .before .before .loop in
+    let at-is-kind = c .before .before in
+    let at-if1 = at-is-kind .before .before in
+    let at-loop-test = at-if1 .before in
+    let at-loop = at-loop-test .before in
+    let start = at-loop .before .before in
+    let a = start .args in let l = at-loop .loop in
     said (c .answer2 .ensures)
-    (read-other (a .strip .now) (l .inv .1) (a .n) (c .before .before .before .before .before .loop-test .taken) (c .before .before .before .before .if1 .left) (sym (c .before .before .is-kind .ensures) ∙ not-true _ (c .before .if2 .taken)))
+    (read-other (a .strip .now) (l .inv .1) (a .n) (at-loop-test .loop-test .taken) (at-if1 .if1 .left)
+    (sym (at-is-kind .is-kind .ensures) ∙ not-true _ (c .before .if2 .taken)))
 
 add-k : tie.Need-add-k Inv-loop μ-loop
 add-k c = search needs
@@ -57,8 +66,11 @@ loop-less c = search needs
 
 loop-again : tie.Need-loop-again Inv-loop μ-loop
 loop-again c =
-    let a = c .before .before .before .before .before .before .before .args in let l = c .before .before .before .before .before .loop in
-    (omega arith, read-more (a .strip .now) (l .inv .1) (c .before .before .before .if1 .left) (sym (c .before .is-kind .ensures) ∙ not-false _ (c .if2 .left)))
+    let at-if1 = c .before .before .before in
+    let at-loop = at-if1 .before .before in
+    let start = at-loop .before .before in
+    let a = start .args in let l = at-loop .loop in
+    (omega arith, read-more (a .strip .now) (l .inv .1) (at-if1 .if1 .left) (sym (c .before .is-kind .ensures) ∙ not-false _ (c .if2 .left)))
 
 answer-requires-3 : tie.Need-answer-requires-3 Inv-loop μ-loop
 answer-requires-3 c κs = search needs

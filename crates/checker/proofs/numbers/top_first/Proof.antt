@@ -29,7 +29,10 @@ wide-requires : tie.Need-wide-requires Inv-loop μ-loop
 wide-requires c κs = search needs
 
 add-all : tie.Need-add-all Inv-loop μ-loop
-add-all c = omega (arith, c .wide .ensures, c .before .shared-slice-known2 .given (c .before .before .before .before .before .args .from + c .before .before .before .loop .k) .fits)
+add-all c =
+    let at-loop = c .before .before .before in
+    let start = at-loop .before .before in
+    omega (arith, c .wide .ensures, c .before .shared-slice-known2 .given (start .args .from + at-loop .loop .k) .fits)
 
 add-k : tie.Need-add-k Inv-loop μ-loop
 add-k c = search needs
@@ -38,12 +41,19 @@ loop-less : tie.Need-loop-less Inv-loop μ-loop
 loop-less c = search needs
 
 loop-again : tie.Need-loop-again Inv-loop μ-loop
-loop-again c = let a = c .before .before .before .before .before .args in let l = c .before .before .before .loop in
+loop-again c =
+    let at-loop-test = c .before .before in
+    let at-loop = at-loop-test .before in
+    let start = at-loop .before .before in
+    let a = start .args in let l = at-loop .loop in
     subst (λ (x : ℕ). Reading (a .strip .now) (a .from) (a .n) (l .k + 1) (l .all % 2 ^ 24 * 256 + x)) (sym (c .wide .ensures))
-    (reads-more (a .strip .now) (a .from) (a .n) (l .inv) (c .before .before .before .before .before .pre .1) (c .before .before .loop-test .taken) (c .before .shared-slice-known2 .given (a .from + l .k) .fits))
+    (reads-more (a .strip .now) (a .from) (a .n) (l .inv) (start .pre .1) (at-loop-test .loop-test .taken)
+    (c .before .shared-slice-known2 .given (a .from + l .k) .fits))
 
 returns : tie.Need-returns Inv-loop μ-loop
-returns c = (c .before .loop .inv .small, reads-all (c .before .before .before .args .strip .now) (c .before .before .before .args .from) (c .before .before .before .args .n) (c .before .loop .inv) (c .loop-test .left))
+returns c =
+    let start = c .before .before .before in
+    (c .before .loop .inv .small, reads-all (start .args .strip .now) (start .args .from) (start .args .n) (c .before .loop .inv) (c .loop-test .left))
 
 pub top-first-spec : {M : Type 1} → statement M
 top-first-spec =

@@ -21,7 +21,15 @@ same-length-2 : tie.Need-same-length-2
 same-length-2 c = search needs
 
 returns-2 : tie.Need-returns-2
-returns-2 c = ((λ outer ins outs f t a b. exchanges t (c .before .before .before .before .before .before .before .before .pre .1) (c .before .before .before .before .before .under .ensures outer ins f t a) (c .before .before .before .before .if1 .left) (λ below h. c .before .before .leave .ensures .0 below outs h b)), c .before .before .leave .ensures .1)
+returns-2 c =
+    let at-leave = c .before .before in
+    let at-if1 = at-leave .before .before in
+    let at-under = at-if1 .before in
+    let start = at-under .before .before .before in (
+      (λ outer ins outs f t a b. exchanges t (start .pre .1) (at-under .under .ensures outer ins f t a) (at-if1 .if1 .left)
+          (λ below h. at-leave .leave .ensures .0 below outs h b)),
+      at-leave .leave .ensures .1,
+    )
 
 pub exchange-spec : {M : Type 1} → statement M
 exchange-spec =

@@ -36,7 +36,11 @@ add-result-2 : tie.Need-add-result-2 Inv-loop μ-loop
 add-result-2 c = search needs
 
 returns-3 : tie.Need-returns-3 Inv-loop μ-loop
-returns-3 c = λ outer ins f t e. other-there (c .before .before .before .before .loop .inv) outer ins f t e (c .before .before .before .loop-test .taken) (c .before .before .if1 .left) (c .if3 .taken) 65 (omega arith)
+returns-3 c =
+    let at-if1 = c .before .before in
+    let at-loop-test = at-if1 .before in
+    let at-loop = at-loop-test .before in
+    λ outer ins f t e. other-there (at-loop .loop .inv) outer ins f t e (at-loop-test .loop-test .taken) (at-if1 .if1 .left) (c .if3 .taken) 65 (omega arith)
 
 sub-base : tie.Need-sub-base Inv-loop μ-loop
 sub-base c = omega (arith, c .before .before .before .before .loop .inv .least, c .before .before .if1 .left)

@@ -33,11 +33,13 @@ same-length : tie.Need-same-length
 same-length c = search needs
 
 returns-2 : tie.Need-returns-2
-returns-2 c = (
-  (λ i ls rs fs kinds e is w.
-      begins (c .before .before .before .args .looped) (c .before .before .before .args .block) (c .word-of .result) (omega (arith, c .before .before .before .pre .2, c .before .if1 .left)) (c .before .before .before .pre .3) (c .word-of .ensures) (subst (λ (x : ℕ). isBlockType x ≡ true) (sym e) is) (sym e) w),
-  λ z. let start = c .before .before .before in one-set (start .args .blocks .now) (start .args .state .nest) (c .word-of .result),
-)
+returns-2 c =
+    let start = c .before .before .before in (
+      (λ i ls rs fs kinds e is w.
+          begins (start .args .looped) (start .args .block) (c .word-of .result) (omega (arith, start .pre .2, c .before .if1 .left)) (start .pre .3)
+          (c .word-of .ensures) (subst (λ (x : ℕ). isBlockType x ≡ true) (sym e) is) (sym e) w),
+      λ z. one-set (start .args .blocks .now) (start .args .state .nest) (c .word-of .result),
+    )
 
 pub begin-spec : {M : Type 1} → statement M
 begin-spec =

@@ -12,10 +12,17 @@ refused-requires : tie.Need-refused-requires
 refused-requires c κs = search needs
 
 returns : tie.Need-returns
-returns c = λ i ls rs fs blocks g w. as-coded (c .refused .ensures) (branches-lacks (c .before .before .before .before .args .takes) (c .before .before .under .result) (c .before .before .before .before .pre .1) (c .before .before .under .ensures) g w (c .before .if1 .taken))
+returns c =
+    let at-under = c .before .before in
+    let start = at-under .before .before in
+    λ i ls rs fs blocks g w. as-coded (c .refused .ensures) (branches-lacks (start .args .takes) (at-under .under .result) (start .pre .1)
+    (at-under .under .ensures) g w (c .before .if1 .taken))
 
 returns-2 : tie.Need-returns-2
-returns-2 c = λ i ls rs fs blocks g w. branches-done (c .before .before .before .args .takes) (c .before .under .result) (c .before .before .before .pre .1) (c .before .under .ensures) g w (c .if1 .left) (c .before .before .before .pre .0)
+returns-2 c =
+    let start = c .before .before .before in
+    λ i ls rs fs blocks g w. branches-done (start .args .takes) (c .before .under .result) (start .pre .1) (c .before .under .ensures) g w
+    (c .if1 .left) (start .pre .0)
 
 pub branch-spec : {M : Type 1} → statement M
 branch-spec = tie.close (tie.spec under-requires refused-requires returns returns-2)

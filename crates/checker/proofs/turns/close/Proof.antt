@@ -31,13 +31,18 @@ same-length : tie.Need-same-length
 same-length c = search needs
 
 returns : tie.Need-returns
-returns c = (
-  (λ i ls rs fs w.
-      let k = closing (w .nested) (c .before .before .before .before .before .before .before .before .before .pre .0) in
-      let r = results-number w k (c .before .before .before .before .results-in .result) (c .before .before .before .before .results-in .ensures .1 (k .outer-floor) (k .type) (k .top .loop) (k .outer-dead) (closing-small w k) (k .is-type) (k .word-is)) in
-      as-coded (c .refused .ensures) (closes-not w k (c .before .before .under .ensures _ (k .top .results) (k .top) (closing-top w k) (r .0)) (λ e. omega (arith, e, c .before .if1 .taken, c .before .before .before .before .before .before .before .before .before .pre .2, c .before .before .before .before .before .before .before .before .before .pre .3)))),
-  λ z. refl,
-)
+returns c =
+    let at-under = c .before .before in
+    let at-results-in = at-under .before .before in
+    let start = at-results-in .before .before .before .before .before in (
+      (λ i ls rs fs w.
+          let k = closing (w .nested) (start .pre .0) in
+          let r = results-number w k (at-results-in .results-in .result)
+          (at-results-in .results-in .ensures .1 (k .outer-floor) (k .type) (k .top .loop) (k .outer-dead) (closing-small w k) (k .is-type) (k .word-is)) in
+          as-coded (c .refused .ensures) (closes-not w k (at-under .under .ensures _ (k .top .results) (k .top) (closing-top w k) (r .0))
+          (λ e. omega (arith, e, c .before .if1 .taken, start .pre .2, start .pre .3)))),
+      λ z. refl,
+    )
 
 leave-requires : tie.Need-leave-requires
 leave-requires c κs = search needs
@@ -52,18 +57,24 @@ same-length-2 : tie.Need-same-length-2
 same-length-2 c = search needs
 
 returns-2 : tie.Need-returns-2
-returns-2 c = (
-  (λ i ls rs fs w.
-      let k = closing (w .nested) (c .before .before .before .before .before .before .before .before .before .before .before .before .before .before .pre .0) in
-      let r = results-number w k (c .before .before .before .before .before .before .before .before .before .results-in .result) (c .before .before .before .before .before .before .before .before .before .results-in .ensures .1 (k .outer-floor) (k .type) (k .top .loop) (k .outer-dead) (closing-small w k) (k .is-type) (k .word-is)) in
-      let u = c .before .before .before .before .before .before .before .under .ensures _ (k .top .results) (k .top) (closing-top w k) (r .0) in
-      let small = type-small (k .type) (k .is-type) in
-      closes-by w k u (ends-here u (omega (arith, c .before .before .before .before .before .before .if1 .left)) (omega (arith, c .before .before .before .before .before .before .before .before .before .before .before .before .before .before .pre .2, c .before .before .before .before .before .before .before .before .before .before .before .before .before .before .pre .3)))
-      (c .before .floor-in .ensures (k .outer-floor) (k .type) (k .top .loop) (k .outer-dead) (closing-small w k) small (k .word-is))
-      (c .dead-in .ensures (k .outer-floor) (k .type) (k .top .loop) (k .outer-dead) (closing-small w k) small (k .word-is))
-      (c .before .before .before .before .leave .ensures .0 _ (k .top .results) (closing-held w k) (r .1))),
-  c .before .before .before .before .leave .ensures .1,
-)
+returns-2 c =
+    let at-leave = c .before .before .before .before in
+    let at-if1 = at-leave .before .before in
+    let at-under = at-if1 .before in
+    let at-results-in = at-under .before .before in
+    let start = at-results-in .before .before .before .before .before in (
+      (λ i ls rs fs w.
+          let k = closing (w .nested) (start .pre .0) in
+          let r = results-number w k (at-results-in .results-in .result)
+          (at-results-in .results-in .ensures .1 (k .outer-floor) (k .type) (k .top .loop) (k .outer-dead) (closing-small w k) (k .is-type) (k .word-is)) in
+          let u = at-under .under .ensures _ (k .top .results) (k .top) (closing-top w k) (r .0) in
+          let small = type-small (k .type) (k .is-type) in
+          closes-by w k u (ends-here u (omega (arith, at-if1 .if1 .left)) (omega (arith, start .pre .2, start .pre .3)))
+          (c .before .floor-in .ensures (k .outer-floor) (k .type) (k .top .loop) (k .outer-dead) (closing-small w k) small (k .word-is))
+          (c .dead-in .ensures (k .outer-floor) (k .type) (k .top .loop) (k .outer-dead) (closing-small w k) small (k .word-is))
+          (at-leave .leave .ensures .0 _ (k .top .results) (closing-held w k) (r .1))),
+      at-leave .leave .ensures .1,
+    )
 
 pub close-spec : {M : Type 1} → statement M
 close-spec =

@@ -23,11 +23,15 @@ same-length : tie.Need-same-length
 same-length c = search needs
 
 returns-2 : tie.Need-returns-2
-returns-2 c = (
-  (λ i ls rs fs e t few w.
-      as-br-if (c .before .before .before .before .if2 .taken) (c .before .before .may-branch .ensures .0 i ls rs fs _ (as-label e (c .before .before .before .before .before .takes .ensures .1 rs fs _ _ t few (w .nested) (w .within .values))) w)),
-  c .before .before .may-branch .ensures .1,
-)
+returns-2 c =
+    let at-may-branch = c .before .before in
+    let at-if2 = at-may-branch .before .before in
+    let at-takes = at-if2 .before in (
+      (λ i ls rs fs e t few w.
+          as-br-if (at-if2 .if2 .taken) (at-may-branch .may-branch .ensures .0 i ls rs fs _
+          (as-label e (at-takes .takes .ensures .1 rs fs _ _ t few (w .nested) (w .within .values))) w)),
+      at-may-branch .may-branch .ensures .1,
+    )
 
 branch-requires : tie.Need-branch-requires
 branch-requires c κs = search needs

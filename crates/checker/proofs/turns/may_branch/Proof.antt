@@ -23,7 +23,14 @@ same-length : tie.Need-same-length
 same-length c = search needs
 
 returns : tie.Need-returns
-returns c = ((λ i ls rs fs blocks g w. may-branches (c .before .before .before .before .before .before .args .takes) (c .before .before .before .before .flipped .result) (c .before .before .before .before .flipped .ensures) (c .before .before .exchange .ensures .0) g w), c .before .before .exchange .ensures .1)
+returns c =
+    let at-exchange = c .before .before in
+    let at-flipped = at-exchange .before .before in
+    let start = at-flipped .before .before in (
+      (λ i ls rs fs blocks g w. may-branches (start .args .takes) (at-flipped .flipped .result) (at-flipped .flipped .ensures)
+          (at-exchange .exchange .ensures .0) g w),
+      at-exchange .exchange .ensures .1,
+    )
 
 pub may-branch-spec : {M : Type 1} → statement M
 may-branch-spec =

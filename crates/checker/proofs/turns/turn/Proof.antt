@@ -10,7 +10,17 @@ group-requires : tie.Need-group-requires
 group-requires c κs = search needs
 
 close-requires : tie.Need-close-requires
-close-requires c κs = let r = c .before .before .before .before .before .before .before .pre in (r .end-inner (sym (c .before .before .before .group .ensures) ∙ c .before .before .if1 .taken), omega (arith, r .nest-in, r .blocks-long), r .floor-in, r .depth-in, r .kinds-long)
+close-requires c κs =
+    let at-if1 = c .before .before in
+    let at-group = at-if1 .before in
+    let start = at-group .before .before .before .before in
+    let r = start .pre in (
+      r .end-inner (sym (at-group .group .ensures) ∙ at-if1 .if1 .taken),
+      omega (arith, r .nest-in, r .blocks-long),
+      r .floor-in,
+      r .depth-in,
+      r .kinds-long,
+    )
 
 same-length : tie.Need-same-length
 same-length c = search needs
@@ -19,7 +29,13 @@ same-length-2 : tie.Need-same-length-2
 same-length-2 c = search needs
 
 returns : tie.Need-returns
-returns c = ((λ v i ls rs fs x. as-end x (c .before .before .before .before .before .before .group .ensures) (c .before .before .before .before .before .if1 .taken) (c .before .before .close .ensures .0 i ls rs fs (x .framed))), (c .before .before .close .ensures .1, λ z. refl))
+returns c =
+    let at-close = c .before .before in
+    let at-if1 = at-close .before .before .before in
+    let at-group = at-if1 .before in (
+      (λ v i ls rs fs x. as-end x (at-group .group .ensures) (at-if1 .if1 .taken) (at-close .close .ensures .0 i ls rs fs (x .framed))),
+      (at-close .close .ensures .1, λ z. refl),
+    )
 
 straight-requires : tie.Need-straight-requires
 straight-requires c κs = search needs
@@ -28,21 +44,44 @@ same-length-3 : tie.Need-same-length-3
 same-length-3 c = search needs
 
 returns-2 : tie.Need-returns-2
-returns-2 c = (
-  (λ v i ls rs fs x.
-      c .before .before .straight .ensures .0 v i ls rs fs _ (x .row) (is-ordinary x (c .before .before .before .before .before .before .group .ensures) (c .before .before .before .before .before .if1 .left) (c .before .before .before .before .if2 .taken)) (named x (c .before .before .before .before .before .before .group .ensures) (c .before .before .before .before .before .if1 .left) (c .before .before .before .before .if2 .taken)) (x .locals-are) (x .framed)),
-  (c .before .before .straight .ensures .1, λ z. refl),
-)
+returns-2 c =
+    let at-straight = c .before .before in
+    let at-if2 = at-straight .before .before in
+    let at-if1 = at-if2 .before in
+    let at-group = at-if1 .before in (
+      (λ v i ls rs fs x.
+          at-straight .straight .ensures .0 v i ls rs fs _ (x .row)
+          (is-ordinary x (at-group .group .ensures) (at-if1 .if1 .left) (at-if2 .if2 .taken))
+          (named x (at-group .group .ensures) (at-if1 .if1 .left) (at-if2 .if2 .taken)) (x .locals-are) (x .framed)),
+      (at-straight .straight .ensures .1, λ z. refl),
+    )
 
 begin-requires : tie.Need-begin-requires
-begin-requires c κs = let r = c .before .before .before .before .before .before .before .before .pre in
-    (r .type-in (omega (arith, c .before .before .before .before .group .ensures, c .before .before .if2 .left)) (omega (arith, c .before .before .before .before .group .ensures, c .before .if3 .taken)), omega (arith, r .floor-in, r .depth-in), r .nest-in, r .blocks-long)
+begin-requires c κs =
+    let at-if2 = c .before .before in
+    let at-group = at-if2 .before .before in
+    let start = at-group .before .before .before .before in
+    let r = start .pre in (
+      r .type-in (omega (arith, at-group .group .ensures, at-if2 .if2 .left)) (omega (arith, at-group .group .ensures, c .before .if3 .taken)),
+      omega
+          (arith, r .floor-in, r .depth-in),
+      r .nest-in,
+      r .blocks-long,
+    )
 
 same-length-4 : tie.Need-same-length-4
 same-length-4 c = search needs
 
 returns-3 : tie.Need-returns-3
-returns-3 c = ((λ v i ls rs fs x. as-opener x (c .before .before .before .before .before .before .before .group .ensures) (c .before .before .before .before .before .if2 .left) (c .before .before .before .before .if3 .taken) (λ e t. c .before .before .begin .ensures .0 i ls rs fs _ e t (x .framed))), (λ z. refl, c .before .before .begin .ensures .1))
+returns-3 c =
+    let at-begin = c .before .before in
+    let at-if3 = at-begin .before .before in
+    let at-if2 = at-if3 .before in
+    let at-group = at-if2 .before .before in (
+      (λ v i ls rs fs x. as-opener x (at-group .group .ensures) (at-if2 .if2 .left) (at-if3 .if3 .taken)
+          (λ e t. at-begin .begin .ensures .0 i ls rs fs _ e t (x .framed))),
+      (λ z. refl, at-begin .begin .ensures .1),
+    )
 
 jump-requires : tie.Need-jump-requires
 jump-requires c κs = search needs
@@ -54,7 +93,14 @@ same-length-6 : tie.Need-same-length-6
 same-length-6 c = search needs
 
 returns-4 : tie.Need-returns-4
-returns-4 c = ((λ v i ls rs fs x. as-brancher x (c .before .before .before .before .before .before .before .before .group .ensures) (c .before .before .before .before .before .if3 .left) (λ e. c .before .before .jump .ensures .0 i ls rs fs e (x .results-are) (x .few) (x .framed))), (c .before .before .jump .ensures .1, λ z. refl))
+returns-4 c =
+    let at-jump = c .before .before in
+    let at-if3 = at-jump .before .before .before in
+    let at-group = at-if3 .before .before .before in (
+      (λ v i ls rs fs x. as-brancher x (at-group .group .ensures) (at-if3 .if3 .left)
+          (λ e. at-jump .jump .ensures .0 i ls rs fs e (x .results-are) (x .few) (x .framed))),
+      (at-jump .jump .ensures .1, λ z. refl),
+    )
 
 pub turn-spec : {M : Type 1} → statement M
 turn-spec =

@@ -21,11 +21,15 @@ same-length-2 : tie.Need-same-length-2
 same-length-2 c = search needs
 
 returns-2 : tie.Need-returns-2
-returns-2 c = (
-  (λ v ls outer f row o h t.
-      gives-applies (c .before .before .before .before .before .effect-of .ensures v ls outer f row o h (same-dead t)) (c .before .before .before .before .if1 .left) (λ ins outs small is. c .before .before .apply .ensures .0 outer ins outs f t small is)),
-  c .before .before .apply .ensures .1,
-)
+returns-2 c =
+    let at-apply = c .before .before in
+    let at-if1 = at-apply .before .before in
+    let at-effect-of = at-if1 .before in (
+      (λ v ls outer f row o h t.
+          gives-applies (at-effect-of .effect-of .ensures v ls outer f row o h (same-dead t)) (at-if1 .if1 .left)
+          (λ ins outs small is. at-apply .apply .ensures .0 outer ins outs f t small is)),
+      at-apply .apply .ensures .1,
+    )
 
 pub judge-spec : {M : Type 1} → statement M
 judge-spec =

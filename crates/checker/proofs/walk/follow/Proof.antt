@@ -18,7 +18,9 @@ cast-locals : tie.Need-cast-locals
 cast-locals c = omega (arith, c .before .before .before .shared-slice-known .given 5 .fits)
 
 shared-slice-read-locals-2 : tie.Need-shared-slice-read-locals-2
-shared-slice-read-locals-2 c = omega (arith, inside (c .before .before .before .before .before .pre .0))
+shared-slice-read-locals-2 c =
+    let start = c .before .before .before .before .before in
+    omega (arith, inside (start .pre .0))
 
 cast-locals-2 : tie.Need-cast-locals-2
 cast-locals-2 c = omega (arith, c .before .before .before .before .shared-slice-known .given 6 .fits)
@@ -30,22 +32,40 @@ add-top-first : tie.Need-add-top-first
 add-top-first c = omega (arith, c .before .before .before .before .shared-slice-known .given 5 .fits, c .before .before .before .before .shared-slice-known .given 6 .fits)
 
 shared-slice-read-top-first : tie.Need-shared-slice-read-top-first
-shared-slice-read-top-first c = omega (arith, inside (c .before .before .before .before .before .before .pre .0))
+shared-slice-read-top-first c =
+    let start = c .before .before .before .before .before .before in
+    omega (arith, inside (start .pre .0))
 
 cast-top-first : tie.Need-cast-top-first
-cast-top-first c = omega (arith, c .before .before .before .before .before .shared-slice-known .given 7 .fits)
+cast-top-first c =
+    let at-shared-slice-known = c .before .before .before .before .before in
+    omega (arith, at-shared-slice-known .shared-slice-known .given 7 .fits)
 
 top-first-requires : tie.Need-top-first-requires
-top-first-requires c κs = inside (c .before .before .before .before .before .before .pre .0)
+top-first-requires c κs =
+    let start = c .before .before .before .before .before .before in
+    inside (start .pre .0)
 
 is-last-requires : tie.Need-is-last-requires
 is-last-requires c κs = search needs
 
 returns : tie.Need-returns
-returns c = last-step (c .before .before .before .before .before .before .before .before .before .pre .0) (c .before .before .top-first .ensures) (λ j. c .before .before .before .before .before .before .before .before .shared-slice-known .given j .fits) (c .before .before .before .before .before .before .before .before .before .args .d) (c .before .before .before .before .before .before .before .before .before .pre .1) (sym (c .before .is-last .ensures) ∙ c .if1 .taken)
+returns c =
+    let at-top-first = c .before .before in
+    let at-shared-slice-known = at-top-first .before .before .before .before .before .before in
+    let start = at-shared-slice-known .before in
+    last-step (start .pre .0) (at-top-first .top-first .ensures) (λ j. at-shared-slice-known .shared-slice-known .given j .fits) (start .args .d)
+    (start .pre .1) (sym (c .before .is-last .ensures) ∙ c .if1 .taken)
 
 turn-requires : tie.Need-turn-requires
-turn-requires c κs = turn-ready (c .before .before .before .before .before .before .before .before .before .before .before .pre .0) (c .before .before .before .before .top-first .ensures) (λ j. c .before .before .before .before .before .before .before .before .before .before .shared-slice-known .given j .fits) (c .before .before .before .before .before .before .before .before .before .before .before .args .d) (c .before .before .before .before .before .before .before .before .before .before .before .pre .1) (sym (c .before .before .before .is-last .ensures) ∙ c .before .before .if1 .left)
+turn-requires c κs =
+    let at-if1 = c .before .before in
+    let at-is-last = at-if1 .before in
+    let at-top-first = at-is-last .before in
+    let at-shared-slice-known = at-top-first .before .before .before .before .before .before in
+    let start = at-shared-slice-known .before in
+    turn-ready (start .pre .0) (at-top-first .top-first .ensures) (λ j. at-shared-slice-known .shared-slice-known .given j .fits) (start .args .d)
+    (start .pre .1) (sym (at-is-last .is-last .ensures) ∙ at-if1 .if1 .left)
 
 same-length : tie.Need-same-length
 same-length c = search needs
@@ -54,7 +74,16 @@ same-length-2 : tie.Need-same-length-2
 same-length-2 c = search needs
 
 returns-2 : tie.Need-returns-2
-returns-2 c = next-step (c .before .before .before .before .before .before .before .before .before .before .before .before .before .before .before .before .pre .0) (c .before .before .before .before .before .before .before .before .before .top-first .ensures) (λ j. c .before .before .before .before .before .before .before .before .before .before .before .before .before .before .before .shared-slice-known .given j .fits) (c .before .before .before .before .before .before .before .before .before .before .before .before .before .before .before .before .args .d) (c .before .before .before .before .before .before .before .before .before .before .before .before .before .before .before .before .pre .1) (sym (c .before .before .before .before .before .before .before .before .is-last .ensures) ∙ c .before .before .before .before .before .before .before .if1 .left) (c .before .before .before .before .turn .result) (c .before .before .before .before .turn .ensures .0) (c .before .before .before .before .turn .ensures .1) (search needs) (search needs)
+returns-2 c =
+    (let at-turn = c .before .before .before .before in
+    let at-if1 = at-turn .before .before .before in
+    let at-is-last = at-if1 .before in
+    let at-top-first = at-is-last .before in
+    let at-shared-slice-known = at-top-first .before .before .before .before .before .before in
+    let start = at-shared-slice-known .before in
+    next-step (start .pre .0) (at-top-first .top-first .ensures) (λ j. at-shared-slice-known .shared-slice-known .given j .fits) (start .args .d)
+    (start .pre .1) (sym (at-is-last .is-last .ensures) ∙ at-if1 .if1 .left) (at-turn .turn .result) (at-turn .turn .ensures .0)
+    (at-turn .turn .ensures .1)) (search needs) (search needs)
 
 pub follow-spec : {M : Type 1} → statement M
 follow-spec =

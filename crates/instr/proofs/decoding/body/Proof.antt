@@ -99,10 +99,12 @@ returns-9 c row is =
 
 returns-10 : tie.Need-returns-10
 returns-10 c row is =
-    let at-immediates = c .before .before .before .before .before in
-    let at-match = c .before .before .before .before in
-    let at-if1 = c .before .before .before in
-    c .with-memory .ensures ∙ body-memory row _ (at-immediates .immediates .ensures ∙ class-in row is) _ _ _ _ _ _ _ (c .before .before .moved .ensures ∙ moved-in row is)
+    let at-moved = c .before .before in
+    let at-if1 = at-moved .before in
+    let at-match = at-if1 .before in
+    let at-immediates = at-match .before in
+    c .with-memory .ensures ∙ body-memory row _ (at-immediates .immediates .ensures ∙ class-in row is) _ _ _ _ _ _ _
+    (at-moved .moved .ensures ∙ moved-in row is)
     (c .before .lanes2 .ensures ∙ lanes-in row is) refl (at-match .match .rest)
     (at-if1 .if1 .taken)
 

@@ -26,8 +26,13 @@ not-found-requires : tie.Need-not-found-requires
 not-found-requires c κs = rw (c .refused .ensures) refl
 
 returns : tie.Need-returns
-returns c = let a = c .before .before .before .before .before .args in
-    c .not-found .ensures ∙ ap fetchOf (c .before .refused .ensures ∙ sym (decode-unknown (a .version) (c .before .before .before .is-known .ensures) (now (a .s)) (a .at) (c .before .before .if1 .taken)))
+returns c =
+    let at-if1 = c .before .before in
+    let at-is-known = at-if1 .before in
+    let start = at-is-known .before .before in
+    let a = start .args in
+    c .not-found .ensures ∙ ap fetchOf (c .before .refused .ensures ∙ sym
+    (decode-unknown (a .version) (at-is-known .is-known .ensures) (now (a .s)) (a .at) (at-if1 .if1 .taken)))
 
 refused-requires-2 : tie.Need-refused-requires-2
 refused-requires-2 c κs = search needs
@@ -36,8 +41,14 @@ not-found-requires-2 : tie.Need-not-found-requires-2
 not-found-requires-2 c κs = rw (c .refused2 .ensures) refl
 
 returns-2 : tie.Need-returns-2
-returns-2 c = let a = c .before .before .before .before .before .before .args in
-    c .not-found2 .ensures ∙ ap fetchOf (c .before .refused2 .ensures ∙ sym (decode-known (a .version) (c .before .before .before .before .is-known .ensures) (now (a .s)) (a .at) (c .before .before .before .if1 .left) ∙ decode-cut _ _ _ (c .before .before .if2 .taken)))
+returns-2 c =
+    let at-if2 = c .before .before in
+    let at-if1 = at-if2 .before in
+    let at-is-known = at-if1 .before in
+    let start = at-is-known .before .before in
+    let a = start .args in
+    c .not-found2 .ensures ∙ ap fetchOf (c .before .refused2 .ensures ∙ sym
+    (decode-known (a .version) (at-is-known .is-known .ensures) (now (a .s)) (a .at) (at-if1 .if1 .left) ∙ decode-cut _ _ _ (at-if2 .if2 .taken)))
 
 shared-slice-read-first : tie.Need-shared-slice-read-first
 shared-slice-read-first c = search needs
@@ -52,10 +63,15 @@ enum-known-n : tie.Need-enum-known-n
 enum-known-n c = search needs
 
 cast-number : tie.Need-cast-number
-cast-number c = omega (
-  arith,
-  opcode-there _ (λ j. c .before .before .before .before .shared-slice-known2 .given j .fits) _ _ _ _ (omega (arith, c .before .before .before .before .before .if2 .left)) (sym (c .before .before .before .opcode-number .ensures) ∙ ap item (c .before .n .given .1)),
-)
+cast-number c =
+    let at-opcode-number = c .before .before .before in
+    let at-shared-slice-known2 = at-opcode-number .before in
+    let at-if2 = at-shared-slice-known2 .before in
+    omega (
+      arith,
+      opcode-there _ (λ j. at-shared-slice-known2 .shared-slice-known2 .given j .fits) _ _ _ _ (omega (arith, at-if2 .if2 .left))
+          (sym (at-opcode-number .opcode-number .ensures) ∙ ap item (c .before .n .given .1)),
+    )
 
 id-in-requires : tie.Need-id-in-requires
 id-in-requires c κs = search needs
@@ -64,19 +80,41 @@ entry-requires : tie.Need-entry-requires
 entry-requires c κs = search needs
 
 body-requires : tie.Need-body-requires
-body-requires c κs = let t = opcode-there _ (λ j. c .before .before .before .before .before .before .shared-slice-known2 .given j .fits) _ _ _ _ (omega (arith, c .before .before .before .before .before .before .before .if2 .left)) (sym (c .before .before .before .before .before .opcode-number .ensures) ∙ ap item (c .before .before .before .n .given .1)) in
+body-requires c κs =
+    let at-n = c .before .before .before in
+    let at-opcode-number = at-n .before .before in
+    let at-shared-slice-known2 = at-opcode-number .before in
+    let at-if2 = at-shared-slice-known2 .before in
+    let t = opcode-there _ (λ j. at-shared-slice-known2 .shared-slice-known2 .given j .fits) _ _ _ _ (omega (arith, at-if2 .if2 .left))
+    (sym (at-opcode-number .opcode-number .ensures) ∙ ap item (at-n .n .given .1)) in
     let r = rowOf (c .before .id-in .result) in
     omega (arith, t, moved-in r (c .entry .ensures), row-moved-small r)
 
 not-found-requires-3 : tie.Need-not-found-requires-3
-not-found-requires-3 c κs = let is = c .before .before .body .ensures _ (c .before .before .before .entry .ensures ∙ ap entryOf (c .before .before .before .before .id-in .ensures)) in
-    subst (Named _) (sym is) (body-named _ _ _ _ _ _ _ (c .before .before .before .before .before .before .before .before .before .shared-slice-known2 .given _ .fits) (c .before .before .before .before .id-in .ensures)) .untold (c .if3 .taken)
+not-found-requires-3 c κs =
+    let at-body = c .before .before in
+    let at-entry = at-body .before in
+    let at-id-in = at-entry .before in
+    let at-shared-slice-known2 = at-id-in .before .before .before .before .before in
+    let is = at-body .body .ensures _ (at-entry .entry .ensures ∙ ap entryOf (at-id-in .id-in .ensures)) in
+    subst (Named _) (sym is) (body-named _ _ _ _ _ _ _ (at-shared-slice-known2 .shared-slice-known2 .given _ .fits)
+    (at-id-in .id-in .ensures)) .untold (c .if3 .taken)
 
 returns-3 : tie.Need-returns-3
-returns-3 c = let a = c .before .before .before .before .before .before .before .before .before .before .before .before .before .before .before .args in
-    let is = c .before .before .before .body .ensures _ (c .before .before .before .before .entry .ensures ∙ ap entryOf (c .before .before .before .before .before .id-in .ensures)) in
-    let body = decode-body _ _ _ (c .before .before .before .before .before .before .before .before .before .before .before .if2 .left) _ _ (sym (c .before .before .before .before .before .before .before .before .before .opcode-number .ensures) ∙ ap item (c .before .before .before .before .before .before .before .n .given .1)) in
-    c .not-found3 .ensures ∙ ap fetchOf (is ∙ sym (decode-known (a .version) (c .before .before .before .before .before .before .before .before .before .before .before .before .before .is-known .ensures) (now (a .s)) (a .at) (c .before .before .before .before .before .before .before .before .before .before .before .before .if1 .left) ∙ body))
+returns-3 c =
+    let at-body = c .before .before .before in
+    let at-entry = at-body .before in
+    let at-id-in = at-entry .before in
+    let at-n = at-id-in .before .before in
+    let at-opcode-number = at-n .before .before in
+    let at-if2 = at-opcode-number .before .before in
+    let at-if1 = at-if2 .before in
+    let at-is-known = at-if1 .before in
+    let start = at-is-known .before .before in
+    let a = start .args in
+    let is = at-body .body .ensures _ (at-entry .entry .ensures ∙ ap entryOf (at-id-in .id-in .ensures)) in
+    let body = decode-body _ _ _ (at-if2 .if2 .left) _ _ (sym (at-opcode-number .opcode-number .ensures) ∙ ap item (at-n .n .given .1)) in
+    c .not-found3 .ensures ∙ ap fetchOf (is ∙ sym (decode-known (a .version) (at-is-known .is-known .ensures) (now (a .s)) (a .at) (at-if1 .if1 .left) ∙ body))
 
 enum-known-code : tie.Need-enum-known-code
 enum-known-code c = search needs
@@ -88,16 +126,36 @@ not-found-requires-4 : tie.Need-not-found-requires-4
 not-found-requires-4 c κs = rw (c .refused3 .ensures) refl
 
 returns-4 : tie.Need-returns-4
-returns-4 c = let a = c .before .before .before .before .before .before .before .before .before .before .before .before .before .before .args in
-    let is = c .before .before .body .ensures _ (c .before .before .before .entry .ensures ∙ ap entryOf (c .before .before .before .before .id-in .ensures)) in
-    let body = decode-body _ _ _ (c .before .before .before .before .before .before .before .before .before .before .if2 .left) _ _ (sym (c .before .before .before .before .before .before .before .before .opcode-number .ensures) ∙ ap item (c .before .before .before .before .before .before .n .given .1)) in
-    let named = subst (Named _) (sym is) (body-named _ _ _ _ _ _ _ (c .before .before .before .before .before .before .before .before .before .shared-slice-known2 .given _ .fits) (c .before .before .before .before .id-in .ensures)) in
-    fetched _ _ _ (named .told (c .if3 .left)) (c .before .before .before .entry .ensures) ∙ ap fetchOf (is ∙ sym (decode-known (a .version) (c .before .before .before .before .before .before .before .before .before .before .before .before .is-known .ensures) (now (a .s)) (a .at) (c .before .before .before .before .before .before .before .before .before .before .before .if1 .left) ∙ body))
+returns-4 c =
+    let at-body = c .before .before in
+    let at-entry = at-body .before in
+    let at-id-in = at-entry .before in
+    let at-n = at-id-in .before .before in
+    let at-opcode-number = at-n .before .before in
+    let at-shared-slice-known2 = at-opcode-number .before in
+    let at-if2 = at-shared-slice-known2 .before in
+    let at-if1 = at-if2 .before in
+    let at-is-known = at-if1 .before in
+    let start = at-is-known .before .before in
+    let a = start .args in
+    let is = at-body .body .ensures _ (at-entry .entry .ensures ∙ ap entryOf (at-id-in .id-in .ensures)) in
+    let body = decode-body _ _ _ (at-if2 .if2 .left) _ _ (sym (at-opcode-number .opcode-number .ensures) ∙ ap item (at-n .n .given .1)) in
+    let named = subst (Named _) (sym is) (body-named _ _ _ _ _ _ _ (at-shared-slice-known2 .shared-slice-known2 .given _ .fits) (at-id-in .id-in .ensures)) in
+    fetched _ _ _ (named .told (c .if3 .left)) (at-entry .entry .ensures) ∙ ap fetchOf
+    (is ∙ sym (decode-known (a .version) (at-is-known .is-known .ensures) (now (a .s)) (a .at) (at-if1 .if1 .left) ∙ body))
 
 returns-5 : tie.Need-returns-5
-returns-5 c = let a = c .before .before .before .before .before .before .before .before .before .before .before .args in
-    let number = sym (c .before .before .before .before .before .opcode-number .ensures) ∙ ap item (c .before .before .before .code .given .1) in
-    c .not-found4 .ensures ∙ ap fetchOf (c .before .refused3 .ensures ∙ sym (decode-known (a .version) (c .before .before .before .before .before .before .before .before .before .is-known .ensures) (now (a .s)) (a .at) (c .before .before .before .before .before .before .before .before .if1 .left) ∙ decode-number _ _ _ (c .before .before .before .before .before .before .before .if2 .left) _ _ number))
+returns-5 c =
+    let at-code = c .before .before .before in
+    let at-opcode-number = at-code .before .before in
+    let at-if2 = at-opcode-number .before .before in
+    let at-if1 = at-if2 .before in
+    let at-is-known = at-if1 .before in
+    let start = at-is-known .before .before in
+    let a = start .args in
+    let number = sym (at-opcode-number .opcode-number .ensures) ∙ ap item (at-code .code .given .1) in
+    c .not-found4 .ensures ∙ ap fetchOf (c .before .refused3 .ensures ∙ sym
+    (decode-known (a .version) (at-is-known .is-known .ensures) (now (a .s)) (a .at) (at-if1 .if1 .left) ∙ decode-number _ _ _ (at-if2 .if2 .left) _ _ number))
 
 pub fetch-spec : {M : Type 1} → statement M
 fetch-spec =

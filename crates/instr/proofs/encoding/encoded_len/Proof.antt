@@ -23,14 +23,21 @@ immediates-requires c κs = search needs
 
 immediates-len-requires : tie.Need-immediates-len-requires
 immediates-len-requires c κs =
-    let i = c .before .before .before .before .args .i in
-    c .immediates .ensures ∙ class-in (rowOf (c .before .before .before .id-of .result)) (c .before .before .entry .ensures) ∙ ap classOf (row-in (i .first) (i .number) _ (search needs) (c .before .before .before .id-of .ensures))
+    let at-entry = c .before .before in
+    let at-id-of = at-entry .before in
+    let start = at-id-of .before in
+    let i = start .args .i in
+    c .immediates .ensures ∙ class-in (rowOf (at-id-of .id-of .result)) (at-entry .entry .ensures) ∙ ap classOf
+    (row-in (i .first) (i .number) _ (search needs) (at-id-of .id-of .ensures))
 
 add-result : tie.Need-add-result
 add-result c = search needs
 
 returns : tie.Need-returns
-returns c = omega (arith, encoding-length (c .before .before .before .before .before .args .i), c .before .before .opcode-len .ensures .0, c .immediates-len .ensures .0)
+returns c =
+    let at-opcode-len = c .before .before in
+    let start = at-opcode-len .before .before .before in
+    omega (arith, encoding-length (start .args .i), at-opcode-len .opcode-len .ensures .0, c .immediates-len .ensures .0)
 
 pub encoded-len-spec : {M : Type 1} → statement M
 encoded-len-spec =

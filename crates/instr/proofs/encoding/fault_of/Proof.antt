@@ -35,8 +35,10 @@ moved-requires-2 c κs = search needs
 
 exponent-fault-requires-2 : tie.Need-exponent-fault-requires-2
 exponent-fault-requires-2 c κs =
-    let r = rowOf (c .before .before .before .before .before .before .before .args .id) in
-    omega (arith, c .moved2 .ensures, moved-in r (c .before .before .before .before .before .before .entry .ensures), row-moved-small r)
+    let at-entry = c .before .before .before .before .before .before in
+    let start = at-entry .before in
+    let r = rowOf (start .args .id) in
+    omega (arith, c .moved2 .ensures, moved-in r (at-entry .entry .ensures), row-moved-small r)
 
 wide-requires-2 : tie.Need-wide-requires-2
 wide-requires-2 c κs = search needs
@@ -52,58 +54,105 @@ is-block-type-requires c κs = search needs
 
 returns : tie.Need-returns
 returns c =
-    let r = rowOf (c .before .before .before .before .before .args .id) in
-    let class = sym (c .before .before .before .immediates .ensures ∙ class-in r (c .before .before .before .before .entry .ensures)) in
-    c .exponent-fault .ensures ∙ fault-memory r (c .before .before .before .before .before .args .i) _ (c .before .moved .ensures ∙ moved-in r (c .before .before .before .before .entry .ensures)) (class ∙ c .before .before .match .keys1)
+    let at-match = c .before .before in
+    let at-immediates = at-match .before in
+    let at-entry = at-immediates .before in
+    let start = at-entry .before in
+    let r = rowOf (start .args .id) in
+    let class = sym (at-immediates .immediates .ensures ∙ class-in r (at-entry .entry .ensures)) in
+    c .exponent-fault .ensures ∙ fault-memory r (start .args .i) _ (c .before .moved .ensures ∙ moved-in r (at-entry .entry .ensures))
+    (class ∙ at-match .match .keys1)
 
 returns-2 : tie.Need-returns-2
 returns-2 c =
-    let r = rowOf (c .before .before .before .before .before .before .before .before .args .id) in
-    let class = sym (c .before .before .before .before .before .before .immediates .ensures ∙ class-in r (c .before .before .before .before .before .before .before .entry .ensures)) in
-    c .exponent-fault2 .ensures ∙ fault-memory-lane r (c .before .before .before .before .before .before .before .before .args .i) _ (c .before .before .before .lanes .ensures ∙ lanes-in r (c .before .before .before .before .before .before .before .entry .ensures)) _ (c .before .moved2 .ensures ∙ moved-in r (c .before .before .before .before .before .before .before .entry .ensures))
-    (class ∙ c .before .before .before .before .before .match .keys2) (rw (c .before .before .before .before .wide .ensures) at (c .before .before .if1 .taken))
+    let at-if1 = c .before .before in
+    let at-lanes = at-if1 .before in
+    let at-wide = at-lanes .before in
+    let at-match = at-wide .before in
+    let at-immediates = at-match .before in
+    let at-entry = at-immediates .before in
+    let start = at-entry .before in
+    let r = rowOf (start .args .id) in
+    let class = sym (at-immediates .immediates .ensures ∙ class-in r (at-entry .entry .ensures)) in
+    c .exponent-fault2 .ensures ∙ fault-memory-lane r (start .args .i) _ (at-lanes .lanes .ensures ∙ lanes-in r (at-entry .entry .ensures)) _
+    (c .before .moved2 .ensures ∙ moved-in r (at-entry .entry .ensures))
+    (class ∙ at-match .match .keys2) (rw (at-wide .wide .ensures) at (at-if1 .if1 .taken))
 
 returns-3 : tie.Need-returns-3
 returns-3 c =
-    let r = rowOf (c .before .before .before .before .before .before .args .id) in
-    let class = sym (c .before .before .before .before .immediates .ensures ∙ class-in r (c .before .before .before .before .before .entry .ensures)) in
-    fault-lane-memory r (c .before .before .before .before .before .before .args .i) _ (c .before .lanes .ensures ∙ lanes-in r (c .before .before .before .before .before .entry .ensures)) (class ∙ c .before .before .before .match .keys2) (rw (c .before .before .wide .ensures) at (c .if1 .left))
+    let at-wide = c .before .before in
+    let at-match = at-wide .before in
+    let at-immediates = at-match .before in
+    let at-entry = at-immediates .before in
+    let start = at-entry .before in
+    let r = rowOf (start .args .id) in
+    let class = sym (at-immediates .immediates .ensures ∙ class-in r (at-entry .entry .ensures)) in
+    fault-lane-memory r (start .args .i) _ (c .before .lanes .ensures ∙ lanes-in r (at-entry .entry .ensures)) (class ∙ at-match .match .keys2)
+    (rw (at-wide .wide .ensures) at (c .if1 .left))
 
 returns-4 : tie.Need-returns-4
 returns-4 c =
-    let r = rowOf (c .before .before .before .before .before .before .args .id) in
-    let class = sym (c .before .before .before .before .immediates .ensures ∙ class-in r (c .before .before .before .before .before .entry .ensures)) in
-    no-fault-lane r (c .before .before .before .before .before .before .args .i) _ (c .before .lanes2 .ensures ∙ lanes-in r (c .before .before .before .before .before .entry .ensures)) (class ∙ c .before .before .before .match .keys3) (rw (c .before .before .wide2 .ensures) at (c .if2 .taken))
+    let at-wide2 = c .before .before in
+    let at-match = at-wide2 .before in
+    let at-immediates = at-match .before in
+    let at-entry = at-immediates .before in
+    let start = at-entry .before in
+    let r = rowOf (start .args .id) in
+    let class = sym (at-immediates .immediates .ensures ∙ class-in r (at-entry .entry .ensures)) in
+    no-fault-lane r (start .args .i) _ (c .before .lanes2 .ensures ∙ lanes-in r (at-entry .entry .ensures)) (class ∙ at-match .match .keys3)
+    (rw (at-wide2 .wide2 .ensures) at (c .if2 .taken))
 
 returns-5 : tie.Need-returns-5
 returns-5 c =
-    let r = rowOf (c .before .before .before .before .before .before .args .id) in
-    let class = sym (c .before .before .before .before .immediates .ensures ∙ class-in r (c .before .before .before .before .before .entry .ensures)) in
-    fault-lane r (c .before .before .before .before .before .before .args .i) _ (c .before .lanes2 .ensures ∙ lanes-in r (c .before .before .before .before .before .entry .ensures)) (class ∙ c .before .before .before .match .keys3) (rw (c .before .before .wide2 .ensures) at (c .if2 .left))
+    let at-wide2 = c .before .before in
+    let at-match = at-wide2 .before in
+    let at-immediates = at-match .before in
+    let at-entry = at-immediates .before in
+    let start = at-entry .before in
+    let r = rowOf (start .args .id) in
+    let class = sym (at-immediates .immediates .ensures ∙ class-in r (at-entry .entry .ensures)) in
+    fault-lane r (start .args .i) _ (c .before .lanes2 .ensures ∙ lanes-in r (at-entry .entry .ensures)) (class ∙ at-match .match .keys3)
+    (rw (at-wide2 .wide2 .ensures) at (c .if2 .left))
 
 returns-6 : tie.Need-returns-6
 returns-6 c =
-    let r = rowOf (c .before .before .before .before .before .before .args .id) in
-    let class = sym (c .before .before .before .before .immediates .ensures ∙ class-in r (c .before .before .before .before .before .entry .ensures)) in
-    fault-lanes r (c .before .before .before .before .before .before .args .i) true (sym (c .if3 .taken) ∙ c .before .all-lanes .ensures) (class ∙ c .before .before .before .match .keys4)
+    let at-match = c .before .before .before in
+    let at-immediates = at-match .before in
+    let at-entry = at-immediates .before in
+    let start = at-entry .before in
+    let r = rowOf (start .args .id) in
+    let class = sym (at-immediates .immediates .ensures ∙ class-in r (at-entry .entry .ensures)) in
+    fault-lanes r (start .args .i) true (sym (c .if3 .taken) ∙ c .before .all-lanes .ensures) (class ∙ at-match .match .keys4)
 
 returns-7 : tie.Need-returns-7
 returns-7 c =
-    let r = rowOf (c .before .before .before .before .before .before .args .id) in
-    let class = sym (c .before .before .before .before .immediates .ensures ∙ class-in r (c .before .before .before .before .before .entry .ensures)) in
-    fault-lanes r (c .before .before .before .before .before .before .args .i) false (sym (c .if3 .left) ∙ c .before .all-lanes .ensures) (class ∙ c .before .before .before .match .keys4)
+    let at-match = c .before .before .before in
+    let at-immediates = at-match .before in
+    let at-entry = at-immediates .before in
+    let start = at-entry .before in
+    let r = rowOf (start .args .id) in
+    let class = sym (at-immediates .immediates .ensures ∙ class-in r (at-entry .entry .ensures)) in
+    fault-lanes r (start .args .i) false (sym (c .if3 .left) ∙ c .before .all-lanes .ensures) (class ∙ at-match .match .keys4)
 
 returns-8 : tie.Need-returns-8
 returns-8 c =
-    let r = rowOf (c .before .before .before .before .before .args .id) in
-    let class = sym (c .before .before .before .immediates .ensures ∙ class-in r (c .before .before .before .before .entry .ensures)) in
-    fault-block r (c .before .before .before .before .before .args .i) true (sym (c .if4 .taken) ∙ c .before .is-block-type .ensures) (class ∙ c .before .before .match .keys5)
+    let at-match = c .before .before in
+    let at-immediates = at-match .before in
+    let at-entry = at-immediates .before in
+    let start = at-entry .before in
+    let r = rowOf (start .args .id) in
+    let class = sym (at-immediates .immediates .ensures ∙ class-in r (at-entry .entry .ensures)) in
+    fault-block r (start .args .i) true (sym (c .if4 .taken) ∙ c .before .is-block-type .ensures) (class ∙ at-match .match .keys5)
 
 returns-9 : tie.Need-returns-9
 returns-9 c =
-    let r = rowOf (c .before .before .before .before .before .args .id) in
-    let class = sym (c .before .before .before .immediates .ensures ∙ class-in r (c .before .before .before .before .entry .ensures)) in
-    fault-block r (c .before .before .before .before .before .args .i) false (sym (c .if4 .left) ∙ c .before .is-block-type .ensures) (class ∙ c .before .before .match .keys5)
+    let at-match = c .before .before in
+    let at-immediates = at-match .before in
+    let at-entry = at-immediates .before in
+    let start = at-entry .before in
+    let r = rowOf (start .args .id) in
+    let class = sym (at-immediates .immediates .ensures ∙ class-in r (at-entry .entry .ensures)) in
+    fault-block r (start .args .i) false (sym (c .if4 .left) ∙ c .before .is-block-type .ensures) (class ∙ at-match .match .keys5)
 
 returns-10 : tie.Need-returns-10
 returns-10 c =

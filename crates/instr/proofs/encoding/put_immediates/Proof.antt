@@ -40,9 +40,9 @@ put-u32-requires-2 c κs =
 
 put-u32-requires-3 : tie.Need-put-u32-requires-3
 put-u32-requires-3 c κs =
-    let start = c .before .before .before .before .before .before .before in
-    let at-match = c .before .before .before .before .before in
     let at-put-u322 = c .before .before .before in
+    let at-match = at-put-u322 .before .before in
+    let start = at-match .before .before in
     omega (
       arith,
       start .pre .1,
@@ -64,9 +64,9 @@ put-u32-requires-4 c κs =
 
 put-u32-requires-5 : tie.Need-put-u32-requires-5
 put-u32-requires-5 c κs =
-    let start = c .before .before .before .before .before .before .before in
-    let at-match = c .before .before .before .before .before in
     let at-put-u324 = c .before .before .before in
+    let at-match = at-put-u324 .before .before in
+    let start = at-match .before .before in
     omega (
       arith,
       start .pre .1,
@@ -78,10 +78,10 @@ put-u32-requires-5 c κs =
 
 put-byte-requires : tie.Need-put-byte-requires
 put-byte-requires c κs =
-    let start = c .before .before .before .before .before .before .before .before .before .before .before in
-    let at-match = c .before .before .before .before .before .before .before .before .before in
-    let at-put-u324 = c .before .before .before .before .before .before .before in
     let at-put-u325 = c .before .before .before in
+    let at-put-u324 = at-put-u325 .before .before .before .before in
+    let at-match = at-put-u324 .before .before in
+    let start = at-match .before .before in
     omega (
       arith,
       start .pre .1,
@@ -120,88 +120,97 @@ same-length c = search needs
 
 returns : tie.Need-returns
 returns c =
-    let start = c .before .before .before .before .before .before in
-    let at-match = c .before .before .before .before in
-    put-same (bytes-index (rowIn latest (start .args .i)) (start .args .i) (sym (start .pre .0) ∙ at-match .match .keys1)) (c .before .before .put-u32 .ensures)
+    let at-put-u32 = c .before .before in
+    let at-match = at-put-u32 .before .before in
+    let start = at-match .before .before in
+    put-same (bytes-index (rowIn latest (start .args .i)) (start .args .i) (sym (start .pre .0) ∙ at-match .match .keys1)) (at-put-u32 .put-u32 .ensures)
 
 same-length-2 : tie.Need-same-length-2
 same-length-2 c = search needs
 
 returns-2 : tie.Need-returns-2
 returns-2 c =
-    let start = c .before .before .before .before .before .before in
-    let at-match = c .before .before .before .before in
-    put-same (bytes-word (rowIn latest (start .args .i)) (start .args .i) (sym (start .pre .0) ∙ at-match .match .keys2)) (c .before .before .put-s32 .ensures)
+    let at-put-s32 = c .before .before in
+    let at-match = at-put-s32 .before .before in
+    let start = at-match .before .before in
+    put-same (bytes-word (rowIn latest (start .args .i)) (start .args .i) (sym (start .pre .0) ∙ at-match .match .keys2)) (at-put-s32 .put-s32 .ensures)
 
 same-length-3 : tie.Need-same-length-3
 same-length-3 c = search needs
 
 returns-3 : tie.Need-returns-3
 returns-3 c =
-    let start = c .before .before .before .before .before .before in
-    let at-match = c .before .before .before .before in
-    put-same (bytes-long (rowIn latest (start .args .i)) (start .args .i) (sym (start .pre .0) ∙ at-match .match .keys3)) (c .before .before .put-s64 .ensures)
+    let at-put-s64 = c .before .before in
+    let at-match = at-put-s64 .before .before in
+    let start = at-match .before .before in
+    put-same (bytes-long (rowIn latest (start .args .i)) (start .args .i) (sym (start .pre .0) ∙ at-match .match .keys3)) (at-put-s64 .put-s64 .ensures)
 
 same-length-4 : tie.Need-same-length-4
 same-length-4 c = search needs
 
 returns-4 : tie.Need-returns-4
 returns-4 c =
-    let start = c .before .before .before .before .before .before .before .before .before .before in
-    let at-match = c .before .before .before .before .before .before .before .before in
-    let at-put-u322 = c .before .before .before .before .before .before in
+    let at-put-u323 = c .before .before in
+    let at-put-u322 = at-put-u323 .before .before .before .before in
+    let at-match = at-put-u322 .before .before in
+    let start = at-match .before .before in
     put-same (bytes-memory (rowIn latest (start .args .i)) (start .args .i) (sym (start .pre .0) ∙ at-match .match .keys4))
-    (put-then (at-put-u322 .put-u322 .ensures) (c .before .before .put-u323 .ensures))
+    (put-then (at-put-u322 .put-u322 .ensures) (at-put-u323 .put-u323 .ensures))
 
 same-length-5 : tie.Need-same-length-5
 same-length-5 c = search needs
 
 returns-5 : tie.Need-returns-5
 returns-5 c =
-    let start = c .before .before .before .before .before .before .before .before .before .before .before .before .before .before in
-    let at-match = c .before .before .before .before .before .before .before .before .before .before .before .before in
-    let at-put-u324 = c .before .before .before .before .before .before .before .before .before .before in
-    let at-put-u325 = c .before .before .before .before .before .before in
+    let at-put-byte = c .before .before in
+    let at-put-u325 = at-put-byte .before .before .before .before in
+    let at-put-u324 = at-put-u325 .before .before .before .before in
+    let at-match = at-put-u324 .before .before in
+    let start = at-match .before .before in
     put-same (bytes-memory-lane (rowIn latest (start .args .i)) (start .args .i) (sym (start .pre .0) ∙ at-match .match .keys5))
-    (put-then (at-put-u324 .put-u324 .ensures) (put-then (at-put-u325 .put-u325 .ensures) (c .before .before .put-byte .ensures)))
+    (put-then (at-put-u324 .put-u324 .ensures) (put-then (at-put-u325 .put-u325 .ensures) (at-put-byte .put-byte .ensures)))
 
 same-length-6 : tie.Need-same-length-6
 same-length-6 c = search needs
 
 returns-6 : tie.Need-returns-6
 returns-6 c =
-    let start = c .before .before .before .before .before .before in
-    let at-match = c .before .before .before .before in
-    put-same (bytes-lane (rowIn latest (start .args .i)) (start .args .i) (sym (start .pre .0) ∙ at-match .match .keys6)) (c .before .before .put-byte2 .ensures)
+    let at-put-byte2 = c .before .before in
+    let at-match = at-put-byte2 .before .before in
+    let start = at-match .before .before in
+    put-same (bytes-lane (rowIn latest (start .args .i)) (start .args .i) (sym (start .pre .0) ∙ at-match .match .keys6)) (at-put-byte2 .put-byte2 .ensures)
 
 same-length-7 : tie.Need-same-length-7
 same-length-7 c = search needs
 
 returns-7 : tie.Need-returns-7
 returns-7 c =
-    let start = c .before .before .before .before .before .before .before in
-    let at-match = c .before .before .before .before .before in
+    let at-put-bytes = c .before .before in
+    let at-match = at-put-bytes .before .before .before in
+    let start = at-match .before .before in
     put-same (bytes-sixteen (rowIn latest (start .args .i)) (start .args .i) (inl (sym (start .pre .0) ∙ at-match .match .keys7)))
-    (c .before .before .put-bytes .ensures)
+    (at-put-bytes .put-bytes .ensures)
 
 same-length-8 : tie.Need-same-length-8
 same-length-8 c = search needs
 
 returns-8 : tie.Need-returns-8
 returns-8 c =
-    let start = c .before .before .before .before .before .before .before in
-    let at-match = c .before .before .before .before .before in
+    let at-put-bytes2 = c .before .before in
+    let at-match = at-put-bytes2 .before .before .before in
+    let start = at-match .before .before in
     put-same (bytes-sixteen (rowIn latest (start .args .i)) (start .args .i) (inr (sym (start .pre .0) ∙ at-match .match .keys8)))
-    (c .before .before .put-bytes2 .ensures)
+    (at-put-bytes2 .put-bytes2 .ensures)
 
 same-length-9 : tie.Need-same-length-9
 same-length-9 c = search needs
 
 returns-9 : tie.Need-returns-9
 returns-9 c =
-    let start = c .before .before .before .before .before .before in
-    let at-match = c .before .before .before .before in
-    put-same (bytes-block (rowIn latest (start .args .i)) (start .args .i) (sym (start .pre .0) ∙ at-match .match .keys9)) (c .before .before .put-byte3 .ensures)
+    let at-put-byte3 = c .before .before in
+    let at-match = at-put-byte3 .before .before in
+    let start = at-match .before .before in
+    put-same (bytes-block (rowIn latest (start .args .i)) (start .args .i) (sym (start .pre .0) ∙ at-match .match .keys9)) (at-put-byte3 .put-byte3 .ensures)
 
 returns-10 : tie.Need-returns-10
 returns-10 c =

@@ -20,10 +20,11 @@ same-length c = c .before .before .put-u32 .kept .0 ∙ simp length-set
 
 returns : tie.Need-returns
 returns c =
-    let start = c .before .before .before .before .before .before in
-    let at-if1 = c .before .before .before .before in
+    let at-put-u32 = c .before .before in
+    let at-if1 = at-put-u32 .before .before in
+    let start = at-if1 .before .before in
     put-same (opcode-vector (start .args .first) (start .args .number) (at-if1 .if1 .taken))
-    (record { to = omega (arith, c .before .before .put-u32 .ensures .to); bytes = c .before .before .put-u32 .ensures .bytes })
+    (record { to = omega (arith, at-put-u32 .put-u32 .ensures .to); bytes = at-put-u32 .put-u32 .ensures .bytes })
 
 same-length-2 : tie.Need-same-length-2
 same-length-2 c = search needs

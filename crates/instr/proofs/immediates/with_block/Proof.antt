@@ -32,13 +32,22 @@ refused-requires-2 c κs = search needs
 
 returns-2 : tie.Need-returns-2
 unfolding immediatesAt
-returns-2 c = let a = c .before .before .before .before .before .before .before .args in
-    rw (block-good (now (a .s)) (a .p) (c .before .before .before .before .before .if1 .left) (sym (c .before .before .before .is-block-type .ensures) ∙ c .before .before .if2 .taken), c .before .whole .ensures)
+returns-2 c =
+    let at-if2 = c .before .before in
+    let at-is-block-type = at-if2 .before in
+    let at-if1 = at-is-block-type .before .before in
+    let start = at-if1 .before .before in
+    let a = start .args in
+    rw (block-good (now (a .s)) (a .p) (at-if1 .if1 .left) (sym (at-is-block-type .is-block-type .ensures) ∙ at-if2 .if2 .taken), c .before .whole .ensures)
 
 returns-3 : tie.Need-returns-3
 unfolding immediatesAt
-returns-3 c = let a = c .before .before .before .before .before .before .args in
-    simp (block-bad (now (a .s)) (a .p) (c .before .before .before .before .if1 .left) (sym (c .before .before .is-block-type .ensures) ∙ c .before .if2 .left)) (c .refused2 .ensures)
+returns-3 c =
+    let at-is-block-type = c .before .before in
+    let at-if1 = at-is-block-type .before .before in
+    let start = at-if1 .before .before in
+    let a = start .args in
+    simp (block-bad (now (a .s)) (a .p) (at-if1 .if1 .left) (sym (at-is-block-type .is-block-type .ensures) ∙ c .before .if2 .left)) (c .refused2 .ensures)
 
 pub with-block-spec : {M : Type 1} → statement M
 with-block-spec =

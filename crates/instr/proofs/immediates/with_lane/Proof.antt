@@ -33,18 +33,20 @@ refused-requires-2 c κs = search needs
 returns-2 : tie.Need-returns-2
 unfolding laneEnds
 returns-2 c =
-    let start = c .before .before .before .before .before .before in
-    let at-if1 = c .before .before .before .before in
+    let at-wide = c .before .before in
+    let at-if1 = at-wide .before .before in
+    let start = at-if1 .before .before in
     simp (lane-good (now (start .args .s)) (start .args .p) (start .args .lanes) (at-if1 .if1 .left)
-    (rw (c .before .before .wide .ensures) at (c .before .if2 .taken))) (c .whole .ensures)
+    (rw (at-wide .wide .ensures) at (c .before .if2 .taken))) (c .whole .ensures)
 
 returns-3 : tie.Need-returns-3
 unfolding laneEnds
 returns-3 c =
-    let start = c .before .before .before .before .before .before in
-    let at-if1 = c .before .before .before .before in
+    let at-wide = c .before .before in
+    let at-if1 = at-wide .before .before in
+    let start = at-if1 .before .before in
     simp (lane-bad (now (start .args .s)) (start .args .p) (start .args .lanes) (at-if1 .if1 .left)
-    (rw (c .before .before .wide .ensures) at (c .before .if2 .left))) (c .refused2 .ensures)
+    (rw (at-wide .wide .ensures) at (c .before .if2 .left))) (c .refused2 .ensures)
 
 pub with-lane-spec : {M : Type 1} → statement M
 with-lane-spec =

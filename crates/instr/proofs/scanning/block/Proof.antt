@@ -23,7 +23,10 @@ is-block-type-requires c κs = search needs
 
 -- src/scanning.rt:154:19
 cast-t11 : tie.Need-cast-t11
-cast-t11 c = omega (arith, c .before .before .before .before .shared-slice-known .given (c .before .before .before .before .before .args .p) .fits)
+cast-t11 c =
+    let at-shared-slice-known = c .before .before .before .before in
+    let start = at-shared-slice-known .before in
+    omega (arith, at-shared-slice-known .shared-slice-known .given (start .args .p) .fits)
 
 -- src/scanning.rt:154:29
 add-t12 : tie.Need-add-t12
@@ -31,11 +34,17 @@ add-t12 c = search needs
 
 -- src/scanning.rt:146:1
 returns-2 : tie.Need-returns-2
-returns-2 c = rw (block-good (now (c .before .before .before .before .before .args .s)) (c .before .before .before .before .before .args .p) (c .before .before .before .if1 .left) (sym (c .before .is-block-type .ensures) ∙ (c .if2 .taken)))
+returns-2 c =
+    let at-if1 = c .before .before .before in
+    let start = at-if1 .before .before in
+    rw (block-good (now (start .args .s)) (start .args .p) (at-if1 .if1 .left) (sym (c .before .is-block-type .ensures) ∙ (c .if2 .taken)))
 
 -- src/scanning.rt:146:1
 returns-3 : tie.Need-returns-3
-returns-3 c = rw (block-bad (now (c .before .before .before .before .before .args .s)) (c .before .before .before .before .before .args .p) (c .before .before .before .if1 .left) (sym (c .before .is-block-type .ensures) ∙ (c .if2 .left)))
+returns-3 c =
+    let at-if1 = c .before .before .before in
+    let start = at-if1 .before .before in
+    rw (block-bad (now (start .args .s)) (start .args .p) (at-if1 .if1 .left) (sym (c .before .is-block-type .ensures) ∙ (c .if2 .left)))
 
 pub block-spec : {M : Type 1} → statement M
 block-spec =

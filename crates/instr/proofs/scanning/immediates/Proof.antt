@@ -60,15 +60,27 @@ returns-2 c row is = c .u32-at .ensures ∙ sym (over-class _ _ _ _ index (sym (
 
 returns-3 : tie.Need-returns-3
 unfolding overClass
-returns-3 c row is = c .past .ensures ∙ ap over (c .before .s32-at .ensures) ∙ sym (over-class _ _ _ _ word (sym (c .before .before .before .immediates .ensures ∙ class-in row is) ∙ c .before .before .match .keys3))
+returns-3 c row is =
+    let at-match = c .before .before in
+    let at-immediates = at-match .before in
+    c .past .ensures ∙ ap over (c .before .s32-at .ensures) ∙ sym
+    (over-class _ _ _ _ word (sym (at-immediates .immediates .ensures ∙ class-in row is) ∙ at-match .match .keys3))
 
 returns-4 : tie.Need-returns-4
 unfolding overClass
-returns-4 c row is = c .past2 .ensures ∙ ap over (c .before .s64-at .ensures) ∙ sym (over-class _ _ _ _ long (sym (c .before .before .before .immediates .ensures ∙ class-in row is) ∙ c .before .before .match .keys4))
+returns-4 c row is =
+    let at-match = c .before .before in
+    let at-immediates = at-match .before in
+    c .past2 .ensures ∙ ap over (c .before .s64-at .ensures) ∙ sym
+    (over-class _ _ _ _ long (sym (at-immediates .immediates .ensures ∙ class-in row is) ∙ at-match .match .keys4))
 
 returns-5 : tie.Need-returns-5
 unfolding overClass
-returns-5 c row is = rw (c .before .lanes .ensures ∙ lanes-in row is) at (c .lane .ensures) ∙ sym (over-class _ _ _ _ laneIndex (sym (c .before .before .before .immediates .ensures ∙ class-in row is) ∙ c .before .before .match .keys5))
+returns-5 c row is =
+    let at-match = c .before .before in
+    let at-immediates = at-match .before in
+    rw (c .before .lanes .ensures ∙ lanes-in row is) at (c .lane .ensures) ∙ sym
+    (over-class _ _ _ _ laneIndex (sym (at-immediates .immediates .ensures ∙ class-in row is) ∙ at-match .match .keys5))
 
 returns-6 : tie.Need-returns-6
 unfolding overClass
@@ -87,8 +99,12 @@ returns-9 c row is = sym (over-float _ _ _ _ (sym (c .before .immediates .ensure
 
 returns-10 : tie.Need-returns-10
 returns-10 c row is =
-    rw (c .before .before .moved .ensures ∙ moved-in row is, c .before .lanes3 .ensures ∙ lanes-in row is) at (c .memory .ensures)
-    ∙ sym (over-memory _ _ _ _ _ (c .before .before .before .before .before .immediates .ensures ∙ class-in row is) (c .before .before .before .before .match .rest) (c .before .before .before .if1 .taken))
+    let at-moved = c .before .before in
+    let at-if1 = at-moved .before in
+    let at-match = at-if1 .before in
+    let at-immediates = at-match .before in
+    rw (at-moved .moved .ensures ∙ moved-in row is, c .before .lanes3 .ensures ∙ lanes-in row is) at (c .memory .ensures)
+    ∙ sym (over-memory _ _ _ _ _ (at-immediates .immediates .ensures ∙ class-in row is) (at-match .match .rest) (at-if1 .if1 .taken))
 
 returns-11 : tie.Need-returns-11
 returns-11 c row is = sym (over-none _ _ _ _ _ (c .before .before .immediates .ensures ∙ class-in row is) (c .before .match .rest) (c .if1 .left))

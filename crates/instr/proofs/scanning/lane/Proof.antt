@@ -19,13 +19,17 @@ add-t11 c = search needs
 
 returns-2 : tie.Need-returns-2
 returns-2 c =
-    let a = c .before .before .before .before .before .args in
-    rw (lane-good (now (a .s)) (a .p) (a .lanes) (c .before .before .before .if1 .left) (rw (c .before .wide .ensures) at (c .if2 .taken)))
+    let at-if1 = c .before .before .before in
+    let start = at-if1 .before .before in
+    let a = start .args in
+    rw (lane-good (now (a .s)) (a .p) (a .lanes) (at-if1 .if1 .left) (rw (c .before .wide .ensures) at (c .if2 .taken)))
 
 returns-3 : tie.Need-returns-3
 returns-3 c =
-    let a = c .before .before .before .before .before .args in
-    rw (lane-bad (now (a .s)) (a .p) (a .lanes) (c .before .before .before .if1 .left) (rw (c .before .wide .ensures) at (c .if2 .left)))
+    let at-if1 = c .before .before .before in
+    let start = at-if1 .before .before in
+    let a = start .args in
+    rw (lane-bad (now (a .s)) (a .p) (a .lanes) (at-if1 .if1 .left) (rw (c .before .wide .ensures) at (c .if2 .left)))
 
 pub lane-spec : {M : Type 1} → statement M
 lane-spec =

@@ -28,8 +28,10 @@ exponent-fits-requires c κs = search needs
 returns : tie.Need-returns
 unfolding overMemory
 returns c =
+    let at-a = c .before .before .before in
+    let at-u32-at = at-a .before .before in
     let f = c .before .exponent-fits in
-    let exponent = sym (c .before .before .before .before .before .u32-at .ensures) ∙ ap item (c .before .before .before .a .given .1) in
+    let exponent = sym (at-u32-at .u32-at .ensures) ∙ ap item (at-a .a .given .1) in
     rw (exponent-bad _ _ _ _ _ exponent (sym (f .ensures) ∙ not-true (f .result) (c .if1 .taken)))
 
 u32-at-requires-2 : tie.Need-u32-at-requires-2
@@ -50,31 +52,50 @@ enum-known-code-2 c = search needs
 returns-2 : tie.Need-returns-2
 unfolding overMemory
 returns-2 c =
-    let f = c .before .before .before .before .before .before .before .exponent-fits in
-    let exponent = sym (c .before .before .before .before .before .before .before .before .before .before .before .u32-at .ensures) ∙ ap item (c .before .before .before .before .before .before .before .before .before .a .given .1) in
-    let offset = sym (c .before .before .before .before .before .u32-at2 .ensures) ∙ ap item (c .before .before .before .o .given .1) in
-    rw (exponent-good _ _ _ _ _ exponent (sym (f .ensures) ∙ not-false (f .result) (c .before .before .before .before .before .before .if1 .left)), offset, c .before .if2 .taken) (c .lane .ensures)
+    let at-o = c .before .before .before in
+    let at-u32-at2 = at-o .before .before in
+    let at-if1 = at-u32-at2 .before in
+    let at-exponent-fits = at-if1 .before in
+    let at-a = at-exponent-fits .before .before in
+    let at-u32-at = at-a .before .before in
+    let f = at-exponent-fits .exponent-fits in
+    let exponent = sym (at-u32-at .u32-at .ensures) ∙ ap item (at-a .a .given .1) in
+    let offset = sym (at-u32-at2 .u32-at2 .ensures) ∙ ap item (at-o .o .given .1) in
+    rw (exponent-good _ _ _ _ _ exponent (sym (f .ensures) ∙ not-false (f .result) (at-if1 .if1 .left)), offset, c .before .if2 .taken) (c .lane .ensures)
 
 returns-3 : tie.Need-returns-3
 unfolding overMemory
 returns-3 c =
-    let f = c .before .before .before .before .before .before .exponent-fits in
-    let exponent = sym (c .before .before .before .before .before .before .before .before .before .before .u32-at .ensures) ∙ ap item (c .before .before .before .before .before .before .before .before .a .given .1) in
-    let offset = sym (c .before .before .before .before .u32-at2 .ensures) ∙ ap item (c .before .before .o .given .1) in
-    rw (exponent-good _ _ _ _ _ exponent (sym (f .ensures) ∙ not-false (f .result) (c .before .before .before .before .before .if1 .left)), offset, c .if2 .left)
+    let at-o = c .before .before in
+    let at-u32-at2 = at-o .before .before in
+    let at-if1 = at-u32-at2 .before in
+    let at-exponent-fits = at-if1 .before in
+    let at-a = at-exponent-fits .before .before in
+    let at-u32-at = at-a .before .before in
+    let f = at-exponent-fits .exponent-fits in
+    let exponent = sym (at-u32-at .u32-at .ensures) ∙ ap item (at-a .a .given .1) in
+    let offset = sym (at-u32-at2 .u32-at2 .ensures) ∙ ap item (at-o .o .given .1) in
+    rw (exponent-good _ _ _ _ _ exponent (sym (f .ensures) ∙ not-false (f .result) (at-if1 .if1 .left)), offset, c .if2 .left)
 
 returns-4 : tie.Need-returns-4
 unfolding overMemory
 returns-4 c =
-    let f = c .before .before .before .before .before .exponent-fits in
-    let exponent = sym (c .before .before .before .before .before .before .before .before .before .u32-at .ensures) ∙ ap item (c .before .before .before .before .before .before .before .a .given .1) in
-    let offset = sym (c .before .before .before .u32-at2 .ensures) ∙ ap item (c .before .code .given .1) in
-    rw (exponent-good _ _ _ _ _ exponent (sym (f .ensures) ∙ not-false (f .result) (c .before .before .before .before .if1 .left)), offset)
+    let at-u32-at2 = c .before .before .before in
+    let at-if1 = at-u32-at2 .before in
+    let at-exponent-fits = at-if1 .before in
+    let at-a = at-exponent-fits .before .before in
+    let at-u32-at = at-a .before .before in
+    let f = at-exponent-fits .exponent-fits in
+    let exponent = sym (at-u32-at .u32-at .ensures) ∙ ap item (at-a .a .given .1) in
+    let offset = sym (at-u32-at2 .u32-at2 .ensures) ∙ ap item (c .before .code .given .1) in
+    rw (exponent-good _ _ _ _ _ exponent (sym (f .ensures) ∙ not-false (f .result) (at-if1 .if1 .left)), offset)
 
 returns-5 : tie.Need-returns-5
 unfolding overMemory
 returns-5 c =
-    rw (exponent-none (c .before .before .before .before .before .args .moved) _ _ _ _ (sym (c .before .before .before .u32-at .ensures) ∙ ap item (c .before .code2 .given .1)))
+    let at-u32-at = c .before .before .before in
+    let start = at-u32-at .before .before in
+    rw (exponent-none (start .args .moved) _ _ _ _ (sym (at-u32-at .u32-at .ensures) ∙ ap item (c .before .code2 .given .1)))
 
 pub memory-spec : {M : Type 1} → statement M
 memory-spec =

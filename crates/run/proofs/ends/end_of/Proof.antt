@@ -17,7 +17,9 @@ cast-word : tie.Need-cast-word
 cast-word c = omega (arith, c .before .slice-known .given (c .before .before .before .args .body % 64) .fits)
 
 returns : tie.Need-returns
-returns c = (kept-true (c .before .before .before .before .pre .0) (c .before .before .before .before .pre .1) _ (c .if1 .taken), c .before .before .before .before .pre .1)
+returns c =
+    let start = c .before .before .before .before in
+    (kept-true (start .pre .0) (start .pre .1) _ (c .if1 .taken), start .pre .1)
 
 close-requires : tie.Need-close-requires
 close-requires c κs = search needs
@@ -26,10 +28,14 @@ mul-ends : tie.Need-mul-ends
 mul-ends c = search needs
 
 add-ends : tie.Need-add-ends
-add-ends c = omega (arith, fits (c .before .before .before .before .before .pre .0) (c .before .before .before .before .before .pre .1) (λ j. c .before .before .before .before .shared-slice-known .given j .fits) (c .close .ensures))
+add-ends c =
+    let known = c .before .before .before .before in
+    omega (arith, fits (known .before .pre .0) (known .before .pre .1) (λ j. known .shared-slice-known .given j .fits) (c .close .ensures))
 
 cast-ends : tie.Need-cast-ends
-cast-ends c = omega (arith, fits (c .before .before .before .before .before .pre .0) (c .before .before .before .before .before .pre .1) (λ j. c .before .before .before .before .shared-slice-known .given j .fits) (c .close .ensures))
+cast-ends c =
+    let known = c .before .before .before .before in
+    omega (arith, fits (known .before .pre .0) (known .before .pre .1) (λ j. known .shared-slice-known .given j .fits) (c .close .ensures))
 
 mul-ends-2 : tie.Need-mul-ends-2
 mul-ends-2 c = search needs
@@ -41,7 +47,12 @@ same-length : tie.Need-same-length
 same-length c = search needs
 
 returns-2 : tie.Need-returns-2
-returns-2 c = (found-true (c .before .before .before .before .before .pre .0) (c .before .before .before .before .before .pre .1) (λ j. c .before .before .before .before .shared-slice-known .given j .fits) (c .close .ensures), kept-more (c .before .before .before .before .before .pre .0) (c .before .before .before .before .before .pre .1) (λ j. c .before .before .before .before .shared-slice-known .given j .fits) (c .close .ensures) _ _ (omega arith) refl)
+returns-2 c =
+    let known = c .before .before .before .before in (
+      found-true (known .before .pre .0) (known .before .pre .1) (λ j. known .shared-slice-known .given j .fits) (c .close .ensures),
+      kept-more
+          (known .before .pre .0) (known .before .pre .1) (λ j. known .shared-slice-known .given j .fits) (c .close .ensures) _ _ (omega arith) refl,
+    )
 
 pub end-of-spec : {M : Type 1} → statement M
 end-of-spec =

@@ -39,7 +39,14 @@ add-at-2 : tie.Need-add-at-2
 add-at-2 c = omega (arith, counts-read (declared (c .before .before .before .before .before .before .before .before .pre .valid .reached)))
 
 go-on-requires : tie.Need-go-on-requires
-go-on-requires c κs = (may-begin (c .before .before .before .before .before .before .before .before .before .before .before .before .before .before .pre) (c .before .before .before .before .before .before .before .before .before .before .before .before .before .before .args .mem .now) (λ k. c .before .before .before .before .before .before .before .before .before .before .before .slice-known .given k) (c .before .before .before .before .before .before .before .locals-of .ensures .0) (counts-read (declared (c .before .before .before .before .before .before .before .before .before .before .before .before .before .before .pre .valid .reached)) .body), none-kept _)
+go-on-requires c κs =
+    let called = c .before .before .before .before .before .before .before in
+    let start = called .before .before .before .before .before .before .before in
+    let counts = counts-read (declared (start .pre .valid .reached)) in (
+      may-begin (start .pre) (start .args .mem .now) (λ k. called .before .before .before .before .slice-known .given k) (called .locals-of .ensures .0)
+          (omega (arith, called .locals-of .ensures .1, counts .body)),
+      none-kept _,
+    )
 
 same-length : tie.Need-same-length
 same-length c = search needs
@@ -48,7 +55,13 @@ same-length-2 : tie.Need-same-length-2
 same-length-2 c = search needs
 
 returns : tie.Need-returns
-returns c = drove (c .before .before .before .before .before .before .before .before .before .before .before .before .before .before .before .before .before .before .before .pre) (c .before .before .before .before .before .before .before .before .before .before .before .before .before .before .before .before .before .before .before .args .mem .now) (λ k. c .before .before .before .before .before .before .before .before .before .before .before .before .before .before .before .before .slice-known .given k) (c .before .before .before .before .before .before .before .before .before .before .before .before .locals-of .ensures .0) (counts-read (declared (c .before .before .before .before .before .before .before .before .before .before .before .before .before .before .before .before .before .before .before .pre .valid .reached)) .body) (c .before .before .before .before .go-on .ensures)
+returns c =
+    let went = c .before .before .before .before in
+    let called = went .before .before .before .before .before .before .before .before in
+    let start = called .before .before .before .before .before .before .before in
+    let counts = counts-read (declared (start .pre .valid .reached)) in
+    drove (start .pre) (start .args .mem .now) (λ k. called .before .before .before .before .slice-known .given k) (called .locals-of .ensures .0)
+    (omega (arith, called .locals-of .ensures .1, counts .body)) (went .go-on .ensures)
 
 pub drive-spec : {M : Type 1} → statement M
 drive-spec =

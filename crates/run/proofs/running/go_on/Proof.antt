@@ -24,10 +24,14 @@ loop-holds : tie.Need-loop-holds Inv-loop μ-loop
 loop-holds c = (λ v c₀ C. starts v c₀ (c .before .before .before .args .budget) C (c .before .before .before .pre .0), c .before .before .before .pre .1)
 
 same-length : tie.Need-same-length Inv-loop μ-loop
-same-length c = c .before .loop .inv .0 (c .before .before .before .before .before .pre .0 .held .valid) (c .before .before .before .before .before .pre .0 .held .config) (c .before .before .before .before .before .pre .0 .held .carries) .long
+same-length c =
+    let start = c .before .before .before .before .before in
+    c .before .loop .inv .0 (start .pre .0 .held .valid) (start .pre .0 .held .config) (start .pre .0 .held .carries) .long
 
 same-length-2 : tie.Need-same-length-2 Inv-loop μ-loop
-same-length-2 c = ap length (c .before .loop .inv .0 (c .before .before .before .before .before .pre .0 .held .valid) (c .before .before .before .before .before .pre .0 .held .config) (c .before .before .before .before .before .pre .0 .held .carries) .untouched)
+same-length-2 c =
+    let start = c .before .before .before .before .before in
+    ap length (c .before .loop .inv .0 (start .pre .0 .held .valid) (start .pre .0 .held .config) (start .pre .0 .held .carries) .untouched)
 
 returns : tie.Need-returns Inv-loop μ-loop
 returns c = λ v c₀ C. spent (c .before .loop .inv .0 v c₀ C) (c .if1 .taken)
@@ -42,25 +46,69 @@ turns-requires : tie.Need-turns-requires Inv-loop μ-loop
 turns-requires c κs = tt
 
 turn-requires : tie.Need-turn-requires Inv-loop μ-loop
-turn-requires c κs = let D = c .before .before .before .before .before .before .before .before .before .before .loop .inv .0 (c .before .before .before .before .before .before .before .before .before .before .before .before .before .before .pre .0 .held .valid) (c .before .before .before .before .before .before .before .before .before .before .before .before .before .before .pre .0 .held .config) (c .before .before .before .before .before .before .before .before .before .before .before .before .before .before .pre .0 .held .carries) in (stacked D, seen D (c .before .before .before .before .before .before .before .before .fetch .result) (c .before .before .before .before .before .before .before .before .fetch .ensures) (c .before .before .before .before .before .group .result) (c .before .before .before .before .before .group .ensures) (c .before .before .before .before .turns .ensures) (c .before .before .before .if2 .taken), c .before .before .before .before .before .before .before .before .before .before .loop .inv .1)
+turn-requires c κs =
+    let at-if2 = c .before .before .before in
+    let at-fetch = at-if2 .before .before .before .before .before in
+    let start = at-fetch .before .before .before .before .before .before in
+    let D = at-fetch .before .before .loop .inv .0 (start .pre .0 .held .valid) (start .pre .0 .held .config) (start .pre .0 .held .carries) in (
+      stacked D,
+      seen D (at-fetch .fetch .result) (at-fetch .fetch .ensures) (at-if2 .before .before .group .result)
+          (at-if2 .before .before .group .ensures) (at-if2 .before .turns .ensures) (at-if2 .if2 .taken),
+      at-fetch .before .before .loop .inv .1,
+    )
 
 put-results-requires : tie.Need-put-results-requires Inv-loop μ-loop
-put-results-requires c κs = let D = c .before .before .before .before .before .before .before .before .before .before .before .before .before .before .before .before .loop .inv .0 (c .before .before .before .before .before .before .before .before .before .before .before .before .before .before .before .before .before .before .before .before .pre .0 .held .valid) (c .before .before .before .before .before .before .before .before .before .before .before .before .before .before .before .before .before .before .before .before .pre .0 .held .config) (c .before .before .before .before .before .before .before .before .before .before .before .before .before .before .before .before .before .before .before .before .pre .0 .held .carries) in results-fit D (c .before .before .before .before .before .turn .ensures .0 (c .before .before .before .before .before .before .before .before .before .before .before .before .before .before .before .before .before .before .before .before .pre .0 .held .valid) (D .config) (c .before .before .before .before .before .before .before .before .before .before .before .before .before .before .before .before .loop .locals) (c .before .before .before .before .before .before .before .before .before .before .before .before .before .before .before .before .loop .mem) (D .carries)) (c .before .before .before .if3 .taken)
+put-results-requires c κs =
+    let at-if3 = c .before .before .before in
+    let back = at-if3 .before .before .before .before .before .before .before .before .before .before in
+    let at-loop = back .before .before .before in
+    let start = at-loop .before .before .before .before in
+    let D = at-loop .loop .inv .0 (start .pre .0 .held .valid) (start .pre .0 .held .config) (start .pre .0 .held .carries) in
+    results-fit D (at-if3 .before .before .turn .ensures .0 (start .pre .0 .held .valid) (D .config) (at-loop .loop .locals) (at-loop .loop .mem)
+    (D .carries)) (at-if3 .if3 .taken)
 
 sub-t30 : tie.Need-sub-t30 Inv-loop μ-loop
-sub-t30 c = omega (arith, c .before .before .before .before .before .before .before .before .before .before .before .before .before .before .before .before .before .before .before .loop .inv .0 (c .before .before .before .before .before .before .before .before .before .before .before .before .before .before .before .before .before .before .before .before .before .before .before .pre .0 .held .valid) (c .before .before .before .before .before .before .before .before .before .before .before .before .before .before .before .before .before .before .before .before .before .before .before .pre .0 .held .config) (c .before .before .before .before .before .before .before .before .before .before .before .before .before .before .before .before .before .before .before .before .before .before .before .pre .0 .held .carries) .within)
+sub-t30 c =
+    let back = c .before .before .before .before .before .before .before .before .before .before in
+    let at-loop = back .before .before .before .before .before .before .before .before .before in
+    let start = at-loop .before .before .before .before in
+    omega (arith, at-loop .loop .inv .0 (start .pre .0 .held .valid) (start .pre .0 .held .config) (start .pre .0 .held .carries) .within)
 
 add-t31 : tie.Need-add-t31 Inv-loop μ-loop
-add-t31 c = omega (arith, c .before .before .before .before .before .before .before .before .before .before .before .before .before .before .before .before .before .before .before .loop .inv .0 (c .before .before .before .before .before .before .before .before .before .before .before .before .before .before .before .before .before .before .before .before .before .before .before .pre .0 .held .valid) (c .before .before .before .before .before .before .before .before .before .before .before .before .before .before .before .before .before .before .before .before .before .before .before .pre .0 .held .config) (c .before .before .before .before .before .before .before .before .before .before .before .before .before .before .before .before .before .before .before .before .before .before .before .pre .0 .held .carries) .within, pos-of-ne-zero (c .before .before .before .before .before .before .before .before .before .before .before .before .before .before .before .before .before .before .if1 .left), c .before .before .before .before .before .before .before .before .before .before .before .before .before .before .before .before .before .before .before .before .before .before .before .fits .budget)
+add-t31 c =
+    let back = c .before .before .before .before .before .before .before .before .before .before in
+    let at-if1 = back .before .before .before .before .before .before .before .before in
+    let start = at-if1 .before .before .before .before .before in
+    omega (
+      arith,
+      at-if1 .before .loop .inv .0 (start .pre .0 .held .valid) (start .pre .0 .held .config) (start .pre .0 .held .carries) .within,
+      pos-of-ne-zero (at-if1 .if1 .left),
+      start .fits .budget,
+    )
 
 same-length-3 : tie.Need-same-length-3 Inv-loop μ-loop
-same-length-3 c = c .before .before .before .before .before .before .before .before .before .before .before .before .before .before .before .before .before .before .before .loop .inv .0 (c .before .before .before .before .before .before .before .before .before .before .before .before .before .before .before .before .before .before .before .before .before .before .before .pre .0 .held .valid) (c .before .before .before .before .before .before .before .before .before .before .before .before .before .before .before .before .before .before .before .before .before .before .before .pre .0 .held .config) (c .before .before .before .before .before .before .before .before .before .before .before .before .before .before .before .before .before .before .before .before .before .before .before .pre .0 .held .carries) .long
+same-length-3 c =
+    let back = c .before .before .before .before .before .before .before .before .before .before in
+    let at-loop = back .before .before .before .before .before .before .before .before .before in
+    let start = at-loop .before .before .before .before in
+    at-loop .loop .inv .0 (start .pre .0 .held .valid) (start .pre .0 .held .config) (start .pre .0 .held .carries) .long
 
 same-length-4 : tie.Need-same-length-4 Inv-loop μ-loop
-same-length-4 c = c .before .before .put-results .kept .1 .1 .0 ∙ ap length (c .before .before .before .before .before .before .before .before .before .before .before .before .before .before .before .before .before .before .before .loop .inv .0 (c .before .before .before .before .before .before .before .before .before .before .before .before .before .before .before .before .before .before .before .before .before .before .before .pre .0 .held .valid) (c .before .before .before .before .before .before .before .before .before .before .before .before .before .before .before .before .before .before .before .before .before .before .before .pre .0 .held .config) (c .before .before .before .before .before .before .before .before .before .before .before .before .before .before .before .before .before .before .before .before .before .before .before .pre .0 .held .carries) .untouched)
+same-length-4 c =
+    let back = c .before .before .before .before .before .before .before .before .before .before in
+    let at-loop = back .before .before .before .before .before .before .before .before .before in
+    let start = at-loop .before .before .before .before in
+    c .before .before .put-results .kept .1 .1 .0 ∙ ap length
+    (at-loop .loop .inv .0 (start .pre .0 .held .valid) (start .pre .0 .held .config) (start .pre .0 .held .carries) .untouched)
 
 returns-2 : tie.Need-returns-2 Inv-loop μ-loop
-returns-2 c = λ v c₀ C. let D = c .before .before .before .before .before .before .before .before .before .before .before .before .before .before .before .before .before .before .before .loop .inv .0 v c₀ C in finished D (c .before .before .before .before .before .before .before .before .turn .ensures .0 v (D .config) (c .before .before .before .before .before .before .before .before .before .before .before .before .before .before .before .before .before .before .before .loop .locals) (c .before .before .before .before .before .before .before .before .before .before .before .before .before .before .before .before .before .before .before .loop .mem) (D .carries)) (pos-of-ne-zero (c .before .before .before .before .before .before .before .before .before .before .before .before .before .before .before .before .before .before .if1 .left)) (c .before .before .before .before .before .before .if3 .taken) (c .before .before .put-results .ensures)
+returns-2 c =
+    let at-if3 = c .before .before .before .before .before .before in
+    let back = at-if3 .before .before .before .before .before .before .before .before .before .before in
+    let at-if1 = back .before .before in
+    λ v c₀ C. let D = at-if1 .before .loop .inv .0 v c₀ C in finished D
+    (at-if3 .before .before .turn .ensures .0 v (D .config) (at-if1 .before .loop .locals) (at-if1 .before .loop .mem) (D .carries))
+    (pos-of-ne-zero (at-if1 .if1 .left)) (at-if3 .if3 .taken) (c .before .before .put-results .ensures)
 
 sub-left : tie.Need-sub-left Inv-loop μ-loop
 sub-left c = pos-of-ne-zero (c .before .before .before .before .before .before .before .before .before .before .before .before .if1 .left)
@@ -69,43 +117,103 @@ loop-less : tie.Need-loop-less Inv-loop μ-loop
 loop-less c = omega (arith, pos-of-ne-zero (c .before .before .before .before .before .before .before .before .before .before .before .before .if1 .left))
 
 loop-again : tie.Need-loop-again Inv-loop μ-loop
-loop-again c = (λ v c₀ C. let D = c .before .before .before .before .before .before .before .before .before .before .before .before .before .loop .inv .0 v c₀ C in turned D (c .before .before .turn .ensures .0 v (D .config) (c .before .before .before .before .before .before .before .before .before .before .before .before .before .loop .locals) (c .before .before .before .before .before .before .before .before .before .before .before .before .before .loop .mem) (D .carries)) (pos-of-ne-zero (c .before .before .before .before .before .before .before .before .before .before .before .before .if1 .left)) (c .if3 .left), c .before .before .turn .ensures .1)
+loop-again c =
+    let back = c .before .before .before .before .before .before .before .before .before .before in
+    let at-if1 = back .before .before in (
+      λ v c₀ C. let D = at-if1 .before .loop .inv .0 v c₀ C in turned D
+          (c .before .before .turn .ensures .0 v (D .config) (at-if1 .before .loop .locals) (at-if1 .before .loop .mem) (D .carries))
+          (pos-of-ne-zero (at-if1 .if1 .left)) (c .if3 .left),
+      c .before .before .turn .ensures .1,
+    )
 
 bounds-requires : tie.Need-bounds-requires Inv-loop μ-loop
-bounds-requires c κs = let D = c .before .before .before .before .before .before .before .before .before .loop .inv .0 (c .before .before .before .before .before .before .before .before .before .before .before .before .before .pre .0 .held .valid) (c .before .before .before .before .before .before .before .before .before .before .before .before .before .pre .0 .held .config) (c .before .before .before .before .before .before .before .before .before .before .before .before .before .pre .0 .held .carries) in bounds-fits D (c .before .before .before .before .before .before .before .fetch .result) (c .before .before .before .before .before .before .before .fetch .ensures) (c .before .before .before .before .group .result) (c .before .before .before .before .group .ensures) (c .before .before .before .turns .ensures) (c .before .before .if2 .left)
+bounds-requires c κs =
+    let at-turns = c .before .before .before in
+    let at-fetch = at-turns .before .before .before .before in
+    let start = at-fetch .before .before .before .before .before .before in
+    let D = at-fetch .before .before .loop .inv .0 (start .pre .0 .held .valid) (start .pre .0 .held .config) (start .pre .0 .held .carries) in
+    bounds-fits D (at-fetch .fetch .result) (at-fetch .fetch .ensures) (at-turns .before .group .result) (at-turns .before .group .ensures)
+    (at-turns .turns .ensures) (c .before .before .if2 .left)
 
 enum-told : tie.Need-enum-told Inv-loop μ-loop
 enum-told c = search needs
 
 exec-requires : tie.Need-exec-requires Inv-loop μ-loop
-exec-requires c κs = let D = c .before .before .before .before .before .before .before .before .before .before .before .before .before .before .before .loop .inv .0 (c .before .before .before .before .before .before .before .before .before .before .before .before .before .before .before .before .before .before .before .pre .0 .held .valid) (c .before .before .before .before .before .before .before .before .before .before .before .before .before .before .before .before .before .before .before .pre .0 .held .config) (c .before .before .before .before .before .before .before .before .before .before .before .before .before .before .before .before .before .before .before .pre .0 .held .carries) in exec-apt D (c .before .before .before .before .before .before .before .before .before .before .before .before .before .fetch .result) (c .before .before .before .before .before .before .before .before .before .before .before .before .before .fetch .ensures) (c .before .before .before .before .before .before .before .before .before .before .group .result) (c .before .before .before .before .before .before .before .before .before .before .group .ensures) (c .before .before .before .before .before .before .before .before .before .turns .ensures) (c .before .before .before .before .before .before .before .before .if2 .left) (c .before .before .before .before .before .bounds .result) (c .before .before .before .before .before .bounds .ensures) (c .before .before .before .enum-told .given .1)
+exec-requires c κs =
+    let at-enum-told = c .before .before .before in
+    let at-if2 = at-enum-told .before .before .before .before .before in
+    let at-fetch = at-if2 .before .before .before .before .before in
+    let start = at-fetch .before .before .before .before .before .before in
+    let D = at-fetch .before .before .loop .inv .0 (start .pre .0 .held .valid) (start .pre .0 .held .config) (start .pre .0 .held .carries) in
+    exec-apt D (at-fetch .fetch .result) (at-fetch .fetch .ensures) (at-if2 .before .before .group .result) (at-if2 .before .before .group .ensures)
+    (at-if2 .before .turns .ensures) (at-if2 .if2 .left) (at-enum-told .before .before .bounds .result)
+    (at-enum-told .before .before .bounds .ensures) (at-enum-told .enum-told .given .1)
 
 add-at : tie.Need-add-at Inv-loop μ-loop
-add-at c = let D = c .before .before .before .before .before .before .before .before .before .before .before .before .before .before .before .before .before .before .before .loop .inv .0 (c .before .before .before .before .before .before .before .before .before .before .before .before .before .before .before .before .before .before .before .before .before .before .before .pre .0 .held .valid) (c .before .before .before .before .before .before .before .before .before .before .before .before .before .before .before .before .before .before .before .before .before .before .before .pre .0 .held .config) (c .before .before .before .before .before .before .before .before .before .before .before .before .before .before .before .before .before .before .before .before .before .before .before .pre .0 .held .carries) in omega (arith, inside D (c .before .before .before .before .before .before .before .before .before .before .before .before .before .before .before .before .before .fetch .result) (c .before .before .before .before .before .before .before .before .before .before .before .before .before .before .before .before .before .fetch .ensures))
+add-at c =
+    let back = c .before .before .before .before .before .before .before .before .before .before in
+    let at-fetch = back .before .before .before .before .before .before .before in
+    let start = at-fetch .before .before .before .before .before .before in
+    let D = at-fetch .before .before .loop .inv .0 (start .pre .0 .held .valid) (start .pre .0 .held .config) (start .pre .0 .held .carries) in
+    omega (arith, inside D (at-fetch .fetch .result) (at-fetch .fetch .ensures))
 
 sub-left-2 : tie.Need-sub-left-2 Inv-loop μ-loop
-sub-left-2 c = pos-of-ne-zero (c .before .before .before .before .before .before .before .before .before .before .before .before .before .before .before .before .before .before .if1 .left)
+sub-left-2 c =
+    let back = c .before .before .before .before .before .before .before .before .before .before in
+    let at-if1 = back .before .before .before .before .before .before .before .before in
+    pos-of-ne-zero (at-if1 .if1 .left)
 
 loop-less-2 : tie.Need-loop-less-2 Inv-loop μ-loop
-loop-less-2 c = omega (arith, pos-of-ne-zero (c .before .before .before .before .before .before .before .before .before .before .before .before .before .before .before .before .before .before .if1 .left))
+loop-less-2 c =
+    let back = c .before .before .before .before .before .before .before .before .before .before in
+    let at-if1 = back .before .before .before .before .before .before .before .before in
+    omega (arith, pos-of-ne-zero (at-if1 .if1 .left))
 
 loop-again-2 : tie.Need-loop-again-2 Inv-loop μ-loop
-loop-again-2 c = (λ v c₀ C. let D = c .before .before .before .before .before .before .before .before .before .before .before .before .before .before .before .before .before .before .before .loop .inv .0 v c₀ C in onward D (c .before .before .before .before .before .before .before .before .before .before .before .before .before .before .before .before .before .fetch .result) (c .before .before .before .before .before .before .before .before .before .before .before .before .before .before .before .before .before .fetch .ensures) (c .before .before .before .before .before .before .before .before .before .before .before .before .before .before .group .result) (c .before .before .before .before .before .before .before .before .before .before .before .before .before .before .group .ensures) (c .before .before .before .before .before .before .before .before .before .before .before .before .before .turns .ensures) (c .before .before .before .before .before .before .before .before .before .before .before .before .if2 .left) (c .before .before .before .before .before .before .before .before .before .bounds .result) (c .before .before .before .before .before .before .before .before .before .bounds .ensures) (c .before .before .before .before .before .before .before .enum-told .given .1) (pos-of-ne-zero (c .before .before .before .before .before .before .before .before .before .before .before .before .before .before .before .before .before .before .if1 .left)) (c .before .before .before .exec .ensures) (c .before .before .before .exec .kept .1 .1 .1 .1 .1 .1 .0), c .before .before .before .before .before .before .before .before .before .before .before .before .before .before .before .before .before .before .before .loop .inv .1)
+loop-again-2 c =
+    let at-exec = c .before .before .before in
+    let at-enum-told = at-exec .before .before .before .before in
+    let at-if2 = at-enum-told .before .before .before .before .before in
+    let at-fetch = at-if2 .before .before .before .before .before in (
+      λ v c₀ C. let D = at-fetch .before .before .loop .inv .0 v c₀ C in onward D (at-fetch .fetch .result) (at-fetch .fetch .ensures)
+          (at-if2 .before .before .group .result) (at-if2 .before .before .group .ensures) (at-if2 .before .turns .ensures) (at-if2 .if2 .left)
+          (at-enum-told .before .before .bounds .result) (at-enum-told .before .before .bounds .ensures) (at-enum-told .enum-told .given .1)
+          (pos-of-ne-zero (at-fetch .before .if1 .left)) (at-exec .exec .ensures) (at-exec .exec .kept .1 .1 .1 .1 .1 .1 .0),
+      at-fetch .before .before .loop .inv .1,
+    )
 
 enum-told-2 : tie.Need-enum-told-2 Inv-loop μ-loop
 enum-told-2 c = search needs
 
 sub-t42 : tie.Need-sub-t42 Inv-loop μ-loop
-sub-t42 c = omega (arith, c .before .before .before .before .before .before .before .before .before .before .before .before .loop .inv .0 (c .before .before .before .before .before .before .before .before .before .before .before .before .before .before .before .before .pre .0 .held .valid) (c .before .before .before .before .before .before .before .before .before .before .before .before .before .before .before .before .pre .0 .held .config) (c .before .before .before .before .before .before .before .before .before .before .before .before .before .before .before .before .pre .0 .held .carries) .within)
+sub-t42 c =
+    let back = c .before .before .before .before .before .before .before .before .before .before in
+    let at-loop = back .before .before in
+    let start = at-loop .before .before .before .before in
+    omega (arith, at-loop .loop .inv .0 (start .pre .0 .held .valid) (start .pre .0 .held .config) (start .pre .0 .held .carries) .within)
 
 same-length-5 : tie.Need-same-length-5 Inv-loop μ-loop
-same-length-5 c = c .before .before .before .before .before .before .before .before .before .before .before .before .loop .inv .0 (c .before .before .before .before .before .before .before .before .before .before .before .before .before .before .before .before .pre .0 .held .valid) (c .before .before .before .before .before .before .before .before .before .before .before .before .before .before .before .before .pre .0 .held .config) (c .before .before .before .before .before .before .before .before .before .before .before .before .before .before .before .before .pre .0 .held .carries) .long
+same-length-5 c =
+    let back = c .before .before .before .before .before .before .before .before .before .before in
+    let at-loop = back .before .before in
+    let start = at-loop .before .before .before .before in
+    at-loop .loop .inv .0 (start .pre .0 .held .valid) (start .pre .0 .held .config) (start .pre .0 .held .carries) .long
 
 same-length-6 : tie.Need-same-length-6 Inv-loop μ-loop
-same-length-6 c = ap length (c .before .before .before .before .before .before .before .before .before .before .before .before .loop .inv .0 (c .before .before .before .before .before .before .before .before .before .before .before .before .before .before .before .before .pre .0 .held .valid) (c .before .before .before .before .before .before .before .before .before .before .before .before .before .before .before .before .pre .0 .held .config) (c .before .before .before .before .before .before .before .before .before .before .before .before .before .before .before .before .pre .0 .held .carries) .untouched)
+same-length-6 c =
+    let back = c .before .before .before .before .before .before .before .before .before .before in
+    let at-loop = back .before .before in
+    let start = at-loop .before .before .before .before in
+    ap length (at-loop .loop .inv .0 (start .pre .0 .held .valid) (start .pre .0 .held .config) (start .pre .0 .held .carries) .untouched)
 
 returns-3 : tie.Need-returns-3 Inv-loop μ-loop
-returns-3 c = λ v c₀ C. let D = c .before .before .before .before .before .before .before .before .before .before .before .before .loop .inv .0 v c₀ C in strayed D (c .before .before .before .before .before .before .before .before .before .before .fetch .result) (c .before .before .before .before .before .before .before .before .before .before .fetch .ensures) (c .before .before .before .before .before .before .before .group .result) (c .before .before .before .before .before .before .before .group .ensures) (c .before .before .before .before .before .before .turns .ensures) (c .before .before .before .before .before .if2 .left) (c .before .before .bounds .result) (c .before .before .bounds .ensures) (pos-of-ne-zero (c .before .before .before .before .before .before .before .before .before .before .before .if1 .left)) (not-clear (c .enum-told2 .given .1))
+returns-3 c =
+    let at-if2 = c .before .before .before .before .before in
+    let at-fetch = at-if2 .before .before .before .before .before in
+    λ v c₀ C. let D = at-fetch .before .before .loop .inv .0 v c₀ C in strayed D (at-fetch .fetch .result) (at-fetch .fetch .ensures)
+    (at-if2 .before .before .group .result) (at-if2 .before .before .group .ensures) (at-if2 .before .turns .ensures) (at-if2 .if2 .left)
+    (c .before .before .bounds .result) (c .before .before .bounds .ensures) (pos-of-ne-zero (at-fetch .before .if1 .left))
+    (not-clear (c .enum-told2 .given .1))
 
 pub go-on-spec : {M : Type 1} → statement M
 go-on-spec =

@@ -12,7 +12,11 @@ returns : tie.Need-returns
 returns c l row =
     let a = c .before .before .before .before .before .before .before .before .before .before .args in let s = a .stack .now in let d = a .depth in
     c .before .before .put .ensures ∙
-    ap (putSlot s (d - 1)) (c .before .before .before .load .ensures l row ∙ ap (loaded l) (c .before .before .before .before .before .read .ensures ∙ ap (λ (x : ℕ). padded (part (a .n) x (a .mem .now))) (c .before .before .before .before .before .before .address .ensures .0)))
+    ap (putSlot s (d - 1))
+    (c .before .before .before .load .ensures l row
+    ∙ ap (loaded l)
+    (c .before .before .before .before .before .read .ensures
+    ∙ ap (λ (x : ℕ). padded (part (a .n) x (a .mem .now))) (c .before .before .before .before .before .before .address .ensures .0)))
 
 pub load-spec : {M : Type 1} → statement M
 load-spec = tie.close (tie.spec (λ c κs. search needs) (λ c κs. search needs) (λ c. search needs) (λ c κs. search needs) (λ c κs. search needs) (λ c. search needs) returns)

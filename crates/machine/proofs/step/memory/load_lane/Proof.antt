@@ -14,7 +14,10 @@ returns c w row h =
     let a = c .before .before .before .before .before .before .before .before .before .before .before .before .args in let s = a .stack .now in let d = a .depth in
     c .before .before .put .ensures ∙
     ap (putSlot s (d - 2)) (c .before .before .before .lane-in .ensures w row h ∙
-    ap₂ (λ (u v : List ℕ). laneIn w u v (a .index)) (c .before .before .before .before .before .before .before .read .ensures ∙ ap (λ (x : ℕ). padded (part (a .n) x (a .mem .now))) (c .before .before .before .before .before .before .before .before .address .ensures .0)) (c .before .before .before .before .before .top .ensures))
+    ap₂ (λ (u v : List ℕ). laneIn w u v (a .index))
+    (c .before .before .before .before .before .before .before .read .ensures
+    ∙ ap (λ (x : ℕ). padded (part (a .n) x (a .mem .now))) (c .before .before .before .before .before .before .before .before .address .ensures .0))
+    (c .before .before .before .before .before .top .ensures))
 
 pub load-lane-spec : {M : Type 1} → statement M
 load-lane-spec = tie.close (tie.spec (λ c κs. search needs) (λ c κs. search needs) (λ c κs. search needs) (λ c. search needs) (λ c κs. search needs) (λ c κs. search needs) (λ c. search needs) returns)

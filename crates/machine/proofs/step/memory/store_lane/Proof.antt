@@ -13,7 +13,10 @@ returns : tie.Need-returns
 returns c w row h =
     let a = c .before .before .before .before .before .before .before .before .before .args in
     c .before .before .write .ensures ∙
-    ap₂ (stored (a .mem .now)) (c .before .before .before .before .before .before .address .ensures .0) (ap (take (a .n)) (c .before .before .before .lane-out .ensures w row h ∙ ap (λ (v : List ℕ). laneOut w v (a .index)) (c .before .before .before .before .before .top .ensures)))
+    ap₂ (stored (a .mem .now)) (c .before .before .before .before .before .before .address .ensures .0)
+    (ap (take (a .n))
+    (c .before .before .before .lane-out .ensures w row h
+    ∙ ap (λ (v : List ℕ). laneOut w v (a .index)) (c .before .before .before .before .before .top .ensures)))
 
 pub store-lane-spec : {M : Type 1} → statement M
 store-lane-spec = tie.close (tie.spec (λ c κs. search needs) (λ c κs. search needs) (λ c κs. search needs) (λ c κs. search needs) (λ c. search needs) returns)

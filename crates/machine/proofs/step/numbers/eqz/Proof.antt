@@ -45,7 +45,16 @@ same-length c = search needs
 
 -- src/step/numbers.rt:48:1
 returns : tie.Need-returns
-returns c = let a = c .before .before .before .before .before .before .before .before .before .before .args in c .before .before .put .ensures ∙ ap (putSlot (a .stack .now) (a .depth - 1)) (c .before .before .before .of-number .ensures ∙ ap (le 16) (c .before .before .before .before .is-zero .ensures ∙ ap (λ (x : ℕ). cond (eqb x 0) 1 0) (c .before .before .before .before .before .before .word .ensures ∙ ap low32 (c .before .before .before .before .before .before .before .top .ensures))))
+returns c =
+    let a = c .before .before .before .before .before .before .before .before .before .before .args in
+    c .before .before .put .ensures
+    ∙ ap (putSlot (a .stack .now) (a .depth - 1))
+    (c .before .before .before .of-number .ensures
+    ∙ ap (le 16)
+    (c .before .before .before .before .is-zero .ensures
+    ∙ ap (λ (x : ℕ). cond (eqb x 0) 1 0)
+    (c .before .before .before .before .before .before .word .ensures
+    ∙ ap low32 (c .before .before .before .before .before .before .before .top .ensures))))
 
 pub eqz-spec : {M : Type 1} → statement M
 eqz-spec =

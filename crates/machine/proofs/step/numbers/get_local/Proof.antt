@@ -6,7 +6,9 @@ use Rattle.machine.proofs.step.numbers.get_local.Statement.{statement}
 use Rattle.machine.proofs.step.numbers.get_local.Tie as tie
 
 returns : tie.Need-returns
-returns c = let a = c .before .before .before .before .before .before .before .args in c .before .before .put .ensures ∙ ap (putSlot (a .stack .now) (a .depth)) (c .before .before .before .before .get .ensures)
+returns c =
+    let a = c .before .before .before .before .before .before .before .args in
+    c .before .before .put .ensures ∙ ap (putSlot (a .stack .now) (a .depth)) (c .before .before .before .before .get .ensures)
 
 pub get-local-spec : {M : Type 1} → statement M
 get-local-spec = tie.close (tie.spec (λ c κs. search needs) (λ c κs. search needs) (λ c. search needs) returns)

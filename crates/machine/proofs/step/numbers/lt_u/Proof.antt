@@ -53,7 +53,18 @@ same-length c = search needs
 
 -- src/step/numbers.rt:62:1
 returns : tie.Need-returns
-returns c = let a = c .before .before .before .before .before .before .before .before .before .before .before .before .before .args in c .before .before .put .ensures ∙ ap (putSlot (a .stack .now) (a .depth - 2)) (c .before .before .before .of-number .ensures ∙ ap (le 16) (c .before .before .before .before .is-less .ensures ∙ ap₂ (λ (x y : ℕ). cond (ltb x y) 1 0) (c .before .before .before .before .before .before .word2 .ensures ∙ ap low32 (c .before .before .before .before .before .before .before .top2 .ensures)) (c .before .before .before .before .before .before .before .before .before .word .ensures ∙ ap low32 (c .before .before .before .before .before .before .before .before .before .before .top .ensures))))
+returns c =
+    let done = c .before .before .before .before in
+    let second = done .before .before in
+    let first = second .before .before .before in
+    let a = first .before .before .before .before .args in
+    c .before .before .put .ensures
+    ∙ ap (putSlot (a .stack .now) (a .depth - 2))
+    (c .before .before .before .of-number .ensures
+    ∙ ap (le 16)
+    (done .is-less .ensures
+    ∙ ap₂ (λ (x y : ℕ). cond (ltb x y) 1 0) (second .word2 .ensures ∙ ap low32 (second .before .top2 .ensures))
+    (first .word .ensures ∙ ap low32 (first .before .top .ensures))))
 
 pub lt-u-spec : {M : Type 1} → statement M
 lt-u-spec =

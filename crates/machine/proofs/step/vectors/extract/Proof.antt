@@ -13,7 +13,11 @@ returns : tie.Need-returns
 returns c q w row h =
     let a = c .before .before .before .before .before .before .before .before .before .args in let s = a .stack .now in let d = a .depth in
     c .before .before .put .ensures ∙
-    ap (putSlot s (d - 1)) (c .before .before .before .of-number .ensures ∙ ap (le 16) (c .before .before .before .before .extract .ensures q w row h ∙ ap (λ (v : List ℕ). extracted q w v (a .index)) (c .before .before .before .before .before .before .top .ensures)))
+    ap (putSlot s (d - 1))
+    (c .before .before .before .of-number .ensures
+    ∙ ap (le 16)
+    (c .before .before .before .before .extract .ensures q w row h
+    ∙ ap (λ (v : List ℕ). extracted q w v (a .index)) (c .before .before .before .before .before .before .top .ensures)))
 
 pub extract-spec : {M : Type 1} → statement M
 extract-spec = tie.close (tie.spec (λ c κs. search needs) (λ c. search needs) (λ c κs. search needs) (λ c κs. search needs) (λ c κs. search needs) (λ c. search needs) returns)

@@ -14,7 +14,9 @@ returns c w row h =
     let a = c .before .before .before .before .before .before .before .before .before .before .before .args in let s = a .stack .now in let d = a .depth in
     c .before .before .put .ensures ∙
     ap (putSlot s (d - 2)) (c .before .before .before .replace .ensures w row h ∙
-    ap₂ (λ (v : List ℕ) (x : ℕ). replaced w v (a .index) x) (c .before .before .before .before .before .top2 .ensures) (c .before .before .before .before .before .before .before .long .ensures ∙ ap low64 (c .before .before .before .before .before .before .before .before .top .ensures)) ∙
+    ap₂ (λ (v : List ℕ) (x : ℕ). replaced w v (a .index) x) (c .before .before .before .before .before .top2 .ensures)
+    (c .before .before .before .before .before .before .before .long .ensures
+    ∙ ap low64 (c .before .before .before .before .before .before .before .before .top .ensures)) ∙
     replaced-lowest w (topOf s d 2) (a .index) (topOf s d 1))
 
 pub replace-spec : {M : Type 1} → statement M

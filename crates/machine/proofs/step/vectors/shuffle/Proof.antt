@@ -13,7 +13,10 @@ returns : tie.Need-returns
 returns c =
     let a = c .before .before .before .before .before .before .before .before .before .before .args in let s = a .stack .now in let d = a .depth in
     c .before .before .put .ensures ∙
-    ap (putSlot s (d - 2)) (shuffle-value (c .before .before .before .before .before .top2 .result .bytes) (c .before .before .before .before .before .before .before .top .result .bytes) (a .indices .bytes) (c .before .before .before .before .before .before .before .before .before .before .pre .1) (c .before .before .before .shuffle .ensures) ∙
+    ap (putSlot s (d - 2))
+    (shuffle-value (c .before .before .before .before .before .top2 .result .bytes)
+    (c .before .before .before .before .before .before .before .top .result .bytes) (a .indices .bytes)
+    (c .before .before .before .before .before .before .before .before .before .before .pre .1) (c .before .before .before .shuffle .ensures) ∙
     ap₂ (λ (u v : List ℕ). shuffled u v (a .indices .bytes)) (c .before .before .before .before .before .top2 .ensures) (c .before .before .before .before .before .before .before .top .ensures))
 
 pub shuffle-spec : {M : Type 1} → statement M

@@ -38,7 +38,8 @@ pub extmul-exact : (s : Sign) (w w′ : Width) (x y : ℕ) → Doubles w w′ �
     → value s w′ (iextmul s w w′ x y) ≡ value s w x *ℤ value s w y
 unfolding iextmul
 extmul-exact U w w′ x y e hx hy = ap pos (mod-eq-of-lt (subst (λ (k : ℕ). x * y < 2 ^ k) (sym e) (below (bits w) hx hy)))
-extmul-exact S w w′ x y e hx hy = read-back w′ (value S w x *ℤ value S w y) (product-fits w w′ (value S w x) (value S w y) wide (signed w x hx) (signed w y hy) .sfits)
+extmul-exact S w w′ x y e hx hy =
+    read-back w′ (value S w x *ℤ value S w y) (product-fits w w′ (value S w x) (value S w y) wide (signed w x hx) (signed w y hy) .sfits)
   where
     more : hbits w + hbits w < hbits w′
     more = omega (arith, half-bits w w′ e)
@@ -111,7 +112,7 @@ module _ (w w′ : Width) (x y x′ y′ : ℕ) (e : Doubles w w′)
 
   pub dot-exact : (value S w′ (idot w w′ x y x′ y′) ≡ exactDot w x y x′ y′) ↔ (AllLeast w x y x′ y′ → ⊥)
   unfolding idot
-  dot-exact = (wraps, (λ other. at other (full-sum p q (H * H) some (product-abs (value S w x) (value S w y) H mx my) (product-abs (value S w x′) (value S w y′) H mx′ my′))))
+  dot-exact = (wraps, (λ other. at other (full-sum p q (H * H) some (product-abs (value S w x) (value S w y) H mx my) second)))
     where
       H : ℕ
       H = 2 ^ hbits w
@@ -127,6 +128,9 @@ module _ (w w′ : Width) (x y x′ y′ : ℕ) (e : Doubles w w′)
 
       my′ : mag (value S w y′) < H
       my′ = signed w y′ hy′
+
+      second : natAbs (value S w x′ *ℤ value S w y′) ≤ H * H
+      second = product-abs (value S w x′) (value S w y′) H mx′ my′
 
       p : ℤ
       p = value S w x *ℤ value S w y
@@ -155,12 +159,13 @@ module _ (w w′ : Width) (x y x′ y′ : ℕ) (e : Doubles w w′)
           fits : H * H + H * H < 2 ^ hbits w′
           fits = subst (λ (z : ℤ). mag z < 2 ^ hbits w′) (f ∙ sum) (signed w′ (wrap w′ (p +ℤ q)) (wrap-lt w′ (p +ℤ q)))
 
-      at : (AllLeast w x y x′ y′ → ⊥) → (mag (p +ℤ q) < H * H + H * H) ⊎ ((p ≡ pos (H * H)) × (q ≡ pos (H * H))) → value S w′ (wrap w′ (p +ℤ q)) ≡ p +ℤ q
+      at : (AllLeast w x y x′ y′ → ⊥) → (mag (p +ℤ q) < H * H + H * H) ⊎ ((p ≡ pos (H * H)) × (q ≡ pos (H * H)))
+          → value S w′ (wrap w′ (p +ℤ q)) ≡ p +ℤ q
       at other (inl l) = read-back w′ (p +ℤ q) (subst (λ (k : ℕ). mag (p +ℤ q) < k) (sym room) l)
-      at other (inr (f, g)) = absurd (other (first .0 ∙ sym is-least, first .1 ∙ sym is-least, second .0 ∙ sym is-least, second .1 ∙ sym is-least))
+      at other (inr (f, g)) = absurd (other (one-x .0 ∙ sym is-least, one-x .1 ∙ sym is-least, one-y .0 ∙ sym is-least, one-y .1 ∙ sym is-least))
         where
-          first : (value S w x ≡ negsuc (H - 1)) × (value S w y ≡ negsuc (H - 1))
-          first = full-product (value S w x) (value S w y) H mx my f
+          one-x : (value S w x ≡ negsuc (H - 1)) × (value S w y ≡ negsuc (H - 1))
+          one-x = full-product (value S w x) (value S w y) H mx my f
 
-          second : (value S w x′ ≡ negsuc (H - 1)) × (value S w y′ ≡ negsuc (H - 1))
-          second = full-product (value S w x′) (value S w y′) H mx′ my′ g
+          one-y : (value S w x′ ≡ negsuc (H - 1)) × (value S w y′ ≡ negsuc (H - 1))
+          one-y = full-product (value S w x′) (value S w y′) H mx′ my′ g
