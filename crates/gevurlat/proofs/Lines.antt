@@ -30,7 +30,8 @@ pub hexadecimal-more : (xs : List ℕ) (i high low : ℕ) → i < length xs → 
     → hexadecimal (take i xs) ++ (high ∷ [] ++ low ∷ []) ≡ hexadecimal (take (i + 1) xs)
 unfolding hexadecimal
 hexadecimal-more xs i high low h p q =
-    ap₂ (λ (x y : ℕ). hexadecimal (take i xs) ++ (x ∷ [] ++ y ∷ [])) p q ∙ sym (hexadecimal-append (take i xs) (getD xs i 0 ∷ [])) ∙ ap hexadecimal (take-more xs i h)
+    ap₂ (λ (x y : ℕ). hexadecimal (take i xs) ++ (x ∷ [] ++ y ∷ [])) p q ∙ sym (hexadecimal-append (take i xs) (getD xs i 0 ∷ []))
+    ∙ ap hexadecimal (take-more xs i h)
 
 pub hexadecimal-place : (xs : List ℕ) (i : ℕ) → i ≤ length xs → length (hexadecimal (take i xs)) ≡ 2 * i
 hexadecimal-place xs i h = omega (arith, hexadecimal-length (take i xs), length-take-le i xs h)

@@ -24,7 +24,8 @@ number-short : (n last : ℕ) → n < 2 ^ 64 → length (decimal n ++ last ∷ [
 number-short n last h = omega (arith, length-append (decimal n) (last ∷ []), decimal-short n h)
 
 -- a text from the front on: how far it goes, and the text
-from-front : {bytes before after : List ℕ} {next : ℕ} → Appends bytes before 0 next after → length bytes ≤ length before → Counts next after × (take next after ≡ bytes)
+from-front : {bytes before after : List ℕ} {next : ℕ} → Appends bytes before 0 next after → length bytes ≤ length before
+    → Counts next after × (take next after ≡ bytes)
 from-front {after = after} {next} p room =
     let within : next + 0 ≤ length after = room-left 0 p (omega arith) in
     ((omega arith, sym (length-take-le next after (omega arith))), text-grows p (omega arith))
@@ -93,6 +94,7 @@ module _ (a : Answer) (small : Small a) (results : List ℕ) {out₀ out₁ : Li
       pub with-lines : a .code ≡ DONE → {out₄ : List ℕ} {end : ℕ} → Appends (lines results (length results / slot)) out₃ k end out₄
           → Counts end out₄ × Shown a results (take end out₄)
       with-lines done {out₄} {end} l =
-          let long : length row + length (lines results (length results / slot)) ≤ length out₀ = omega (arith, row-short, lines-length results (length results / slot) (omega arith)) in
+          let long : length row + length (lines results (length results / slot)) ≤ length out₀ =
+          omega (arith, row-short, lines-length results (length results / slot) (omega arith)) in
           let w = from-front (both-appended made l (omega arith)) (omega (arith, length-append row (lines results (length results / slot)))) in
           (w .0, shows (take end out₄) (w .1 ∙ rw (eq-eqb (a .code) DONE done)))

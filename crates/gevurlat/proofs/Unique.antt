@@ -1,4 +1,4 @@
--- Of any bytes the program prints one text. The memory that it lends is within the limit, and the buffer for the results is always the one that the strip asks for.
+-- Of any bytes the program prints one text. The memory that it lends is within the limit, and the buffer for the results is the one that the strip asks for.
 use Prim.Native.Nat.{ℕ, _*_, _≤_}
 use mathlib.Core.Path.{_≡_, ap, ap₂, sym, _∙_, subst}
 use mathlib.Core.List.{List, [], _∷_, _++_}
@@ -39,7 +39,7 @@ one-text κs a e e′ r r′ p q = prints-once (p .1) (q .1)
 
 pub memory-fits : length (zeros memoryBytes) ≤ memoryLimit
 unfolding zeros
-memory-fits = omega (arith, length-replicate memoryBytes 0)
+memory-fits = omega (arith, length-replicate {A = ℕ} memoryBytes 0)
 
 pub buffer-fits : {s : List ℕ} (v : Valid s) → Slots (v .header .results) (zeros (slot * resultCount s))
 unfolding zeros

@@ -13,7 +13,8 @@ take-zeros zero m h = refl
 take-zeros (suc n) zero h = absurd (let none : ⊥ = omega arith in none)
 take-zeros (suc n) (suc m) h = ap (λ (l : List ℕ). 0 ∷ l) (take-zeros n m (omega arith))
 
-pub prints-zeros : {s text : List ℕ} (m n k : ℕ) → m ≡ memoryBytes → n ≡ slot * resultCount s → n ≤ k → PrintsFrom s (replicate m 0) (take n (replicate k 0)) text → Prints s text
+pub prints-zeros : {s text : List ℕ} (m n k : ℕ) → m ≡ memoryBytes → n ≡ slot * resultCount s → n ≤ k
+    → PrintsFrom s (replicate m 0) (take n (replicate k 0)) text → Prints s text
 unfolding zeros
 prints-zeros {s} {text} m n k e f h p =
     subst (λ (l : List ℕ). PrintsFrom s l (zeros (slot * resultCount s)) text) (ap zeros e)

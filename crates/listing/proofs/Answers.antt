@@ -28,7 +28,8 @@ module _ {s none none′ : List ℕ} {len : ℕ} (p : Passed s none len none′)
       let after : 0 + length text ≡ length text = omega arith in
       let e : out′ ≡ text ++ drop (length text) out =
       q .written (omega (arith, ap length same)) ∙ ap (sets out 0) same ∙ sets-eq text out 0 (omega arith) ∙ ap (λ (k : ℕ). text ++ drop k out) after in
-      subst (λ (n : ℕ). Lists s out (answer DONE 0 n) out′) (sym (p .counted)) (subst (Lists s out (answer DONE 0 (length text))) (sym e) (done (p .listing) fits))
+      subst (λ (n : ℕ). Lists s out (answer DONE 0 n) out′) (sym (p .counted))
+      (subst (Lists s out (answer DONE 0 (length text))) (sym e) (done (p .listing) fits))
 
 -- ONE ANSWER, and one content of the output
 pub lists-once : {s out : List ℕ} {r q : Listed} {out₁ out₂ : List ℕ} → Lists s out r out₁ → Lists s out q out₂ → (r ≡ q) × (out₁ ≡ out₂)

@@ -29,5 +29,6 @@ module _ (p : ℕ) (κs : List Kind) (i : Instr) (more : List ℕ) where
   unfolding line joined
   parted = simp append-assoc
 
-  pub line-aside : Without blank (decimal p) → Without newline (unplaced κs i) → asideFrom true (line p κs i ++ more) ≡ unplaced κs i ++ newline ∷ asideFrom true more
+  pub line-aside : Without blank (decimal p) → Without newline (unplaced κs i)
+      → asideFrom true (line p κs i ++ more) ≡ unplaced κs i ++ newline ∷ asideFrom true more
   line-aside b n = ap (asideFrom true) parted ∙ place-passed (decimal p) (unplaced κs i ++ newline ∷ more) b ∙ line-kept (unplaced κs i) more n

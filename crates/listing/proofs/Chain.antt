@@ -30,7 +30,10 @@ module _ {kinds : List ℕ} {depth id entry : ℕ} {i : Instr} {room : ℕ} (w :
   pub lettered : Lettered (nameOf id)
   lettered =
       subst Lettered (sym name-is)
-      (record { few = name-short (i .first) (i .number) (w .typed .first); letters = λ k l. omega (arith, letters-at (mnemonic i) (name-letters (i .first) (i .number) (w .typed .first)) k l .low) })
+      (record {
+        few = name-short (i .first) (i .number) (w .typed .first);
+        letters = λ k l. omega (arith, letters-at (mnemonic i) (name-letters (i .first) (i .number) (w .typed .first)) k l .low);
+      })
 
   pub class-is : {class : ℕ} → class ≡ classIn entry → class ≡ classOf (rowIn latest i)
   class-is e = e ∙ class-in (carried (w .code)) (w .entry-is) ∙ ap classOf (sym (w .row))
@@ -50,23 +53,30 @@ module _ {kinds : List ℕ} {depth id entry : ℕ} {i : Instr} {out o₁ : List 
 
   module _ {o₂ : List ℕ} {n₂ : ℕ} (stack : (κs : List Kind) → KindBytes kinds depth κs → Adds (5 * depth + 2) (bracketed κs) o₁ n₁ n₂ o₂) where
     pub after-stack : (n₂ ≤ 23 + 5 * depth) × (length o₂ ≡ length out)
-    after-stack = let e = adds-ends (stack (w .stack) (w .holds)) (omega (arith, after-place, w .most, w .enough)) in (omega (arith, e .0, after-place .0), e .1 ∙ after-place .1)
+    after-stack =
+        let e = adds-ends (stack (w .stack) (w .holds)) (omega (arith, after-place, w .most, w .enough)) in
+        (omega (arith, e .0, after-place .0), e .1 ∙ after-place .1)
 
     module _ {o₃ : List ℕ} {n₃ : ℕ} (gap : Appends (blank ∷ []) o₂ n₂ n₃ o₃) where
       pub after-gap : (n₃ ≤ 24 + 5 * depth) × (length o₃ ≡ length out)
-      after-gap = let e = adds-ends (one-byte gap) (omega (arith, after-stack, w .most, w .enough)) in (omega (arith, e .0, after-stack .0), e .1 ∙ after-stack .1)
+      after-gap =
+          let e = adds-ends (one-byte gap) (omega (arith, after-stack, w .most, w .enough)) in (omega (arith, e .0, after-stack .0), e .1 ∙ after-stack .1)
 
       module _ {o₄ : List ℕ} {n₄ : ℕ} (name : Adds 32 (nameOf id) o₃ n₃ n₄ o₄) where
         pub after-name : (n₄ ≤ 56 + 5 * depth) × (length o₄ ≡ length out)
         after-name = let e = adds-ends name (omega (arith, after-gap, w .most, w .enough)) in (omega (arith, e .0, after-gap .0), e .1 ∙ after-gap .1)
 
-        pub is-line : {o₅ o₆ : List ℕ} {n₅ n₆ : ℕ} → Adds 336 (led (map spelled (immediates i))) o₄ n₄ n₅ o₅ → Appends (newline ∷ []) o₅ n₅ n₆ o₆ → (κs : List Kind) → KindBytes kinds depth κs
+        pub is-line : {o₅ o₆ : List ℕ} {n₅ n₆ : ℕ} → Adds 336 (led (map spelled (immediates i))) o₄ n₄ n₅ o₅ → Appends (newline ∷ []) o₅ n₅ n₆ o₆
+            → (κs : List Kind) → KindBytes kinds depth κs
             → Adds longest (line at κs i) out 0 n₆ o₆
         is-line numbers last κs held =
             let most = w .most in
             let room = w .enough in
             adds-most (omega arith)
-            (adds-same (ap (λ (x : List ℕ). (decimal at ++ blank ∷ []) ++ (bracketed κs ++ ((blank ∷ []) ++ (x ++ (led (map spelled (immediates i)) ++ newline ∷ []))))) (name-is w) ∙ whole at κs i)
+            (adds-same (ap
+            (λ (x : List ℕ). (decimal at ++ blank ∷ []) ++ (bracketed κs ++ ((blank ∷ []) ++ (x ++ (led (map spelled (immediates i)) ++ newline ∷ [])))))
+            (name-is w)
+            ∙ whole at κs i)
             (adds-both place
             (adds-both (stack κs held)
             (adds-both (one-byte gap)

@@ -29,7 +29,8 @@ use Rattle.listing.proofs.Words.{place-without, no-newline, told-once}
 use Rattle.listing.proofs.Spellings.{one-instr}
 
 -- PLACES ASIDE leaves all of a line but its place and the blank after it
-pub first-aside : {v : ℕ} {s : List ℕ} {p n : ℕ} {i : Instr} (κs : List Kind) (more : List ℕ) → Stands v s p i n → asideFrom true (line p κs i ++ more) ≡ unplaced κs i ++ newline ∷ asideFrom true more
+pub first-aside : {v : ℕ} {s : List ℕ} {p n : ℕ} {i : Instr} (κs : List Kind) (more : List ℕ) → Stands v s p i n
+    → asideFrom true (line p κs i ++ more) ≡ unplaced κs i ++ newline ∷ asideFrom true more
 first-aside {p = p} {i = i} κs more w = line-aside p κs i more (place-without p) (no-newline (reads-of w .1) κs)
 
 not-none : (xs ys : List ℕ) (b : ℕ) → [] ≡ xs ++ b ∷ ys → ⊥
@@ -38,14 +39,19 @@ not-none (x ∷ xs) ys b e = let z : _≡_ {A = ℕ} 0 1 = cc in omega arith
 
 -- ---- the same text, the same instructions
 
-text-tells : {s t : List ℕ} {h : Header} {p q : ℕ} {x y : List ℕ} (l : Lines s h p x) (m : Lines t h q y) → asideFrom true x ≡ asideFrom true y → instrsIn l ≡ instrsIn m
+text-tells : {s t : List ℕ} {h : Header} {p q : ℕ} {x y : List ℕ} (l : Lines s h p x) (m : Lines t h q y) → asideFrom true x ≡ asideFrom true y
+    → instrsIn l ≡ instrsIn m
 text-tells (no-more a) (no-more b) e = refl
-text-tells (no-more a) (one-more {fs = λs} {i = j} {text = y} r w m) e = absurd (not-none (unplaced (allValues λs) j) (asideFrom true y) newline (e ∙ first-aside (allValues λs) y w))
-text-tells (one-more {fs = κs} {i = i} {text = x} r w l) (no-more b) e = absurd (not-none (unplaced (allValues κs) i) (asideFrom true x) newline (sym e ∙ first-aside (allValues κs) x w))
+text-tells (no-more a) (one-more {fs = λs} {i = j} {text = y} r w m) e =
+    absurd (not-none (unplaced (allValues λs) j) (asideFrom true y) newline (e ∙ first-aside (allValues λs) y w))
+text-tells (one-more {fs = κs} {i = i} {text = x} r w l) (no-more b) e =
+    absurd (not-none (unplaced (allValues κs) i) (asideFrom true x) newline (sym e ∙ first-aside (allValues κs) x w))
 text-tells (one-more {fs = κs} {i = i} {text = x} r w l) (one-more {fs = λs} {i = j} {text = y} r′ w′ m) e =
     let a = reads-of w .1 in
     let b = reads-of w′ .1 in
-    let parts = cut-once newline (unplaced (allValues κs) i) (unplaced (allValues λs) j) (no-newline a (allValues κs)) (no-newline b (allValues λs)) (sym (first-aside (allValues κs) x w) ∙ e ∙ first-aside (allValues λs) y w′) in
+    let parts =
+    cut-once newline (unplaced (allValues κs) i) (unplaced (allValues λs) j) (no-newline a (allValues κs)) (no-newline b (allValues λs))
+    (sym (first-aside (allValues κs) x w) ∙ e ∙ first-aside (allValues λs) y w′) in
     let same = told-once a b (allValues κs) (allValues λs) (parts .0) in
     ap₂ (λ (k : Instr) (ks : List Instr). k ∷ ks) (one-instr a b (same .0) (same .1)) (text-tells l m (parts .1))
 
@@ -55,7 +61,8 @@ text-tells (one-more {fs = κs} {i = i} {text = x} r w l) (one-more {fs = λs} {
 abbrev Same : List ℕ → List ℕ → Header → ℕ → ℕ → Type 0
 Same s t h p q = (κs λs : List Frame) → Reaches s h p κs → Reaches t h q λs → κs ≡ λs
 
-same-on : {s t : List ℕ} {h : Header} {p q n m : ℕ} {i : Instr} {κs : List Frame} → Reaches s h p κs → Reaches t h q κs → Stands (h .version) s p i n → Stands (h .version) t q i m → Same s t h (p + n) (q + m)
+same-on : {s t : List ℕ} {h : Header} {p q n m : ℕ} {i : Instr} {κs : List Frame} → Reaches s h p κs → Reaches t h q κs → Stands (h .version) s p i n
+    → Stands (h .version) t q i m → Same s t h (p + n) (q + m)
 same-on {h = h} {i = i} {κs = κs} r r′ w w′ α β a b =
     let x = step-between r w a in
     let y = step-between r′ w′ b in
@@ -84,7 +91,8 @@ same-front α β a b = reached-once a (front (declared a)) ∙ reached-once (fro
 module _ {s t : List ℕ} {h : Header} {is js : List Instr} {x y : List ℕ} (a : Consists s h is) (b : Consists t h js) (f : Listing s x) (g : Listing t y) where
   lines-of : {u z : List ℕ} {ks : List Instr} → Consists u h ks → Listing u z → Lines u h (length (headerBytes h)) z
   lines-of {u} {z} o w =
-      subst (λ (k : Header). Lines u k (length (headerBytes k)) z) (declares-once u (w .valid .header) h (declared (w .valid .reached)) (o .declares)) (w .lines)
+      subst (λ (k : Header). Lines u k (length (headerBytes k)) z) (declares-once u (w .valid .header) h (declared (w .valid .reached)) (o .declares))
+      (w .lines)
 
   pub listing-exact : (placesAside x ≡ placesAside y) ↔ (is ≡ js)
   unfolding placesAside

@@ -62,12 +62,14 @@ pub dead-end : line 19 (allValues (deadened inside ∷ around ∷ [])) (instr (h
 unfolding leading decimal spelled joined plainAt plainName vectors vectorAt vectorName immediateFields fieldsOf bracketed immediates line
 dead-end = refl
 
-pub dead-known : line 21 (allValues (holding (deadened inside) (i32 ∷ []) ∷ around ∷ [])) (instr (head 0x0B 0) 0 0 0 0 0 0 zeros) ≡ ascii "21 [v128 i32] end" ++ newline ∷ []
+pub dead-known : line 21 (allValues (holding (deadened inside) (i32 ∷ []) ∷ around ∷ [])) (instr (head 0x0B 0) 0 0 0 0 0 0 zeros)
+    ≡ ascii "21 [v128 i32] end" ++ newline ∷ []
 unfolding leading decimal spelled joined plainAt plainName vectors vectorAt vectorName immediateFields fieldsOf bracketed immediates line
 dead-known = refl
 
 -- ---- places aside
 
-pub aside : placesAside (ascii "9 [] i32.const -1" ++ newline ∷ (ascii "27 [i32 v128] end" ++ newline ∷ [])) ≡ ascii "[] i32.const -1" ++ newline ∷ (ascii "[i32 v128] end" ++ newline ∷ [])
+pub aside : placesAside (ascii "9 [] i32.const -1" ++ newline ∷ (ascii "27 [i32 v128] end" ++ newline ∷ []))
+    ≡ ascii "[] i32.const -1" ++ newline ∷ (ascii "[i32 v128] end" ++ newline ∷ [])
 unfolding placesAside
 aside = refl

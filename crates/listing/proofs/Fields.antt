@@ -45,7 +45,8 @@ fields-once (number sign N v ∷ fs) (number sign′ N′ v′ ∷ gs) a e =
     let shown : integer sign N v ≡ integer sign′ N′ v′ = cc in
     let rest : numbers fs ≡ numbers gs = cc in
     let same : v ≡ v′ = number-once sign N v v′ (a .2) (a .3) (a .4) (shown ∙ ap₂ (λ (s : Bool) (n : ℕ). integer s n v′) (sym (a .0)) (sym (a .1))) in
-    ap₂ (λ (f : Field) (l : List Field). f ∷ l) (ap₂ (λ (s : Bool) (n : ℕ). number s n v) (a .0) (a .1) ∙ ap (number sign′ N′) same) (fields-once fs gs (a .5) rest)
+    ap₂ (λ (f : Field) (l : List Field). f ∷ l) (ap₂ (λ (s : Bool) (n : ℕ). number s n v) (a .0) (a .1) ∙ ap (number sign′ N′) same)
+    (fields-once fs gs (a .5) rest)
 fields-once (number sign N v ∷ fs) (raw ys ∷ gs) a e = absurd a
 fields-once (raw xs ∷ fs) (number sign N v ∷ gs) a e = absurd a
 fields-once (raw xs ∷ fs) (raw ys ∷ gs) a e =

@@ -26,7 +26,8 @@ pub record Follows (s kinds blocks text : List ℕ) (state : State) (at : ℕ) :
   pub room : length text ≡ longest
 
 -- from the first instruction, with nothing on the stack and no block open
-pub follow-begins : {s : List ℕ} → Valid s → {at : ℕ} {state : State} (kinds blocks text : List ℕ) → at ≡ startOf s → state ≡ outset → length kinds ≡ stackLimit → length blocks ≡ nestLimit
+pub follow-begins : {s : List ℕ} → Valid s → {at : ℕ} {state : State} (kinds blocks text : List ℕ) → at ≡ startOf s → state ≡ outset
+    → length kinds ≡ stackLimit → length blocks ≡ nestLimit
     → length text ≡ longest → Follows s kinds blocks text state at
 follow-begins {s} v {at} kinds blocks text e begins k b room =
     let d = declared (v .reached) in

@@ -20,7 +20,8 @@ use Rattle.listing.specs.Listing.{Lines, no-more, one-more, Listing}
 
 -- ---- a valid strip has one
 
-lines-between : {s : List ℕ} {h : Header} {p q : ℕ} {κs λs : List Frame} {rest : List ℕ} → Reaches s h p κs → Onward s h p κs q λs → (Reaches s h q λs → Lines s h q rest)
+lines-between : {s : List ℕ} {h : Header} {p q : ℕ} {κs λs : List Frame} {rest : List ℕ} → Reaches s h p κs → Onward s h p κs q λs
+    → (Reaches s h q λs → Lines s h q rest)
     → (text : List ℕ) × Lines s h p text
 lines-between {rest = rest} a here f = (rest, f a)
 lines-between {p = p} {κs = κs} a (next {i = i} r t l o) f =

@@ -38,10 +38,14 @@ one-byte p = record { short = omega arith; appends = p }
 pub adds-both : {a b : ℕ} {xs ys out out′ out″ : List ℕ} {at m n : ℕ} → Adds a xs out at m out′ → Adds b ys out′ m n out″ → at + a + b ≤ length out
     → Adds (a + b) (xs ++ ys) out at n out″
 adds-both {xs = xs} {ys} p q room =
-    record { short = omega (arith, p .short, q .short, length-append xs ys); appends = both-appended (p .appends) (q .appends) (omega (arith, p .short, q .short)) }
+    record {
+      short = omega (arith, p .short, q .short, length-append xs ys);
+      appends = both-appended (p .appends) (q .appends) (omega (arith, p .short, q .short));
+    }
 
 -- where it ends
-pub adds-ends : {most : ℕ} {xs out out′ : List ℕ} {at n : ℕ} → Adds most xs out at n out′ → at + most ≤ length out → (n ≤ at + most) × (length out′ ≡ length out)
+pub adds-ends : {most : ℕ} {xs out out′ : List ℕ} {at n : ℕ} → Adds most xs out at n out′ → at + most ≤ length out
+    → (n ≤ at + most) × (length out′ ≡ length out)
 adds-ends p room = let e = appended (p .appends) (omega (arith, p .short)) in (omega (arith, e .0, p .short), length-kept (p .appends))
 
 -- ---- the stack
@@ -66,7 +70,8 @@ inner-more kinds k l =
     let ws = map kindText (take k kinds) in
     let w = kindText (getD kinds k 0) in
     let many : length ws ≡ k = length-map (take k kinds) kindText ∙ length-take-le k kinds (omega arith) in
-    let all : ws ++ w ∷ [] ≡ map kindText (take (k + 1) kinds) = sym (map-append kindText (take k kinds) (getD kinds k 0 ∷ [])) ∙ ap (map kindText) (take-more kinds k l) in
+    let all : ws ++ w ∷ [] ≡ map kindText (take (k + 1) kinds) =
+    sym (map-append kindText (take k kinds) (getD kinds k 0 ∷ [])) ∙ ap (map kindText) (take-more kinds k l) in
     ap (λ (n : ℕ). joined ws ++ (between n ++ w)) (sym many) ∙ sym (joined-snoc ws w) ∙ ap joined all
 
 chosen : (t : Bool) (xs ys : List ℕ) → length xs ≤ 4 → length ys ≤ 4 → length (cond t xs ys) ≤ 4
@@ -139,10 +144,16 @@ module _ {kinds out₀ out : List ℕ} {depth at to k : ℕ} (m : Stacking kinds
   pub stack-room : (to ≤ at + 5 * k) × (length out ≡ length out₀)
   stack-room = adds-ends (m .made) (omega (arith, m .most, m .room))
 
-  pub stack-more : k < depth → {n : ℕ} {out′ : List ℕ} → Adds 5 (between k ++ kindText (getD kinds k 0)) out to n out′ → Stacking kinds depth out₀ at n out′ (k + 1)
+  pub stack-more : k < depth → {n : ℕ} {out′ : List ℕ} → Adds 5 (between k ++ kindText (getD kinds k 0)) out to n out′
+      → Stacking kinds depth out₀ at n out′ (k + 1)
   stack-more h q =
       let e = inner-more kinds k (omega (arith, m .held)) in
-      record { most = omega arith; held = m .held; room = m .room; made = adds-most (omega arith) (adds-same e (adds-both (m .made) q (omega (arith, m .room)))) }
+      record {
+        most = omega arith;
+        held = m .held;
+        room = m .room;
+        made = adds-most (omega arith) (adds-same e (adds-both (m .made) q (omega (arith, m .room))));
+      }
 
   pub stack-closed : depth ≤ k → {start n : ℕ} {before out′ : List ℕ} → Appends (0x5B ∷ []) before start at out₀ → start + 5 * depth + 2 ≤ length before
       → Appends (0x5D ∷ []) out to n out′ → (κs : List Kind) → KindBytes kinds depth κs → Adds (5 * depth + 2) (bracketed κs) before start n out′
@@ -155,7 +166,8 @@ module _ {kinds out₀ out : List ℕ} {depth at to k : ℕ} (m : Stacking kinds
 pub first-next : {k : ℕ} {w out out′ : List ℕ} {at n : ℕ} → k ≡ 0 → Adds 4 w out at n out′ → Adds 5 (between k ++ w) out at n out′
 first-next {w = w} e p = adds-most (omega arith) (adds-same (ap (λ (j : ℕ). between j ++ w) (sym e)) p)
 
-pub later-next : (k : ℕ) {w out out′ out″ : List ℕ} {at m n : ℕ} → (k ≡ 0 → ⊥) → Appends (blank ∷ []) out at m out′ → Adds 4 w out′ m n out″ → at + 5 ≤ length out
+pub later-next : (k : ℕ) {w out out′ out″ : List ℕ} {at m n : ℕ} → (k ≡ 0 → ⊥) → Appends (blank ∷ []) out at m out′ → Adds 4 w out′ m n out″
+    → at + 5 ≤ length out
     → Adds 5 (between k ++ w) out at n out″
 later-next zero f p q room = absurd (f refl)
 later-next (suc k) f p q room = adds-both (one-byte p) q (omega arith)
@@ -174,9 +186,14 @@ module _ {bs out₀ out : List ℕ} {at to k : ℕ} (m : Telling bs out₀ at to
   pub telling-room : (to ≤ at + 21 * k) × (length out ≡ length out₀)
   telling-room = adds-ends (m .made) (omega (arith, m .most, m .room))
 
-  pub telling-more : k < 16 → length bs ≡ 16 → {n : ℕ} {out′ : List ℕ} → Adds 21 (blank ∷ decimal (getD bs k 0)) out to n out′ → Telling bs out₀ at n out′ (k + 1)
+  pub telling-more : k < 16 → length bs ≡ 16 → {n : ℕ} {out′ : List ℕ} → Adds 21 (blank ∷ decimal (getD bs k 0)) out to n out′
+      → Telling bs out₀ at n out′ (k + 1)
   telling-more h sixteen q =
-      record { most = omega arith; room = m .room; made = adds-most (omega arith) (adds-same (told-more bs k (omega arith)) (adds-both (m .made) q (omega (arith, m .room)))) }
+      record {
+        most = omega arith;
+        room = m .room;
+        made = adds-most (omega arith) (adds-same (told-more bs k (omega arith)) (adds-both (m .made) q (omega (arith, m .room))));
+      }
 
   pub telling-ends : 16 ≤ k → length bs ≡ 16 → Adds 336 (led (map spelled (map pos bs))) out₀ at to out
   telling-ends h sixteen =

@@ -41,7 +41,8 @@ pub record Passing (s out₀ out kinds blocks text : List ℕ) (state : State) (
   pub few : to ≤ longest * at
   pub inside : (at ≤ length s) × (length s ≤ fileLimit)
 
-pub begins : {s : List ℕ} (v : Valid s) {at : ℕ} {state : State} (out kinds blocks text : List ℕ) → at ≡ startOf s → state ≡ outset → length kinds ≡ stackLimit → length blocks ≡ nestLimit
+pub begins : {s : List ℕ} (v : Valid s) {at : ℕ} {state : State} (out kinds blocks text : List ℕ) → at ≡ startOf s → state ≡ outset
+    → length kinds ≡ stackLimit → length blocks ≡ nestLimit
     → length text ≡ longest → Passing s out out kinds blocks text state at 0
 begins {s} v {at} out kinds blocks text e o k b room =
     let l = listed v in
@@ -74,7 +75,8 @@ record Front (s : List ℕ) (h : Header) (at : ℕ) (left : List ℕ) : Type 0 w
 
 first : {s : List ℕ} {h : Header} {at : ℕ} {left : List ℕ} → Lines s h at left → at < length s → Front s h at left
 first (no-more e) l = absurd (let z : ⊥ = omega (arith, e) in z)
-first (one-more {n = n} {fs = fs} {i = i} {text = text} r w m) l = record { frames = fs; instr = i; size = n; rest = text; reached = r; stands = w; text = refl; after = m }
+first (one-more {n = n} {fs = fs} {i = i} {text = text} r w m) l =
+    record { frames = fs; instr = i; size = n; rest = text; reached = r; stands = w; text = refl; after = m }
 
 none-left : {s : List ℕ} {h : Header} {at : ℕ} {left : List ℕ} → Lines s h at left → length s ≤ at → left ≡ []
 none-left (no-more e) l = refl
@@ -91,7 +93,8 @@ module _ {s out₀ out kinds blocks text : List ℕ} {state : State} {at to : �
         written = λ h. ap (sets out to) (sym none) ∙ p .same h;
       }
 
-  module _ (l : at < length s) {r : Next} {kinds′ blocks′ text′ : List ℕ} (w : Walked s at kinds blocks state text r kinds′ blocks′ text′) (kept : length text′ ≡ length text) where
+  module _ (l : at < length s) {r : Next} {kinds′ blocks′ text′ : List ℕ} (w : Walked s at kinds blocks state text r kinds′ blocks′ text′)
+      (kept : length text′ ≡ length text) where
     abbrev told : List ℕ
     told = lineOf (w .steps)
 
@@ -100,7 +103,8 @@ module _ {s out₀ out kinds blocks text : List ℕ} {state : State} {at to : �
 
     same-header : w .steps .before .valid .header ≡ p .listing .valid .header
     same-header =
-        declares-once s (w .steps .before .valid .header) (p .listing .valid .header) (declared (w .steps .before .valid .reached)) (declared (p .listing .valid .reached))
+        declares-once s (w .steps .before .valid .header) (p .listing .valid .header) (declared (w .steps .before .valid .reached))
+        (declared (p .listing .valid .reached))
 
     same-frames : head .frames ≡ w .steps .before .frames
     same-frames = reached-once (head .reached) (subst (λ (h : Header). Reaches s h at (w .steps .before .frames)) same-header (w .steps .before .reached))

@@ -71,7 +71,8 @@ module _ (i : Instr) where
   unfolding immediateFields immediates led spelled
   shown-lane e = sym (append-nil (one (i .lane))) ∙ ap shown (sym (fields-class r laneIndex e i))
 
-  pub shown-sixteen : (classOf r ≡ classNumber sixteenBytes) ⊎ (classOf r ≡ classNumber sixteenLanes) → led (map spelled (map pos (i .bytes))) ≡ led (map spelled (immediates i))
+  pub shown-sixteen : (classOf r ≡ classNumber sixteenBytes) ⊎ (classOf r ≡ classNumber sixteenLanes)
+      → led (map spelled (map pos (i .bytes))) ≡ led (map spelled (immediates i))
   unfolding immediateFields immediates
   shown-sixteen (inl e) = ap (λ (l : List ℤ). led (map spelled l)) (sym (append-nil (map pos (i .bytes)))) ∙ ap shown (sym (fields-class r sixteenBytes e i))
   shown-sixteen (inr e) = ap (λ (l : List ℤ). led (map spelled l)) (sym (append-nil (map pos (i .bytes)))) ∙ ap shown (sym (fields-class r sixteenLanes e i))
@@ -110,20 +111,25 @@ module _ (v : ℕ) {z : ℤ} where
     pub word-casts : SFits w64 (toZ w32 (ofZ w32 z))
     word-casts = subst (SFits w64) (sym back) (sfits-widen tt (sfits-toZ h))
 
-    pub word-told : {out out′ out″ : List ℕ} {at m n : ℕ} → Appends (blank ∷ []) out at m out′ → Appends (spelled (toZ w64 (ofZ w64 (toZ w32 (ofZ w32 z))))) out′ m n out″
+    pub word-told : {out out′ out″ : List ℕ} {at m n : ℕ} → Appends (blank ∷ []) out at m out′
+        → Appends (spelled (toZ w64 (ofZ w64 (toZ w32 (ofZ w32 z))))) out′ m n out″
         → at + 21 ≤ length out → Adds 21 (blank ∷ spelled (integer true 32 v)) out at n out″
     word-told p q room =
         let is : toZ w64 (ofZ w64 (toZ w32 (ofZ w32 z))) ≡ integer true 32 v = toZ-ofZ word-casts ∙ back ∙ word-read v in
         let few = spelled-short (integer true 32 v) (word-range (ltb v (2 ^ 31)) v (h .fits)) in
-        adds-both {b = 20} (one-byte p) (adds-same (ap spelled is) (record { short = omega (arith, few, ap (λ (x : ℤ). length (spelled x)) is); appends = q })) (omega arith)
+        adds-both {b = 20} (one-byte p)
+        (adds-same (ap spelled is) (record { short = omega (arith, few, ap (λ (x : ℤ). length (spelled x)) is); appends = q })) (omega arith)
 
-  pub long-told : Fits w64 v → z ≡ toZ w64 v → {out out′ out″ : List ℕ} {at m n : ℕ} → Appends (blank ∷ []) out at m out′ → Appends (spelled (toZ w64 (ofZ w64 z))) out′ m n out″
+  pub long-told : Fits w64 v → z ≡ toZ w64 v → {out out′ out″ : List ℕ} {at m n : ℕ} → Appends (blank ∷ []) out at m out′
+      → Appends (spelled (toZ w64 (ofZ w64 z))) out′ m n out″
       → at + 21 ≤ length out → Adds 21 (blank ∷ spelled (integer true 64 v)) out at n out″
   long-told h e p q room =
       let is : toZ w64 (ofZ w64 z) ≡ integer true 64 v = ap (λ (x : ℤ). toZ w64 (ofZ w64 x)) e ∙ ap (toZ w64) (ofZ-toZ h) ∙ long-read v in
       let few = spelled-short (integer true 64 v) (long-range (ltb v (2 ^ 63)) v (h .fits) refl) in
-      adds-both {b = 20} (one-byte p) (adds-same (ap spelled is) (record { short = omega (arith, few, ap (λ (x : ℤ). length (spelled x)) is); appends = q })) (omega arith)
+      adds-both {b = 20} (one-byte p)
+      (adds-same (ap spelled is) (record { short = omega (arith, few, ap (λ (x : ℤ). length (spelled x)) is); appends = q })) (omega arith)
 
-pub number-told : {v : ℕ} {out out′ out″ : List ℕ} {at m n : ℕ} → v < 2 ^ 64 → Appends (blank ∷ []) out at m out′ → Appends (decimal v) out′ m n out″ → at + 21 ≤ length out
+pub number-told : {v : ℕ} {out out′ out″ : List ℕ} {at m n : ℕ} → v < 2 ^ 64 → Appends (blank ∷ []) out at m out′ → Appends (decimal v) out′ m n out″
+    → at + 21 ≤ length out
     → Adds 21 (blank ∷ decimal v) out at n out″
 number-told {v} h p q room = adds-both {b = 20} (one-byte p) (record { short = decimal-short v h; appends = q }) (omega arith)

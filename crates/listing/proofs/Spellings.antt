@@ -59,12 +59,15 @@ module _ (v : ℕ) (c : Code) (i : Instr) (e : rowIn v i ≡ carried c) where
   its-bare = ap (λ (r : Row). keptOf r (headOf i) i) e
 
 -- two that stand in strips of one version
-pub one-instr : {v : ℕ} {s t : List ℕ} {p q n m : ℕ} {i j : Instr} {c d : Code} → Reads v s p i c n → Reads v t q j d m → mnemonic i ≡ mnemonic j → immediates i ≡ immediates j → i ≡ j
+pub one-instr : {v : ℕ} {s t : List ℕ} {p q n m : ℕ} {i j : Instr} {c d : Code} → Reads v s p i c n → Reads v t q j d m → mnemonic i ≡ mnemonic j
+    → immediates i ≡ immediates j → i ≡ j
 unfolding immediates
 one-instr {v} {i = i} {j = j} {c = c} {d = d} r w name shown =
     let a = r .stands in
     let b = w .stands in
-    let opcode = name-once (i .first) (i .number) (j .first) (j .number) (a .typed .first) (b .typed .first) (row-latest v (i .first) (i .number) (r .does)) (row-latest v (j .first) (j .number) (w .does)) name in
+    let opcode =
+    name-once (i .first) (i .number) (j .first) (j .number) (a .typed .first) (b .typed .first) (row-latest v (i .first) (i .number) (r .does))
+    (row-latest v (j .first) (j .number) (w .does)) name in
     let row : rowIn v j ≡ carried c = sym (same-row (i .first) (i .number) (j .first) (j .number) (opcode .0) (opcode .1) v) ∙ r .does in
     let k = Immediate.immediates c in
     let fields : immediateFields k i ≡ immediateFields k j =

@@ -43,5 +43,6 @@ walked-once {s} {p} {text = text} {r = r} {r′ = r′} x y =
     )
 
 pub one-line : (κs : _) (a : _) (e e′ : _) (r r′ : Next) → next-line.Post κs a r e → next-line.Post κs a r′ e′
-    → (r ≡ r′) × (now (e .1 .1 .0) ≡ now (e′ .1 .1 .0)) × (now (e .1 .1 .1 .0) ≡ now (e′ .1 .1 .1 .0)) × (now (e .1 .1 .1 .1 .1 .0) ≡ now (e′ .1 .1 .1 .1 .1 .0))
+    → (r ≡ r′) × (now (e .1 .1 .0) ≡ now (e′ .1 .1 .0)) × (now (e .1 .1 .1 .0) ≡ now (e′ .1 .1 .1 .0))
+    × (now (e .1 .1 .1 .1 .1 .0) ≡ now (e′ .1 .1 .1 .1 .1 .0))
 one-line κs a e e′ r r′ p q = walked-once p q

@@ -71,8 +71,14 @@ module _ {v : ℕ} {s : List ℕ} {p n : ℕ} {i : Instr} {c : Code} (r : Reads 
   unfolding bracketed
   no-newline κs =
       let q : Parts newline = inl (omega arith) in
-      joined-without newline (λ e. omega arith) (bracketed κs ∷ mnemonic i ∷ map spelled (immediates i))
-      ((λ e. omega arith, every-append (λ x. x ≡ newline → ⊥) (inner κs) (0x5D ∷ []) (joined-without newline (λ e. omega arith) (map kindName κs) (kinds-without q κs)) (λ e. omega arith, tt)), told-words q)
+      joined-without newline (λ e. omega arith) (bracketed κs ∷ mnemonic i ∷ map spelled (immediates i)) (
+        (
+          λ e. omega arith,
+          every-append (λ x. x ≡ newline → ⊥) (inner κs) (0x5D ∷ []) (joined-without newline (λ e. omega arith) (map kindName κs) (kinds-without q κs))
+              (λ e. omega arith, tt),
+        ),
+        told-words q,
+      )
 
 -- the kinds end at the bracket, and the words after it are told apart by blanks
 split : (κs : List Kind) (i : Instr) → unplaced κs i ≡ 0x5B ∷ (inner κs ++ 0x5D ∷ (blank ∷ told i))
@@ -89,5 +95,6 @@ module _ {v u : ℕ} {s t : List ℕ} {p q n m : ℕ} {i j : Instr} {c d : Code}
       (joined-without 0x5D (λ f. omega arith) (map kindName λs) (kinds-without bracket λs)) cut in
       let words : told i ≡ told j = let rest = parts .1 in cc in
       let between : Parts blank = inl (omega arith) in
-      let same = joined-once (mnemonic i) (map spelled (immediates i)) (mnemonic j) (map spelled (immediates j)) (told-words r between) (told-words w between) words in
+      let same =
+      joined-once (mnemonic i) (map spelled (immediates i)) (mnemonic j) (map spelled (immediates j)) (told-words r between) (told-words w between) words in
       (same .0, spelled-all (immediates i) (immediates j) (same .1))

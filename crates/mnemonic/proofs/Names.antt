@@ -11,7 +11,8 @@ use lib.ListN.{length}
 use mir.Facts.{and-yes}
 use borrow.Author.Tests.{eq-eqb, ne-eqb, lt-ltb, le-ltb}
 use Rattle.opcode.specs.Ascii.{ascii}
-use Rattle.opcode.specs.Table.{Code, Row, carried, float, unassigned, Line, name, lines, vectors, vectorAt, vectorName, plainLines, latest, plainAt, plainName, PREFIX, rowAt, nameAt}
+use Rattle.opcode.specs.Table.{Code, Row, carried, float, unassigned, Line, name, lines, vectors, vectorAt, vectorName, plainLines, latest, plainAt, plainName}
+use Rattle.opcode.specs.Table.{PREFIX, rowAt, nameAt}
 use Rattle.opcode.specs.Number.{idOf, rowOf, nameOf}
 use Rattle.opcode.specs.Lists.{upFrom}
 use Rattle.opcode.proofs.Every.{every, below, below-or-past}
@@ -73,7 +74,8 @@ all-back = tt
 at-id : (id : ℕ) {c : Code} → rowOf id ≡ carried c → T (eqb (idOfName (nameOf id)) id) × T (ltb 0 (length (nameOf id)))
 at-id id {c} e =
     ⊎-elim
-    (λ l. and-yes (eqb (idOfName (nameOf id)) id) (ltb 0 (length (nameOf id))) (subst (λ (r : Row). T (back id r (nameOf id))) e (below (λ k. back k (rowOf k) (nameOf k)) 512 all-back id l)))
+    (λ l. and-yes (eqb (idOfName (nameOf id)) id) (ltb 0 (length (nameOf id)))
+    (subst (λ (r : Row). T (back id r (nameOf id))) e (below (λ k. back k (rowOf k) (nameOf k)) 512 all-back id l)))
     (λ h. absurd (past h))
     (below-or-past 512 id)
   where
@@ -85,7 +87,8 @@ name-back id e = eqb→eq (idOfName (nameOf id)) id (at-id id e .0)
 
 -- ---- for callers
 
-pub name-once : (a m b n : ℕ) {c d : Code} → a < 256 → b < 256 → rowAt latest a m ≡ carried c → rowAt latest b n ≡ carried d → nameAt a m ≡ nameAt b n → (a ≡ b) × (a ≡ PREFIX → m ≡ n)
+pub name-once : (a m b n : ℕ) {c d : Code} → a < 256 → b < 256 → rowAt latest a m ≡ carried c → rowAt latest b n ≡ carried d → nameAt a m ≡ nameAt b n
+    → (a ≡ b) × (a ≡ PREFIX → m ≡ n)
 name-once a m b n la lb p q e =
     id-once a m b n la lb p
     (sym (name-back (idOf a m) (row-of-id a m la ∙ p))

@@ -22,7 +22,8 @@ joined-row [] r h = let none : ⊥ = omega arith in absurd none
 joined-row (t ∷ ts) zero h = take-at (padded (ascii t)) (joined ts) 32 (length-padded (ascii t))
 joined-row (t ∷ ts) (suc r) h =
     let past : suc r * 32 ≡ length (padded (ascii t)) + r * 32 = omega (arith, length-padded (ascii t)) in
-    ap (λ (j : ℕ). take 32 (drop j (padded (ascii t) ++ joined ts))) past ∙ ap (take 32) (drop-append-add (padded (ascii t)) (joined ts) (r * 32)) ∙ joined-row ts r (omega arith)
+    ap (λ (j : ℕ). take 32 (drop j (padded (ascii t) ++ joined ts))) past ∙ ap (take 32) (drop-append-add (padded (ascii t)) (joined ts) (r * 32))
+    ∙ joined-row ts r (omega arith)
 
 nth : (f : ℕ → String) (a m n : ℕ) → n < m → getD (map f (upFrom a m)) n "" ≡ f (a + n)
 nth f a zero n l = let none : ⊥ = omega arith in absurd none

@@ -62,7 +62,8 @@ module _ {s : List ℕ} {h : Header} {is : List Instr} (a : Consists s h is) (t 
   body = ap (drop (length (headerBytes h))) e ∙ drop-append-seam (headerBytes h) (encodings is)
 
   declares-again : Declares t h
-  declares-again = record { sized = omega (arith, a .declares .sized); versioned = a .declares .versioned; few = a .declares .few; body = encodings is; bytes = e }
+  declares-again =
+      record { sized = omega (arith, a .declares .sized); versioned = a .declares .versioned; few = a .declares .few; body = encodings is; bytes = e }
 
   pub holds-again : Consists t h is
   holds-again =

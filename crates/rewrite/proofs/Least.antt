@@ -31,7 +31,8 @@ all-written {s = s} {p} (no-more e) = drop-of-length-le s {i = p} (omega (arith,
 all-written {ver} {s} {p} (one-more {n = n} {i = i} {is = is} w r) =
     let rest : drop (p + n) s ≡ w .rest = ap (λ (k : ℕ). drop (p + k) s) (sym (w .long)) ∙ Places.past s p (w .bytes) (w .rest) (w .here) in
     let e : w .bytes ++ drop (p + n) s ≡ drop p s = ap (λ (l : List ℕ). w .bytes ++ l) rest ∙ sym (w .here) in
-    subst (InOrder Writes (layouts ver (i ∷ is))) e (in-order-append Writes (layout ver i) (layouts ver is) (w .bytes) (drop (p + n) s) (w .fields) (all-written r))
+    subst (InOrder Writes (layouts ver (i ∷ is))) e
+    (in-order-append Writes (layout ver i) (layouts ver is) (w .bytes) (drop (p + n) s) (w .fields) (all-written r))
 
 -- bytes that are as few as the shortest are the shortest
 as-few : (fs : List Field) (xs ys : List ℕ) → InOrder Shortest fs xs → InOrder Writes fs ys → length ys ≤ length xs → InOrder Shortest fs ys

@@ -37,7 +37,8 @@ pub record Passing (ver : ℕ) (s : List ℕ) (start : ℕ) (writing : Bool) (ou
   pub same : put writing out to (encodings left) ≡ put writing out₀ start (encodings all)
   pub long : length out ≡ length out₀
 
-pub begins : {ver : ℕ} {s : List ℕ} {start : ℕ} {writing : Bool} {out : List ℕ} → AtPass ver s start writing (length out) → Passing ver s start writing out out start start
+pub begins : {ver : ℕ} {s : List ℕ} {start : ℕ} {writing : Bool} {out : List ℕ} → AtPass ver s start writing (length out)
+    → Passing ver s start writing out out start start
 begins f =
     record {
       versioned = f .versioned;
@@ -111,7 +112,8 @@ module _ {ver : ℕ} {s : List ℕ} {start : ℕ} {writing : Bool} {out₀ out :
 
     lengths : to + (length (encoding (d .instr)) + length (encodings (here .rest))) ≡ start + length (encodings (p .all))
     lengths =
-        ap (λ (x : ℕ). to + x) (sym (length-append (encoding (d .instr)) (encodings (here .rest))) ∙ ap (λ (x : List Instr). length (encodings x)) (sym left-is))
+        ap (λ (x : ℕ). to + x)
+        (sym (length-append (encoding (d .instr)) (encodings (here .rest))) ∙ ap (λ (x : List Instr). length (encodings x)) (sym left-is))
         ∙ p .ends
 
     no-longer : to + length (encoding (d .instr)) ≤ at + d .len

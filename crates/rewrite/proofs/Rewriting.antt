@@ -121,7 +121,8 @@ module _ {s out : List ℕ} {r : Rewritten} {out′ : List ℕ} (w : Rewrites s 
       let h = went w z .header in
       let is = went w z .list in
       let e = is-shortest in
-      let twice : Rewrites (written r out′) out₂ (doneAnswer h is) (doneOut out₂ h is) = done still-valid (holds-again (went w z .holds) (written r out′) e not-longer) (omega (arith, len)) in
+      let twice : Rewrites (written r out′) out₂ (doneAnswer h is) (doneOut out₂ h is) =
+      done still-valid (holds-again (went w z .holds) (written r out′) e not-longer) (omega (arith, len)) in
       let same = rewrites-once v twice in
       (same .0 ∙ sym (went w z .result), same .1 ∙ ap₂ (λ (x : List ℕ) (k : ℕ). x ++ drop k out₂) (sym e) (sym len))
 

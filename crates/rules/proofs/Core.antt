@@ -42,9 +42,11 @@ grows opens-block few many = block-opens
 grows opens-loop few many = loop-opens
 grows (closes x) few many = absurd (let z : ⊥ = omega arith in z)
 
-after-one : {s : List ℕ} {h : Header} {p n : ℕ} {i : Instr} {c : Code} {gs gs′ : List Frame} → Reached s h p gs → Reads (h .version) s p i c n → Allows (locals h) i c gs gs′
+after-one : {s : List ℕ} {h : Header} {p n : ℕ} {i : Instr} {c : Code} {gs gs′ : List Frame} → Reached s h p gs → Reads (h .version) s p i c n
+    → Allows (locals h) i c gs gs′
     → Reached s h (p + n) gs′ ⊎ PastLimit s
-after-one {s} {h} {p} {n} {i} {c} {gs} {gs′} it r a = by (below-or-past (2 + nestLimit) (length (t .after))) (below-or-past (1 + stackLimit) (length (allValues (t .after))))
+after-one {s} {h} {p} {n} {i} {c} {gs} {gs′} it r a =
+    by (below-or-past (2 + nestLimit) (length (t .after))) (below-or-past (1 + stackLimit) (length (allValues (t .after))))
   where
     t : Typable (locals h) i c (it .frames) gs′
     t = dead-taken (it .fill) a
@@ -52,10 +54,15 @@ after-one {s} {h} {p} {n} {i} {c} {gs} {gs′} it r a = by (below-or-past (2 + n
     at : At s h p (it .frames) i c
     at = record { reached = it .reached; size = n; reads = r }
 
-    by : (length (t .after) < 2 + nestLimit) ⊎ (2 + nestLimit ≤ length (t .after)) → (length (allValues (t .after)) < 1 + stackLimit) ⊎ (1 + stackLimit ≤ length (allValues (t .after)))
+    by : (length (t .after) < 2 + nestLimit) ⊎ (2 + nestLimit ≤ length (t .after))
+        → (length (allValues (t .after)) < 1 + stackLimit) ⊎ (1 + stackLimit ≤ length (allValues (t .after)))
         → Reached s h (p + n) gs′ ⊎ PastLimit s
     by (inl b) (inl v) =
-        inl (record { frames = t .after; reached = past (it .reached) r (t .typed) (record { blocks = omega (arith, b); values = omega (arith, v) }); fill = t .fill })
+        inl (record {
+          frames = t .after;
+          reached = past (it .reached) r (t .typed) (record { blocks = omega (arith, b); values = omega (arith, v) });
+          fill = t .fill;
+        })
     by (inl b) (inr v) = inr (too-deep (deep at (t .typed) (omega (arith, v))))
     by (inr b) v =
         let o = grows (t .typed) (reached-within (it .reached) .blocks) (omega (arith, b)) in
@@ -86,4 +93,13 @@ valid-core {s} v = ⊎-elim (λ it. inl (by (it .reached) (it .fill))) inr (core
   where
     by : {fs : List Frame} → Reaches s (v .header) (v .place) fs → AllFill fs (v .strip ∷ []) → Valid s
     by reached (each {f = f} w none) =
-        record { header = v .header; place = v .place; strip = f; final = v .final; reached = reached; ends = v .ends; whole = ends-taken w (v .whole); last = v .last }
+        record {
+          header = v .header;
+          place = v .place;
+          strip = f;
+          final = v .final;
+          reached = reached;
+          ends = v .ends;
+          whole = ends-taken w (v .whole);
+          last = v .last;
+        }

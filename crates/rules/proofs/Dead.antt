@@ -8,7 +8,8 @@ use Rattle.opcode.specs.Kind.{Kind, i32}
 use Rattle.opcode.specs.BlockType.{blockResults}
 use Rattle.opcode.specs.Table.{End, Block, Loop, Br, BrIf, Code, plain, control}
 use Rattle.instr.specs.declared.Instr.{Instr}
-use Rattle.rules.specs.Typing.{Frame, opened, holding, deadened, branchKinds, Has, all-known, Types, ordinary, branches, may-branch, opens-block, opens-loop, closes, Ends, ends}
+use Rattle.rules.specs.Typing.{Frame, opened, holding, deadened, branchKinds, Has, all-known, Types, ordinary, branches, may-branch, opens-block}
+use Rattle.rules.specs.Typing.{opens-loop, closes, Ends, ends}
 use Rattle.rules.specs.Core.{over, Fills, AllFill, each, Typable, Possible, Allows, ordinary as plainly, br, br-if, block, loop, end}
 use Rattle.rules.proofs.Typings.{live-has}
 use Rattle.rules.proofs.Filling.{no-front, taken, given, held, filled, to-frame, to-stack, after-br, fresh}
@@ -36,7 +37,8 @@ dead-given {ls} {i} {c} (ordinary {ins = ins} {outs} {below} {f} {fs} t x) (each
       before = over (k .under) f ∷ gs;
       fill = each (filled (k .under) (k .none-live)) ws;
       allowed =
-          subst (λ (y : Frame). Allows ls i c (over (k .under) f ∷ gs) (y ∷ gs)) (ap (holding (over (k .under) f)) (append-assoc (w .under) below outs) ∙ sym (w .whole))
+          subst (λ (y : Frame). Allows ls i c (over (k .under) f ∷ gs) (y ∷ gs))
+          (ap (holding (over (k .under) f)) (append-assoc (w .under) below outs) ∙ sym (w .whole))
           (plainly (w .under ++ below) t (k .has));
     }
 dead-given {ls} {i} (branches {below = below} {f = f} {fs = fs} l x) (each {gs = gs} w ws) =
@@ -59,7 +61,8 @@ dead-given {ls} {i} (may-branch {below = below} {f} {g} {fs} l x) (each {gs = gs
       fill = here;
       allowed =
           subst (λ (y : Frame). Allows ls i (control BrIf) (over (k .under) f ∷ gs) (y ∷ gs))
-          (ap (holding (over (k .under) f)) (ap (λ (ks : List Kind). (w .under ++ below) ++ ks) (m .2) ∙ append-assoc (w .under) below (branchKinds g)) ∙ sym (w .whole))
+          (ap (holding (over (k .under) f)) (ap (λ (ks : List Kind). (w .under ++ below) ++ ks) (m .2) ∙ append-assoc (w .under) below (branchKinds g))
+          ∙ sym (w .whole))
           (br-if (w .under ++ below) (m .1) (k .has ∙ ap (λ (ks : List Kind). (w .under ++ below) ++ (ks ++ i32 ∷ [])) (sym (m .2))));
     }
 dead-given {ls} {i} opens-block (each {gs = gs} w ws) =
@@ -73,7 +76,9 @@ dead-given {ls} {i} (closes {f = f} {g} x) (each {gs = gs} w ws) =
       fill = each (k .1) (each (filled (w .under) (w .none-live)) ws);
       allowed =
           subst (λ (y : Frame). Allows ls i (plain End) (k .0 ∷ over (w .under) g ∷ gs) (y ∷ gs))
-          (ap (holding (over (w .under) g)) (ap (λ (x : Frame). (w .under ++ g .values) ++ x .results) (k .1 .whole) ∙ append-assoc (w .under) (g .values) (f .results)) ∙ sym (w .whole))
+          (ap (holding (over (w .under) g))
+          (ap (λ (x : Frame). (w .under ++ g .values) ++ x .results) (k .1 .whole) ∙ append-assoc (w .under) (g .values) (f .results))
+          ∙ sym (w .whole))
           (end (k .2));
     }
 
@@ -81,7 +86,11 @@ dead-given {ls} {i} (closes {f = f} {g} x) (each {gs = gs} w ws) =
 pub dead-taken : {ls : List Kind} {i : Instr} {c : Code} {fs gs gs′ : List Frame} → AllFill fs gs → Allows ls i c gs gs′ → Typable ls i c fs gs′
 dead-taken (each {f = f} {fs = fs} w ws) (plainly {ins = ins} {outs} v t e) =
     let k = taken v ins w e in
-    record { after = holding f (k .below ++ outs) ∷ fs; typed = ordinary t (k .has); fill = each (held (k .under) (k .below) w (k .left) refl (k .none-live)) ws }
+    record {
+      after = holding f (k .below ++ outs) ∷ fs;
+      typed = ordinary t (k .has);
+      fill = each (held (k .under) (k .below) w (k .left) refl (k .none-live)) ws;
+    }
 dead-taken (each {f = f} {fs = fs} w ws) (br {g = t} v u l e) =
     let m = to-frame (each w ws) l in
     let k = taken v (branchKinds t) w e in
@@ -142,5 +151,6 @@ module _ {ls : List Kind} {i : Instr} where
   live-taken n (end e) = closes (ends (all-known e))
 
   -- so it is typed by its known values, whatever is dead around it
-  pub live-exact : {c : Code} {f : Frame} {fs fs′ : List Frame} → f .dead ≡ false → (c ≡ control Br → ⊥) → Types ls i c (f ∷ fs) fs′ ↔ Allows ls i c (f ∷ fs) fs′
+  pub live-exact : {c : Code} {f : Frame} {fs fs′ : List Frame} → f .dead ≡ false → (c ≡ control Br → ⊥)
+      → Types ls i c (f ∷ fs) fs′ ↔ Allows ls i c (f ∷ fs) fs′
   live-exact l n = (live-given l n, live-taken n)

@@ -16,7 +16,8 @@ use Rattle.rules.specs.Typing.{Frame, allValues, Target, Local, Types, N
 use Rattle.rules.specs.Strip.{Reads, Within}
 use Rattle.rules.proofs.Ranks.{asked, Kept, none-asked, more, Stop}
 use Rattle.rules.proofs.Typings.{types-once}
-use Rattle.rules.proofs.Sorts.{opens-control, branches-control, names-control, end-nameless, opens-plain, branches-plain, opens-branches, typed-local, typed-label, typed-opens, typed-ends, typed-inner, opens-typed}
+use Rattle.rules.proofs.Sorts.{opens-control, branches-control, names-control, end-nameless, opens-plain, branches-plain, opens-branches, typed-local}
+use Rattle.rules.proofs.Sorts.{typed-label, typed-opens, typed-ends, typed-inner, opens-typed}
 use Rattle.rules.proofs.Onward.{only}
 
 module _ (s : List ℕ) (h : Header) (p : ℕ) (fs : List Frame) where

@@ -71,7 +71,8 @@ given {f} {ins = ins} w l (any k d e) =
 -- ---- frames
 
 -- what fills it holds other values over the same
-pub held : {f g : Frame} (u : List Kind) {v : List Kind} (b : List Kind) {outs outs′ : List Kind} → Fills f g → v ≡ u ++ b → outs′ ≡ outs → (f .dead ≡ false → u ≡ [])
+pub held : {f g : Frame} (u : List Kind) {v : List Kind} (b : List Kind) {outs outs′ : List Kind} → Fills f g → v ≡ u ++ b → outs′ ≡ outs
+    → (f .dead ≡ false → u ≡ [])
     → Fills (holding f (b ++ outs)) (holding g (v ++ outs′))
 held u b {outs = outs} w e o l =
     record {

@@ -39,7 +39,8 @@ declares-once s h h′ d d′ =
     let ks = kinds-once (kinds h) (kinds h′) (d .body) (d′ .body) (omega arith) rest in
     let first = parts-once (locals h) (locals h′) (h .results) (h′ .results) (omega arith) ks in
     let second = parts-once (h .parameters) (h′ .parameters) (h .further) (h′ .further) p (first .0) in
-    ap₂ (λ (x : ℕ) (y : List Kind). header x y (h .further) (h .results)) v (second .0) ∙ ap₂ (λ (x y : List Kind). header (h′ .version) (h′ .parameters) x y) (second .1) (first .1)
+    ap₂ (λ (x : ℕ) (y : List Kind). header x y (h .further) (h .results)) v (second .0)
+    ∙ ap₂ (λ (x y : List Kind). header (h′ .version) (h′ .parameters) x y) (second .1) (first .1)
 
 pub decodes-known : (v : ℕ) → Version v → (s : List ℕ) (at : ℕ) → decodeIn v s at ≡ decodeAt v s at
 decodes-known v is s at = ap (λ (t : Bool). cond t (decodeAt v s at) (refusal VERSION 3)) is

@@ -12,7 +12,8 @@ use Rattle.opcode.proofs.Versions.{one-straight}
 use Rattle.instr.specs.declared.Instr.{Instr}
 use Rattle.instr.specs.Layout.{rowIn}
 use Rattle.rules.specs.Header.{Header, locals}
-use Rattle.rules.specs.Typing.{Frame, opened, holding, allValues, Has, all-known, any, Types, ordinary, branches, may-branch, opens-block, opens-loop, closes}
+use Rattle.rules.specs.Typing.{Frame, opened, holding, allValues, Has, all-known, any, Types, ordinary, branches, may-branch, opens-block, opens-loop}
+use Rattle.rules.specs.Typing.{closes}
 use Rattle.rules.specs.Strip.{Reads, Within, Reaches, front, past}
 use Rattle.rules.specs.One.{ReachesOne, front-one, past-one, alone, Straight}
 
@@ -25,14 +26,16 @@ module _ (s : List ℕ) (h : Header) (old : h .version ≡ 1) where
   had-by whole (any u d q) = absurd (let z : _≡_ {A = ℕ} 0 1 = cc (d, ap (λ (g : Frame). g .dead) whole) in omega arith)
 
   -- one instruction
-  onward : {p n : ℕ} {i : Instr} {c : Code} {κs : List Kind} {fs fs′ : List Frame} → ReachesOne s h p κs → Reads (h .version) s p i c n → Types (locals h) i c fs fs′
+  onward : {p n : ℕ} {i : Instr} {c : Code} {κs : List Kind} {fs fs′ : List Frame} → ReachesOne s h p κs → Reads (h .version) s p i c n
+      → Types (locals h) i c fs fs′
       → Within fs′ → fs ≡ alone h κs → Straight s h (p + n) fs′
   onward {κs = κs} reached r (ordinary {ins = ins} {outs} {below} {f} {fs} t x) w e =
       let whole : f ≡ holding (opened false (h .results)) κs = cc (e) in
       let none : fs ≡ [] = cc (e) in
       record {
         stack = below ++ outs;
-        one = ap (λ (g : Frame). holding g (below ++ outs) ∷ fs) whole ∙ ap (λ (gs : List Frame). holding (opened false (h .results)) (below ++ outs) ∷ gs) none;
+        one =
+            ap (λ (g : Frame). holding g (below ++ outs) ∷ fs) whole ∙ ap (λ (gs : List Frame). holding (opened false (h .results)) (below ++ outs) ∷ gs) none;
         reached =
             past-one reached r (record { below = below; ins = ins; outs = outs; typed = t; had = had-by whole x; has = refl })
             (subst (λ (gs : List Frame). length (allValues gs ++ (below ++ outs)) ≤ stackLimit) none (w .values));

@@ -28,7 +28,8 @@ then : {s : List ℕ} {h : Header} {p q n : ℕ} {i : Instr} {c : Code} {κs λs
 then here r t l = next r t l here
 then (next r t l o) r′ t′ l′ = next r t l (then o r′ t′ l′)
 
-pub from-front : {s : List ℕ} {h : Header} {p : ℕ} {κs : List Frame} → Reaches s h p κs → Onward s h (length (headerBytes h)) (opened false (h .results) ∷ []) p κs
+pub from-front : {s : List ℕ} {h : Header} {p : ℕ} {κs : List Frame} → Reaches s h p κs
+    → Onward s h (length (headerBytes h)) (opened false (h .results) ∷ []) p κs
 from-front (front d) = here
 from-front (past r q t l) = then (from-front r) q t l
 
@@ -57,7 +58,8 @@ reads-once {v} {s} {p} {n} {m} {i} {j} {c} {d} a b =
     (same .0, code, same .1)
 
 -- what is so of the instruction that is read is so of every one
-pub only : {v : ℕ} {s : List ℕ} {p n : ℕ} {i : Instr} {c : Code} (P : Instr → Code → Type 0) → Reads v s p i c n → P i c → (j : Instr) (d : Code) (m : ℕ) → Reads v s p j d m → P j d
+pub only : {v : ℕ} {s : List ℕ} {p n : ℕ} {i : Instr} {c : Code} (P : Instr → Code → Type 0) → Reads v s p i c n → P i c → (j : Instr) (d : Code) (m : ℕ)
+    → Reads v s p j d m → P j d
 only {i = i} {c = c} P a x j d m b = let same = reads-once a b in subst (P j) (same .1) (subst (λ (y : Instr). P y c) (same .0) x)
 
 -- what an instruction leaves and where, once for both
@@ -91,7 +93,8 @@ reached-once {s} {h} {p} {κs} {λs} a b = by (compare (from-front a) (from-fron
     by (inr o) = sym (stays o (omega arith))
 
 -- what the instruction between two places that are reached makes of the frames
-pub step-between : {s : List ℕ} {h : Header} {p n : ℕ} {i : Instr} {κs λs : List Frame} → Reaches s h p κs → Stands (h .version) s p i n → Reaches s h (p + n) λs
+pub step-between : {s : List ℕ} {h : Header} {p n : ℕ} {i : Instr} {κs λs : List Frame} → Reaches s h p κs → Stands (h .version) s p i n
+    → Reaches s h (p + n) λs
     → (c : Code) × (rowIn (h .version) i ≡ carried c) × Types (locals h) i c κs λs
 step-between {s} {h} {p} {n} {i} {κs} {λs} a w b = by (compare (from-front a) (from-front b))
   where
@@ -99,8 +102,11 @@ step-between {s} {h} {p} {n} {i} {κs} {λs} a w b = by (compare (from-front a) 
     first here e = absurd (let z : ⊥ = omega (arith, e, stands-some w) in z)
     first {q} {μs} (next {n = m} {i = j} {c = c} {κs′ = ν} r t l o) e =
         let same = stands-once (h .version) s p j i m n (r .stands) w in
-        let end : ν ≡ μs = stays o (omega (arith, e, same .1)) in
-        (c, subst (λ (x : Instr). rowIn (h .version) x ≡ carried c) (same .0) (r .does), subst (λ (x : Instr). Types (locals h) x c κs μs) (same .0) (subst (Types (locals h) j c κs) end t))
+        let end : ν ≡ μs = stays o (omega (arith, e, same .1)) in (
+          c,
+          subst (λ (x : Instr). rowIn (h .version) x ≡ carried c) (same .0) (r .does),
+          subst (λ (x : Instr). Types (locals h) x c κs μs) (same .0) (subst (Types (locals h) j c κs) end t),
+        )
 
     by : Onward s h p κs (p + n) λs ⊎ Onward s h (p + n) λs p κs → (c : Code) × (rowIn (h .version) i ≡ carried c) × Types (locals h) i c κs λs
     by (inl o) = first o refl

@@ -7,7 +7,9 @@ use lib.ListN.{length}
 use Rattle.opcode.specs.Kind.{Kind}
 use Rattle.opcode.specs.Table.{End, Control, Block, Loop, Br, BrIf, Plain, Code, plain, control}
 use Rattle.instr.specs.declared.Instr.{Instr}
-use Rattle.rules.specs.Typing.{Frame, allValues, Target, Local, Typed, by-signature, got, set, teed, Types, ordinary, branches, may-branch, opens-block, opens-loop, closes, Names, get-names, set-names, tee-names, Opens, block-opens, loop-opens, Branches, br-branches, if-branches, Ends}
+use Rattle.rules.specs.Typing.{Frame, allValues, Target, Local, Typed, by-signature, got, set, teed, Types, ordinary, branches, may-branch, opens-block}
+use Rattle.rules.specs.Typing.{opens-loop, closes, Names, get-names, set-names, tee-names, Opens, block-opens, loop-opens, Branches, br-branches}
+use Rattle.rules.specs.Typing.{if-branches, Ends}
 use Rattle.rules.proofs.Typings.{end-untyped, control-untyped}
 
 -- ---- sorts

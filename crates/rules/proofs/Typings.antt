@@ -10,7 +10,8 @@ use Rattle.opcode.specs.Kind.{Kind, i32}
 use Rattle.opcode.specs.Table.{End, Control, Code, plain, control}
 use Rattle.opcode.specs.Effect.{Signature, _⇒_}
 use Rattle.instr.specs.declared.Instr.{Instr}
-use Rattle.rules.specs.Typing.{Frame, holding, branchKinds, Target, innermost, outer, Local, first, later, Typed, by-signature, dropped, got, set, teed, Has, all-known, any, Types, ordinary, branches, may-branch, opens-block, opens-loop, closes}
+use Rattle.rules.specs.Typing.{Frame, holding, branchKinds, Target, innermost, outer, Local, first, later, Typed, by-signature, dropped, got, set, teed}
+use Rattle.rules.specs.Typing.{Has, all-known, any, Types, ordinary, branches, may-branch, opens-block, opens-loop, closes}
 use Rattle.rules.proofs.Lists.{ends-once}
 
 pub local-once : {ls : List Kind} {n : ℕ} {k k′ : Kind} → Local ls n k → Local ls n k′ → k ≡ k′

@@ -9,13 +9,16 @@ use Rattle.opcode.specs.Kind.{Kind, kindByte}
 use Rattle.rules.specs.Header.{Version, Header, Few}
 use Rattle.rules.specs.Typing.{Frame}
 use Rattle.rules.specs.Strip.{Valid}
-use Rattle.rules.specs.Breach.{Sized, preamble, Refused, Breach, long, stub, unmarked, other-version, parameters, further, results, kind, kinds-short, short, block-type, opcode, float, number, lane, align, local, nest, label, operand, deep, result, trailing, Says, valid, breach}
+use Rattle.rules.specs.Breach.{Sized, preamble, Refused, Breach, long, stub, unmarked, other-version, parameters, further, results, kind, kinds-short}
+use Rattle.rules.specs.Breach.{short, block-type, opcode, float, number, lane, align, local, nest, label, operand, deep, result, trailing, Says, valid}
+use Rattle.rules.specs.Breach.{breach}
 use Rattle.rules.proofs.Ranks.{Stop, stop-once}
 use Rattle.rules.proofs.Headers.{declares-once}
 use Rattle.rules.proofs.Onward.{declared, reached-within}
 use Rattle.rules.proofs.Events.{unread, undeclared, too-nested, no-label, missing, too-deep, other-results, followed, ends-well}
 use Rattle.rules.proofs.Ends.{Ended, Tells, refusal, later, tells-once, ended-once}
-use Rattle.rules.proofs.Heads.{NoKind, none-left, other, kinds-part, HeadAsked, too-long, a-stub, no-mark, no-version, many-parameters, many-further, many-results, bad-kinds, whole-header}
+use Rattle.rules.proofs.Heads.{NoKind, none-left, other, kinds-part, HeadAsked, too-long, a-stub, no-mark, no-version, many-parameters, many-further}
+use Rattle.rules.proofs.Heads.{many-results, bad-kinds, whole-header}
 
 -- code and place of a rank of the header
 abbrev headCode : ℕ → ℕ
@@ -138,18 +141,25 @@ of-breach (float f) = refused f
 of-breach (number f) = refused f
 of-breach (lane f) = refused f
 of-breach (align f) = refused f
-of-breach {s} (local {h} {p} {fs} a names f) = in-body (record { reached = a .reached; stop = undeclared s h p fs (a .reads) names f; last = λ e. omega arith }) (later 0)
-of-breach {s} (nest {h} {p} {fs} a o g) = in-body (record { reached = a .reached; stop = too-nested s h p fs (a .reads) o g; last = λ e. omega arith }) (later 1)
+of-breach {s} (local {h} {p} {fs} a names f) =
+    in-body (record { reached = a .reached; stop = undeclared s h p fs (a .reads) names f; last = λ e. omega arith }) (later 0)
+of-breach {s} (nest {h} {p} {fs} a o g) =
+    in-body (record { reached = a .reached; stop = too-nested s h p fs (a .reads) o g; last = λ e. omega arith }) (later 1)
 of-breach {s} (label {h} {p} {fs} a b f) = in-body (record { reached = a .reached; stop = no-label s h p fs (a .reads) b f; last = λ e. omega arith }) (later 2)
-of-breach {s} (operand {h} {p} {fs} a o d l f) = in-body (record { reached = a .reached; stop = missing s h p fs (a .reads) o d l f; last = λ e. omega arith }) (later 3)
+of-breach {s} (operand {h} {p} {fs} a o d l f) =
+    in-body (record { reached = a .reached; stop = missing s h p fs (a .reads) o d l f; last = λ e. omega arith }) (later 3)
 of-breach {s} (deep {h} {p} {fs} a t g) =
     in-body (record { reached = a .reached; stop = too-deep s h p fs (a .reads) t (reached-within (a .reached) .values) g; last = λ e. omega arith }) (later 5)
-of-breach {s} (result {h} {p} {fs} a f) = in-body (record { reached = a .reached; stop = other-results s h p fs (a .reads) f; last = λ e. omega arith }) (later 4)
-of-breach {s} (trailing {h} {p} {f} a m g) = in-body (record { reached = a .reached; stop = followed s h p (f ∷ []) (a .reads) refl m g; last = λ e. omega arith }) (later 7)
+of-breach {s} (result {h} {p} {fs} a f) =
+    in-body (record { reached = a .reached; stop = other-results s h p fs (a .reads) f; last = λ e. omega arith }) (later 4)
+of-breach {s} (trailing {h} {p} {f} a m g) =
+    in-body (record { reached = a .reached; stop = followed s h p (f ∷ []) (a .reads) refl m g; last = λ e. omega arith }) (later 7)
 
 verdict : {s : List ℕ} {c l : ℕ} → Says s c l → Verdict s c l
 verdict {s} (valid v) =
-    in-body (record { reached = v .reached; stop = ends-well s (v .header) (v .place) (v .strip ∷ []) (v .ends) refl (v .whole) (v .last); last = λ e. omega arith }) (later 8)
+    in-body
+    (record { reached = v .reached; stop = ends-well s (v .header) (v .place) (v .strip ∷ []) (v .ends) refl (v .whole) (v .last); last = λ e. omega arith })
+    (later 8)
 verdict (breach b) = of-breach b
 
 -- whatever is said, it is one code at one place

@@ -23,16 +23,25 @@ fetch-requires : tie.Need-fetch-requires
 fetch-requires c κs = search needs
 
 line-requires : tie.Need-line-requires
-line-requires c κs = shows (c .before .before .before .before .before .before .before .before .before .before .pre .0) (c .before .before .before .before .fetch .ensures) (c .before .before .before .before .before .before .before .before .before .before .pre .1)
+line-requires c κs =
+    let at-fetch = c .before .before .before .before in
+    let start = at-fetch .before .before .before .before .before .before in
+    shows (start .pre .0) (at-fetch .fetch .ensures) (start .pre .1)
 
 add-next : tie.Need-add-next
-add-next c = omega (arith, inside (c .before .before .before .before .before .before .before .before .before .before .before .before .before .before .pre .0) (c .before .before .before .before .before .before .before .before .fetch .ensures))
+add-next c =
+    let at-fetch = c .before .before .before .before .before .before .before .before in
+    let start = at-fetch .before .before .before .before .before .before in
+    omega (arith, inside (start .pre .0) (at-fetch .fetch .ensures))
 
 summary-requires : tie.Need-summary-requires
 summary-requires c κs = search needs
 
 follow-requires : tie.Need-follow-requires
-follow-requires c κs = (c .before .before .before .before .before .before .before .before .before .before .before .before .before .before .before .before .before .pre .0, c .before .before .summary .ensures ∙ ap summaryOf (c .before .before .before .before .before .before .before .before .before .before .before .fetch .ensures))
+follow-requires c κs =
+    let at-fetch = c .before .before .before .before .before .before .before .before .before .before .before in
+    let start = at-fetch .before .before .before .before .before .before in
+    (start .pre .0, c .before .before .summary .ensures ∙ ap summaryOf (at-fetch .fetch .ensures))
 
 same-length : tie.Need-same-length
 same-length c = search needs
@@ -44,7 +53,12 @@ same-length-3 : tie.Need-same-length-3
 same-length-3 c = search needs
 
 returns : tie.Need-returns
-returns c = walked (c .before .before .before .before .follow .ensures) (c .before .before .before .before .before .before .before .before .before .before .before .before .before .before .before .before .fetch .ensures) (c .before .before .before .before .before .before .before .before .before .before .before .before .before .before .before .before .before .before .before .before .before .before .pre .1) (c .before .before .before .before .before .before .before .before .before .before .before .line .ensures) refl
+returns c =
+    let at-follow = c .before .before .before .before in
+    let at-line = at-follow .before .before .before .before .before .before .before in
+    let at-fetch = at-line .before .before .before .before .before in
+    let start = at-fetch .before .before .before .before .before .before in
+    walked (at-follow .follow .ensures) (at-fetch .fetch .ensures) (start .pre .1) (at-line .line .ensures) refl
 
 pub next-line-spec : {M : Type 1} → statement M
 next-line-spec =

@@ -35,25 +35,52 @@ slice-aggregate-next-line-3 : tie.Need-slice-aggregate-next-line-3 Inv-loop μ-l
 slice-aggregate-next-line-3 c = let f = c .before .before .before .before .loop .inv .follows in search needs
 
 next-line-requires : tie.Need-next-line-requires Inv-loop μ-loop
-next-line-requires c κs = let p = c .before .before .before .before .loop .inv .follows in (follow-walks p (c .before .before .before .loop-test .taken), omega (arith, p .room))
+next-line-requires c κs =
+    let p = c .before .before .before .before .loop .inv .follows in (follow-walks p (c .before .before .before .loop-test .taken), omega (arith, p .room))
 
 array-share-prefix-text : tie.Need-array-share-prefix-text Inv-loop μ-loop
-array-share-prefix-text c = let w = c .before .before .before .next-line in line-fits (c .before .before .before .before .before .before .before .before .loop .inv .follows) (c .before .before .before .before .before .before .before .loop-test .taken) (w .ensures) (w .kept .1 .1 .1 .1 .1 .0)
+array-share-prefix-text c =
+    let at-next-line = c .before .before .before in
+    let at-loop-test = at-next-line .before .before .before .before in
+    let at-loop = at-loop-test .before in
+    let w = at-next-line .next-line in line-fits (at-loop .loop .inv .follows) (at-loop-test .loop-test .taken) (w .ensures) (w .kept .1 .1 .1 .1 .1 .0)
 
 slice-aggregate-put : tie.Need-slice-aggregate-put Inv-loop μ-loop
-slice-aggregate-put c = let w = c .before .before .before .before .next-line in sym (length-take-le _ _ (line-fits (c .before .before .before .before .before .before .before .before .before .loop .inv .follows) (c .before .before .before .before .before .before .before .before .loop-test .taken) (w .ensures) (w .kept .1 .1 .1 .1 .1 .0)))
+slice-aggregate-put c =
+    let at-next-line = c .before .before .before .before in
+    let at-loop-test = at-next-line .before .before .before .before in
+    let at-loop = at-loop-test .before in
+    let w = at-next-line .next-line in
+    sym (length-take-le _ _ (line-fits (at-loop .loop .inv .follows) (at-loop-test .loop-test .taken) (w .ensures) (w .kept .1 .1 .1 .1 .1 .0)))
 
 put-requires : tie.Need-put-requires Inv-loop μ-loop
 put-requires c κs = search needs
 
 add-to : tie.Need-add-to Inv-loop μ-loop
-add-to c = let w = c .before .before .before .before .before .before .before .before .next-line in omega (arith, adds (c .before .before .before .before .before .before .before .before .before .before .before .before .before .loop .inv) (c .before .before .before .before .before .before .before .before .before .before .before .before .loop-test .taken) (w .ensures) (w .kept .1 .1 .1 .1 .1 .0))
+add-to c =
+    let at-next-line = c .before .before .before .before .before .before .before .before in
+    let at-loop-test = at-next-line .before .before .before .before in
+    let at-loop = at-loop-test .before in
+    let w = at-next-line .next-line in omega (arith, adds (at-loop .loop .inv) (at-loop-test .loop-test .taken) (w .ensures) (w .kept .1 .1 .1 .1 .1 .0))
 
 loop-less : tie.Need-loop-less Inv-loop μ-loop
-loop-less c = let w = c .before .before .before .before .before .before .before .before .before .next-line in omega (arith, onward (c .before .before .before .before .before .before .before .before .before .before .before .before .before .before .loop .inv .follows) (c .before .before .before .before .before .before .before .before .before .before .before .before .before .loop-test .taken) (w .ensures) (w .kept .1 .1 .1 .1 .1 .0), c .before .before .before .before .before .before .before .before .before .before .before .before .before .loop-test .taken)
+loop-less c =
+    let at-next-line = c .before .before .before .before .before .before .before .before .before in
+    let at-loop-test = at-next-line .before .before .before .before in
+    let at-loop = at-loop-test .before in
+    let w = at-next-line .next-line in
+    omega
+    (arith, onward (at-loop .loop .inv .follows) (at-loop-test .loop-test .taken) (w .ensures) (w .kept .1 .1 .1 .1 .1 .0), at-loop-test .loop-test .taken)
 
 loop-again : tie.Need-loop-again Inv-loop μ-loop
-loop-again c = let w = c .before .before .before .before .before .before .before .before .before .next-line in goes-on (c .before .before .before .before .before .before .before .before .before .before .before .before .before .before .loop .inv) (c .before .before .before .before .before .before .before .before .before .before .before .before .before .loop-test .taken) (w .ensures) (w .kept .1 .1 .1 .1 .1 .0) (w .kept .1 .1 .0) (w .kept .1 .1 .1 .0) (c .before .before .before .put .ensures)
+loop-again c =
+    let at-put = c .before .before .before in
+    let at-next-line = at-put .before .before .before .before .before .before in
+    let at-loop-test = at-next-line .before .before .before .before in
+    let at-loop = at-loop-test .before in
+    let w = at-next-line .next-line in
+    goes-on (at-loop .loop .inv) (at-loop-test .loop-test .taken) (w .ensures) (w .kept .1 .1 .1 .1 .1 .0) (w .kept .1 .1 .0) (w .kept .1 .1 .1 .0)
+    (at-put .put .ensures)
 
 same-length : tie.Need-same-length Inv-loop μ-loop
 same-length c = c .before .loop .inv .long

@@ -23,7 +23,10 @@ same-length : tie.Need-same-length
 same-length c = search needs
 
 returns-2 : tie.Need-returns-2
-returns-2 c = all-written (c .before .before .before .before .before .before .pass .ensures) (c .before .before .before .before .if1 .left) (c .before .before .pass2 .ensures)
+returns-2 c =
+    let at-if1 = c .before .before .before .before in
+    let at-pass = at-if1 .before .before in
+    all-written (at-pass .pass .ensures) (at-if1 .if1 .left) (c .before .before .pass2 .ensures)
 
 pub whole-spec : {M : Type 1} → statement M
 whole-spec =

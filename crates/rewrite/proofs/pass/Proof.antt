@@ -48,11 +48,15 @@ encode-requires c κs = search needs
 
 add-to : tie.Need-add-to Inv-loop μ-loop
 add-to c =
-    let d = c .before .before .before .before .before .before .before .before in
+    let e = c .before .before .before in
+    let d = e .before .before .before .before .before in
     let p = d .before .before .loop .inv in
     let t = d .before .loop-test .taken in
-    let e = c .before .before .before in
-    omega (arith, d .before .before .before .before .before .good .1 .0 .0, adds p t (d .decode .ensures) (adds-len p t (d .decode .ensures) (e .before .before .if1 .taken) (e .encode .ensures .0) (e .encode .ensures .1)))
+    omega (
+      arith,
+      d .before .before .before .before .before .good .1 .0 .0,
+      adds p t (d .decode .ensures) (adds-len p t (d .decode .ensures) (e .before .before .if1 .taken) (e .encode .ensures .0) (e .encode .ensures .1)),
+    )
 
 loop-less : tie.Need-loop-less Inv-loop μ-loop
 loop-less c =

@@ -22,7 +22,8 @@ array-borrow-prefix-results : tie.Need-array-borrow-prefix-results
 array-borrow-prefix-results c = search needs
 
 slice-aggregate-answer-in-2 : tie.Need-slice-aggregate-answer-in-2
-slice-aggregate-answer-in-2 c = sym (length-take-le (16 * c .before .before .result-count .result) (replicate 64 0) (omega (arith, c .before .before .result-count .ensures)))
+slice-aggregate-answer-in-2 c =
+    sym (length-take-le (16 * c .before .before .result-count .result) (replicate 64 0) (omega (arith, c .before .before .result-count .ensures)))
 
 answer-in-requires : tie.Need-answer-in-requires
 answer-in-requires c κs =

@@ -43,13 +43,14 @@ loop-less c = omega (arith, c .before .before .before .before .before .before .b
 
 loop-again : tie.Need-loop-again Inv-loop μ-loop
 loop-again c =
-    let t = c .before .before .before .before .before .before .before .before .before .before .before in
+    let at-digit2 = c .before .before .before .before in
+    let p = at-digit2 .before .before .before in
+    let t = p .before .before .before .before in
     let l = t .before .loop in
     let a = t .before .before .before .before in
     let bytes = a .args .bytes .now in
-    let p = c .before .before .before .before .before .before .before in
     let h = t .loop-test .taken in
-    goes-on (l .inv) h (hexadecimal-more bytes (l .i) _ _ h (p .before .before .digit .ensures) (c .before .before .before .before .digit2 .ensures))
+    goes-on (l .inv) h (hexadecimal-more bytes (l .i) _ _ h (p .before .before .digit .ensures) (at-digit2 .digit2 .ensures))
     (omega (arith, hexadecimal-place bytes (l .i + 1) (omega (arith, h)), a .pre, h))
     (both-appended (p .push .ensures) (c .before .before .push2 .ensures)
     (room-left 2 (l .inv .made) (omega (arith, hexadecimal-place bytes (l .i) (l .inv .most), a .pre, h))))

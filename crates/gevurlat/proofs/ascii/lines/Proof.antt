@@ -34,11 +34,16 @@ part-line-end c = omega arith
 
 line-requires : tie.Need-line-requires Inv-loop μ-loop
 line-requires c κs =
-    let l = c .before .before .before .loop in
-    let a = c .before .before .before .before .before .before in
+    let at-loop = c .before .before .before in
+    let a = at-loop .before .before .before in
+    let l = at-loop .loop in
     let xs = a .args .results .now in
     let h = c .before .before .loop-test .taken in
-    omega (arith, room-left 33 (l .inv .made) (omega (arith, lines-length xs (l .n) (omega (arith, h)), a .pre, h)), length-take (16 * l .n + 16 - 16 * l .n) (drop (16 * l .n) xs))
+    omega (
+      arith,
+      room-left 33 (l .inv .made) (omega (arith, lines-length xs (l .n) (omega (arith, h)), a .pre, h)),
+      length-take (16 * l .n + 16 - 16 * l .n) (drop (16 * l .n) xs),
+    )
 
 add-n : tie.Need-add-n Inv-loop μ-loop
 add-n c = omega arith

@@ -17,8 +17,9 @@ same-length c = search needs
 
 returns : tie.Need-returns
 returns c =
-    let a = c .before .before .before .before .before .before .before .before .before in
-    both-appended (c .before .before .before .before .before .before .decimal .ensures) (c .before .before .push .ensures)
+    let at-decimal = c .before .before .before .before .before .before in
+    let a = at-decimal .before .before .before in
+    both-appended (at-decimal .decimal .ensures) (c .before .before .push .ensures)
     (omega (arith, decimal-short (a .args .n) (a .fits .n .fits), a .pre))
 
 pub number-spec : {M : Type 1} → statement M

@@ -35,7 +35,8 @@ returns c =
     let two = three .before .before .before .before .before in
     let one = two .before .before .before .before in
     let a = one .before .before .before .before .before in
-    row-alone (a .args .a) (one .before .before .struct-known .given) (a .args .results .now) (a .pre) (one .number .ensures) (two .number2 .ensures) (three .number3 .ensures) (c .if1 .taken)
+    row-alone (a .args .a) (one .before .before .struct-known .given) (a .args .results .now) (a .pre) (one .number .ensures) (two .number2 .ensures)
+    (three .number3 .ensures) (c .if1 .taken)
 
 lines-requires : tie.Need-lines-requires
 lines-requires c κs =
@@ -43,19 +44,22 @@ lines-requires c κs =
     let two = three .before .before .before .before .before in
     let one = two .before .before .before .before in
     let a = one .before .before .before .before .before in
-    lines-room (a .args .a) (one .before .before .struct-known .given) (a .args .results .now) (a .pre) (one .number .ensures) (two .number2 .ensures) (three .number3 .ensures)
+    lines-room (a .args .a) (one .before .before .struct-known .given) (a .args .results .now) (a .pre) (one .number .ensures) (two .number2 .ensures)
+    (three .number3 .ensures)
 
 same-length-2 : tie.Need-same-length-2
 same-length-2 c = search needs
 
 returns-2 : tie.Need-returns-2
 returns-2 c =
-    let three = c .before .before .before .before .before .before .before .before in
+    let at-if1 = c .before .before .before .before in
+    let three = at-if1 .before .before .before .before in
     let two = three .before .before .before .before .before in
     let one = two .before .before .before .before in
     let a = one .before .before .before .before .before in
-    with-lines (a .args .a) (one .before .before .struct-known .given) (a .args .results .now) (a .pre) (one .number .ensures) (two .number2 .ensures) (three .number3 .ensures)
-    (c .before .before .before .before .if1 .left) (c .before .before .lines .ensures)
+    with-lines (a .args .a) (one .before .before .struct-known .given) (a .args .results .now) (a .pre) (one .number .ensures) (two .number2 .ensures)
+    (three .number3 .ensures)
+    (at-if1 .if1 .left) (c .before .before .lines .ensures)
 
 pub show-spec : {M : Type 1} → statement M
 show-spec =

@@ -33,7 +33,12 @@ loop-less : tie.Need-loop-less Inv-loop μ-loop
 loop-less c = omega (arith, c .before .before .before .before .loop-test .taken)
 
 loop-again : tie.Need-loop-again Inv-loop μ-loop
-loop-again c = let n : length (c .before .before .before .before .before .before .before .args .t1) ≡ 16 = search needs in telling-more (c .before .before .before .before .before .loop .inv) (c .before .before .before .before .loop-test .taken) n (c .before .before .number .ensures)
+loop-again c =
+    let at-loop-test = c .before .before .before .before in
+    let at-loop = at-loop-test .before in
+    let start = at-loop .before .before in
+    let n : length (start .args .t1) ≡ 16 = search needs in
+    telling-more (at-loop .loop .inv) (at-loop-test .loop-test .taken) n (c .before .before .number .ensures)
 
 same-length : tie.Need-same-length Inv-loop μ-loop
 same-length c = telling-room (c .before .loop .inv) .1

@@ -17,7 +17,11 @@ same-length : tie.Need-same-length
 same-length c = search needs
 
 returns : tie.Need-returns
-returns c = long-told (c .before .before .before .before .before .before .before .before .before .before .args .v) (c .before .before .before .before .before .before .before .before .before .before .fits .v) (c .before .before .before .before .signed64 .ensures) (c .before .before .before .before .before .before .before .push .ensures) (c .before .before .signed .ensures) (c .before .before .before .before .before .before .before .before .before .before .pre)
+returns c =
+    let at-signed64 = c .before .before .before .before in
+    let at-push = at-signed64 .before .before .before in
+    let start = at-push .before .before .before in
+    long-told (start .args .v) (start .fits .v) (at-signed64 .signed64 .ensures) (at-push .push .ensures) (c .before .before .signed .ensures) (start .pre)
 
 pub long-spec : {M : Type 1} → statement M
 long-spec =

@@ -14,7 +14,10 @@ same-length : tie.Need-same-length
 same-length c = search needs
 
 returns : tie.Need-returns
-returns c = number-told (c .before .before .before .before .before .before .before .before .before .fits .n .fits) (c .before .before .before .before .before .before .push .ensures) (c .before .before .decimal .ensures) (c .before .before .before .before .before .before .before .before .before .pre)
+returns c =
+    let at-push = c .before .before .before .before .before .before in
+    let start = at-push .before .before .before in
+    number-told (start .fits .n .fits) (at-push .push .ensures) (c .before .before .decimal .ensures) (start .pre)
 
 pub number-spec : {M : Type 1} → statement M
 number-spec = tie.close (tie.spec push-requires decimal-requires same-length returns)

@@ -12,7 +12,9 @@ signed32-requires : tie.Need-signed32-requires
 signed32-requires c κs = search needs
 
 cast-signed : tie.Need-cast-signed
-cast-signed c = word-casts (c .before .before .before .before .before .before .args .v) (c .before .before .before .before .before .before .fits .v) (c .signed32 .ensures)
+cast-signed c =
+    let start = c .before .before .before .before .before .before in
+    word-casts (start .args .v) (start .fits .v) (c .signed32 .ensures)
 
 signed-requires : tie.Need-signed-requires
 signed-requires c κs = search needs
@@ -21,7 +23,11 @@ same-length : tie.Need-same-length
 same-length c = search needs
 
 returns : tie.Need-returns
-returns c = word-told (c .before .before .before .before .before .before .before .before .before .before .args .v) (c .before .before .before .before .before .before .before .before .before .before .fits .v) (c .before .before .before .before .signed32 .ensures) (c .before .before .before .before .before .before .before .push .ensures) (c .before .before .signed .ensures) (c .before .before .before .before .before .before .before .before .before .before .pre)
+returns c =
+    let at-signed32 = c .before .before .before .before in
+    let at-push = at-signed32 .before .before .before in
+    let start = at-push .before .before .before in
+    word-told (start .args .v) (start .fits .v) (at-signed32 .signed32 .ensures) (at-push .push .ensures) (c .before .before .signed .ensures) (start .pre)
 
 pub word-spec : {M : Type 1} → statement M
 word-spec =

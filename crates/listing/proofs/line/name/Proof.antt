@@ -64,7 +64,8 @@ returns c =
     let left = c .before .before .before .before .before in
     let w = left .before .before .before .before .pre .0 in
     let is = left .before .before .name .ensures in
-    name-adds w is (left .before .loop .inv .1) (⊎-elim (λ h. name-stops w is (h .0 .taken) (h .1 .left)) (λ h. omega (arith, w .few)) (left .loop-test .came)) (c .before .before .put .ensures)
+    name-adds w is (left .before .loop .inv .1)
+    (⊎-elim (λ h. name-stops w is (h .0 .taken) (h .1 .left)) (λ h. omega (arith, w .few)) (left .loop-test .came)) (c .before .before .put .ensures)
 
 pub name-spec : {M : Type 1} → statement M
 name-spec =

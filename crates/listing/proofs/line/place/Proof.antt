@@ -16,7 +16,11 @@ same-length : tie.Need-same-length
 same-length c = search needs
 
 returns : tie.Need-returns
-returns c = adds-both {a = 20} (record { short = decimal-short (c .before .before .before .before .before .before .before .before .before .args .at) (c .before .before .before .before .before .before .before .before .before .fits .at .fits); appends = c .before .before .before .before .before .before .decimal .ensures }) (one-byte (c .before .before .push .ensures)) (omega (arith, c .before .before .before .before .before .before .before .before .before .pre))
+returns c =
+    let at-decimal = c .before .before .before .before .before .before in
+    let start = at-decimal .before .before .before in
+    adds-both {a = 20} (record { short = decimal-short (start .args .at) (start .fits .at .fits); appends = at-decimal .decimal .ensures })
+    (one-byte (c .before .before .push .ensures)) (omega (arith, start .pre))
 
 pub place-spec : {M : Type 1} → statement M
 place-spec = tie.close (tie.spec decimal-requires push-requires same-length returns)

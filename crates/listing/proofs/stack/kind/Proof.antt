@@ -15,7 +15,10 @@ same-length : tie.Need-same-length
 same-length c = search needs
 
 returns : tie.Need-returns
-returns c = rw (eq-eqb (c .before .before .before .before .before .before .before .args .b) 0x7F (c .before .before .before .before .before .if1 .taken)) (record { short = omega arith; appends = c .before .before .put .ensures })
+returns c =
+    let at-if1 = c .before .before .before .before .before in
+    let start = at-if1 .before .before in
+    rw (eq-eqb (start .args .b) 0x7F (at-if1 .if1 .taken)) (record { short = omega arith; appends = c .before .before .put .ensures })
 
 slice-aggregate-put-2 : tie.Need-slice-aggregate-put-2
 slice-aggregate-put-2 c = search needs
@@ -27,7 +30,12 @@ same-length-2 : tie.Need-same-length-2
 same-length-2 c = search needs
 
 returns-2 : tie.Need-returns-2
-returns-2 c = rw (ne-eqb (c .before .before .before .before .before .before .before .before .args .b) 0x7F (c .before .before .before .before .before .before .if1 .left), eq-eqb (c .before .before .before .before .before .before .before .before .args .b) 0x7E (c .before .before .before .before .before .if2 .taken)) (record { short = omega arith; appends = c .before .before .put2 .ensures })
+returns-2 c =
+    let at-if2 = c .before .before .before .before .before in
+    let at-if1 = at-if2 .before in
+    let start = at-if1 .before .before in
+    rw (ne-eqb (start .args .b) 0x7F (at-if1 .if1 .left), eq-eqb (start .args .b) 0x7E (at-if2 .if2 .taken))
+    (record { short = omega arith; appends = c .before .before .put2 .ensures })
 
 slice-aggregate-put-3 : tie.Need-slice-aggregate-put-3
 slice-aggregate-put-3 c = search needs
@@ -39,7 +47,12 @@ same-length-3 : tie.Need-same-length-3
 same-length-3 c = search needs
 
 returns-3 : tie.Need-returns-3
-returns-3 c = rw (ne-eqb (c .before .before .before .before .before .before .before .before .args .b) 0x7F (c .before .before .before .before .before .before .if1 .left), ne-eqb (c .before .before .before .before .before .before .before .before .args .b) 0x7E (c .before .before .before .before .before .if2 .left)) (record { short = omega arith; appends = c .before .before .put3 .ensures })
+returns-3 c =
+    let at-if2 = c .before .before .before .before .before in
+    let at-if1 = at-if2 .before in
+    let start = at-if1 .before .before in
+    rw (ne-eqb (start .args .b) 0x7F (at-if1 .if1 .left), ne-eqb (start .args .b) 0x7E (at-if2 .if2 .left))
+    (record { short = omega arith; appends = c .before .before .put3 .ensures })
 
 pub kind-spec : {M : Type 1} → statement M
 kind-spec =

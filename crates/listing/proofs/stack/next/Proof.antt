@@ -18,13 +18,20 @@ push-requires : tie.Need-push-requires
 push-requires c κs = search needs
 
 kind-requires-2 : tie.Need-kind-requires-2
-kind-requires-2 c κs = omega (arith, adds-ends (one-byte (c .before .before .before .push .ensures)) (omega (arith, c .before .before .before .before .before .before .before .pre)), c .before .before .before .before .before .before .before .pre)
+kind-requires-2 c κs =
+    let at-push = c .before .before .before in
+    let start = at-push .before .before .before .before in
+    omega (arith, adds-ends (one-byte (at-push .push .ensures)) (omega (arith, start .pre)), start .pre)
 
 same-length-2 : tie.Need-same-length-2
 same-length-2 c = search needs
 
 returns-2 : tie.Need-returns-2
-returns-2 c = later-next (c .before .before .before .before .before .before .before .before .before .before .args .k) (c .before .before .before .before .before .before .before .before .if1 .left) (c .before .before .before .before .before .before .push .ensures) (c .before .before .kind2 .ensures) (c .before .before .before .before .before .before .before .before .before .before .pre)
+returns-2 c =
+    let at-push = c .before .before .before .before .before .before in
+    let at-if1 = at-push .before .before in
+    let start = at-if1 .before .before in
+    later-next (start .args .k) (at-if1 .if1 .left) (at-push .push .ensures) (c .before .before .kind2 .ensures) (start .pre)
 
 pub next-spec : {M : Type 1} → statement M
 next-spec =

@@ -32,16 +32,27 @@ loop-less : tie.Need-loop-less Inv-loop μ-loop
 loop-less c = omega (arith, c .before .before .before .before .before .loop-test .taken)
 
 loop-again : tie.Need-loop-again Inv-loop μ-loop
-loop-again c = stack-more (c .before .before .before .before .before .before .loop .inv) (c .before .before .before .before .before .loop-test .taken) (c .before .before .next .ensures)
+loop-again c =
+    let at-loop-test = c .before .before .before .before .before in
+    let at-loop = at-loop-test .before in
+    stack-more (at-loop .loop .inv) (at-loop-test .loop-test .taken) (c .before .before .next .ensures)
 
 push-requires-2 : tie.Need-push-requires-2 Inv-loop μ-loop
 push-requires-2 c κs = search needs
 
 same-length : tie.Need-same-length Inv-loop μ-loop
-same-length c = omega (arith, length-kept (c .before .before .before .before .before .before .before .before .push .ensures), stack-room (c .before .before .before .before .before .loop .inv) .1, length-kept (c .before .before .push2 .ensures))
+same-length c =
+    let at-loop = c .before .before .before .before .before in
+    let at-push = at-loop .before .before .before in
+    omega (arith, length-kept (at-push .push .ensures), stack-room (at-loop .loop .inv) .1, length-kept (c .before .before .push2 .ensures))
 
 returns : tie.Need-returns Inv-loop μ-loop
-returns c = stack-closed (c .before .before .before .before .before .loop .inv) (c .before .before .before .before .loop-test .left) (c .before .before .before .before .before .before .before .before .push .ensures) (c .before .before .before .before .before .before .before .before .before .before .before .before .pre .1) (c .before .before .push2 .ensures)
+returns c =
+    let at-loop-test = c .before .before .before .before in
+    let at-loop = at-loop-test .before in
+    let at-push = at-loop .before .before .before in
+    let start = at-push .before .before .before .before in
+    stack-closed (at-loop .loop .inv) (at-loop-test .loop-test .left) (at-push .push .ensures) (start .pre .1) (c .before .before .push2 .ensures)
 
 pub stack-spec : {M : Type 1} → statement M
 stack-spec =

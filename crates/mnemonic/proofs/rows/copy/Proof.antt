@@ -30,7 +30,8 @@ returns : tie.Need-returns
 unfolding row
 returns c =
     let start = c .before .before .before .before in
-    part-fills (start .args .names .now) (start .args .out .now) (start .args .n * 32) _ 32 refl (omega (arith, start .pre)) (start .pre .1 .1) (c .copy .ensures .1)
+    part-fills (start .args .names .now) (start .args .out .now) (start .args .n * 32) _ 32 refl (omega (arith, start .pre)) (start .pre .1 .1)
+    (c .copy .ensures .1)
 
 pub copy-spec : {M : Type 1} → statement M
 copy-spec = tie.close (tie.spec mul-from add-to sub-copy part-copy-start part-copy-end copy-requires returns)
