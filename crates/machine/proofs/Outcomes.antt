@@ -1,24 +1,25 @@
--- Whatever an instruction comes to: it goes on by `goOn`, traps at an access of its own past the memory's end, ends or is stuck. What is so of these
--- is so of every instruction.
+-- Whatever an instruction comes to: it goes on by `goOn`, traps at an access of its own past the memory's end, ends at `end` or is stuck. What is so of
+-- these is so of every instruction.
 use Prim.Native.Nat.{ℕ, _+_, _<_}
 use mathlib.Core.Path.{_≡_, refl, ap, sym, _∙_, subst}
 use mathlib.Core.Bool.{Bool, true, false, cond}
 use mathlib.Core.List.{List, [], _∷_, reverse}
+use native.Mathlib.Omega.{arith}
 use lib.Dec.{ltb, leb, eqb}
 use lib.ListN.{length, getD}
 use borrow.Author.Tests.{leb-false}
 use mir.Syntax.{Width, w8, w16, w32, w64, w128}
 use mir.Val.{bytes}
 use Rattle.operation.specs.Op.{Whole, Widen, Repeat, ZeroPad, Op, Load, LoadLane, Store, StoreLane, Const, Shuffle, Splat, ExtractLane, ReplaceLane, Unary, Binary, Bitselect, Test, Shift}
+use Rattle.limits.specs.Limits.{stackLimit}
 use Rattle.opcode.specs.Kind.{Kind, kindByte}
 use Rattle.opcode.specs.Table.{Plain, End, Drop, LocalGet, LocalSet, LocalTee, I32Const, I64Const, I32Add, I32Sub, I32Eqz, I32LtU, Code, plain, control, vector}
 use Rattle.instr.specs.declared.Instr.{Instr}
 use Rattle.machine.specs.Value.{Value, I32, I64, V128, kindOf}
-use Rattle.machine.specs.Exec.{State, Outcome, done, trap, stuck, popI32, popI64, popV128, popAny, popScalar, pushScalar, goOn, local, alike, access, ofKinds, execPlain, execVector, exec}
+use Rattle.machine.specs.Exec.{State, Outcome, goes, done, trap, stuck, popI32, popI64, popV128, popAny, popScalar, pushScalar, goOn, local, alike, access, ofKinds, execPlain, execVector, exec}
 use Rattle.machine.specs.Accesses.{Accesses, load, load-extend, load-splat, load-zero, load-lane, store, store-lane}
 
-module _ (i : Instr) (σ : State) (P : Outcome → Type 0) (sticks : P stuck) (ends : (vs : List Value) → P (done vs))
-    (on : (st ls : List Value) (m : List ℕ) → P (goOn st ls m)) where
+module _ (i : Instr) (σ : State) (P : Outcome → Type 0) (sticks : P stuck) (on : (st ls : List Value) (m : List ℕ) → P (goOn st ls m)) where
   -- ---- pops, with what was on the stack
 
   pop-i32 : (vs : List Value) (f : ℕ → List Value → Outcome) → ((n : ℕ) (ws : List Value) → vs ≡ I32 n ∷ ws → P (f n ws)) → P (popI32 vs f)
@@ -108,18 +109,29 @@ module _ (i : Instr) (σ : State) (P : Outcome → Type 0) (sticks : P stuck) (e
 
   -- ---- the instructions
 
-  of-plain : (rs : List Kind) (p : Plain) → Traps (plain p) → P (execPlain rs p i σ)
-  of-plain rs End traps = either (ofKinds (σ .stack) (reverse rs)) (ends (reverse (σ .stack))) sticks
-  of-plain rs Drop traps = pop-any (σ .stack) _ (λ v st. on st _ _)
-  of-plain rs LocalGet traps = named (i .index) _ (λ v. on _ _ _)
-  of-plain rs LocalSet traps = pop-any (σ .stack) _ (λ v st. named (i .index) _ (λ w. same-kind v w (on _ _ _)))
-  of-plain rs LocalTee traps = pop-any (σ .stack) _ (λ v st. named (i .index) _ (λ w. same-kind v w (on _ _ _)))
-  of-plain rs I32Const traps = on _ _ _
-  of-plain rs I64Const traps = on _ _ _
-  of-plain rs I32Add traps = pop-i32 (σ .stack) _ (λ b st e. pop-i32 st _ (λ a st e. on _ _ _))
-  of-plain rs I32Sub traps = pop-i32 (σ .stack) _ (λ b st e. pop-i32 st _ (λ a st e. on _ _ _))
-  of-plain rs I32Eqz traps = pop-i32 (σ .stack) _ (λ a st e. on _ _ _)
-  of-plain rs I32LtU traps = pop-i32 (σ .stack) _ (λ b st e. pop-i32 st _ (λ a st e. on _ _ _))
+  -- what is so of `end` where the stack is the results
+  abbrev Ends : List Kind → Code → Type 0
+  Ends rs c = c ≡ plain End → ofKinds (σ .stack) (reverse rs) ≡ true → P (done (reverse (σ .stack)))
+
+  of-end : (rs : List Kind) → Ends rs (plain End) → P (execPlain rs End i σ)
+  of-end rs ends = by (ofKinds (σ .stack) (reverse rs)) refl
+    where
+      by : (t : Bool) → ofKinds (σ .stack) (reverse rs) ≡ t → P (cond t (done (reverse (σ .stack))) stuck)
+      by true e = ends refl e
+      by false e = sticks
+
+  of-plain : (rs : List Kind) (p : Plain) → Ends rs (plain p) → Traps (plain p) → P (execPlain rs p i σ)
+  of-plain rs End ends traps = of-end rs ends
+  of-plain rs Drop ends traps = pop-any (σ .stack) _ (λ v st. on st _ _)
+  of-plain rs LocalGet ends traps = named (i .index) _ (λ v. on _ _ _)
+  of-plain rs LocalSet ends traps = pop-any (σ .stack) _ (λ v st. named (i .index) _ (λ w. same-kind v w (on _ _ _)))
+  of-plain rs LocalTee ends traps = pop-any (σ .stack) _ (λ v st. named (i .index) _ (λ w. same-kind v w (on _ _ _)))
+  of-plain rs I32Const ends traps = on _ _ _
+  of-plain rs I64Const ends traps = on _ _ _
+  of-plain rs I32Add ends traps = pop-i32 (σ .stack) _ (λ b st e. pop-i32 st _ (λ a st e. on _ _ _))
+  of-plain rs I32Sub ends traps = pop-i32 (σ .stack) _ (λ b st e. pop-i32 st _ (λ a st e. on _ _ _))
+  of-plain rs I32Eqz ends traps = pop-i32 (σ .stack) _ (λ a st e. on _ _ _)
+  of-plain rs I32LtU ends traps = pop-i32 (σ .stack) _ (λ b st e. pop-i32 st _ (λ a st e. on _ _ _))
 
   of-vector : (o : Op) → Traps (vector o) → P (execVector o i σ)
   of-vector (Load Whole) traps = on-top _ 16 _ (λ x st. load) traps (λ x st. on _ _ _)
@@ -140,7 +152,24 @@ module _ (i : Instr) (σ : State) (P : Outcome → Type 0) (sticks : P stuck) (e
   of-vector (Test o) traps = pop-v128 (σ .stack) _ (λ a st e. on _ _ _)
   of-vector (Shift o) traps = pop-i32 (σ .stack) _ (λ n st e. pop-v128 st _ (λ a st e. on _ _ _))
 
-  pub of-exec : (rs : List Kind) (c : Code) → Traps c → P (exec rs c i σ)
-  of-exec rs (plain p) traps = of-plain rs p traps
-  of-exec rs (control k) traps = sticks
-  of-exec rs (vector o) traps = of-vector o traps
+  pub of-exec : (rs : List Kind) (c : Code) → Ends rs c → Traps c → P (exec rs c i σ)
+  of-exec rs (plain p) ends traps = of-plain rs p ends traps
+  of-exec rs (control k) ends traps = sticks
+  of-exec rs (vector o) ends traps = of-vector o traps
+
+-- ---- only `end` ends
+
+on-not-done : (st ls : List Value) (m : List ℕ) (vs : List Value) → goOn st ls m ≡ done vs → ⊥
+unfolding goOn
+on-not-done st ls m vs e = at (ltb stackLimit (length st)) e
+  where
+    at : (t : Bool) → cond t stuck (goes (record { stack = st; locals = ls; memory = m })) ≡ done vs → ⊥
+    at true q = let z : _≡_ {A = ℕ} 0 1 = cc in omega arith
+    at false q = let z : _≡_ {A = ℕ} 0 1 = cc in omega arith
+
+pub done-ends : (rs : List Kind) (i : Instr) (σ : State) (c : Code) (vs : List Value) → exec rs c i σ ≡ done vs
+    → (c ≡ plain End) × (ofKinds (σ .stack) (reverse rs) ≡ true) × (reverse (σ .stack) ≡ vs)
+done-ends rs i σ c vs =
+    of-exec i σ (λ o. o ≡ done vs → (c ≡ plain End) × (ofKinds (σ .stack) (reverse rs) ≡ true) × (reverse (σ .stack) ≡ vs))
+    (λ e. absurd (let z : _≡_ {A = ℕ} 0 1 = cc (e) in omega arith)) (λ st ls m e. absurd (on-not-done st ls m vs e)) rs c
+    (λ is fit e. (is, fit, cc (e))) (λ a n at l e. absurd (let z : _≡_ {A = ℕ} 0 1 = cc (e) in omega arith))

@@ -63,8 +63,8 @@ module _ (rs : List Kind) (i : Instr) (σ : State) where
   traps-strays : (c : Code) (a n : ℕ) → exec rs c i σ ≡ trap a n → Accesses i c (σ .stack) a n × (length (σ .memory) < a + n)
   traps-strays c a n =
       of-exec i σ (λ o. o ≡ trap a n → Accesses i c (σ .stack) a n × (length (σ .memory) < a + n))
-      (λ e. absurd (let z : _≡_ {A = ℕ} 0 1 = cc (e) in omega arith))
-      (λ vs e. absurd (let z : _≡_ {A = ℕ} 0 1 = cc (e) in omega arith)) (λ st ls m e. absurd (on-not-trap st ls m a n e)) rs c
+      (λ e. absurd (let z : _≡_ {A = ℕ} 0 1 = cc (e) in omega arith)) (λ st ls m e. absurd (on-not-trap st ls m a n e)) rs c
+      (λ is fit e. absurd (let z : _≡_ {A = ℕ} 0 1 = cc (e) in omega arith))
       (λ b k at l e.
       let ea : b ≡ a = cc (e) in let en : k ≡ n = cc (e) in
       (subst (λ (x : ℕ). Accesses i c (σ .stack) x n) ea (subst (λ (x : ℕ). Accesses i c (σ .stack) b x) en at), omega (arith, l, ea, en)))

@@ -23,19 +23,20 @@ use Rattle.standard.specs.Inner.{ClosesIn}
 use Rattle.standard.specs.Standard.{Label, Config, going, ended, withStack, along, resume, jump, branch}
 use Rattle.standard.specs.Safety.{Sound, Safe, safe-going, safe-ended}
 use Rattle.standard.proofs.ValueKinds.{fit-kinds}
+use Rattle.standard.proofs.Finishing.{out-of}
 use Rattle.standard.proofs.Unwinding.{Left, finds-end}
 use Rattle.run.specs.Inner.Ends.{Closable}
 use Rattle.run.proofs.Places.{late, early}
 use Rattle.run.specs.Inner.Carried.{underAll, wayOf, LOOP, Leads, Led, leads-on, leads-out}
 use Rattle.run.proofs.HeaderBytes.{version-read, result-count, Counts, counts-read}
-use Rattle.run.proofs.Marking.{count-under, rep-under, rep-same, part-bytes, unhalted, unhalted-if, nested-few, targets, out-of, Target, target}
+use Rattle.run.proofs.Marking.{count-under, rep-under, rep-same, part-bytes, unhalted, unhalted-if, nested-few, targets, Target, target}
 
 module _ {s : List ℕ} {h : Header} where
   pub sound-of : {b d : Config} → Safe s h b (going d) → Sound s h d
   sound-of (safe-going x l) = x
 
   pub ended-many : {b : Config} {vs : List Value} {mem : List ℕ} → Safe s h b (ended vs mem) → length vs ≡ length (h .results)
-  ended-many {vs = vs} (safe-ended k r l) = sym (length-map vs kindOf) ∙ ap length k
+  ended-many {vs = vs} (safe-ended j e sound t k r l) = sym (length-map vs kindOf) ∙ ap length k
 
 -- what the second number tells
 loop-by : (t : Bool) (n : ℕ) → n ≤ 1 → cond t LOOP n ≡ LOOP → t ≡ true

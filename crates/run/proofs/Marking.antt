@@ -16,7 +16,7 @@ use Rattle.rules.specs.Header.{Header}
 use Rattle.rules.specs.Typing.{Frame, opened}
 use Rattle.rules.specs.Strip.{Reaches}
 use Rattle.rules.proofs.Onward.{reached-within}
-use Rattle.standard.specs.Standard.{Label, Config, Stage, halted, withStack, countUnder, jump, branch, along, ended}
+use Rattle.standard.specs.Standard.{Label, Config, Stage, halted, withStack, countUnder, jump, branch}
 use Rattle.standard.specs.Safety.{Nested, outermost, inside, Safe}
 use Rattle.standard.proofs.Nestings.{nested-many}
 use Rattle.standard.proofs.Never.{safe-unhalted}
@@ -114,11 +114,6 @@ module _ (s : List ℕ) (h : Header) where
     targets (suc x) [] safe = absurd (safe-unhalted safe refl)
     targets zero (l ∷ ls) safe = omega arith
     targets (suc x) (l ∷ ls) safe = let n = targets x ls safe in omega (arith, n)
-
-    -- past the last label
-    pub out-of : (ls : List Label) → branch s h σ (length ls) ls ≡ along (h .results) (σ .stack) (λ vs. ended (reverse vs) (σ .memory))
-    out-of [] = refl
-    out-of (l ∷ ls) = out-of ls
 
     -- the label, and what is between
     pub record Target (x : ℕ) (ls : List Label) (ms : List ℕ) : Type 0 where

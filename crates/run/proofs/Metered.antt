@@ -12,7 +12,7 @@ use Rattle.rules.specs.Header.{Header}
 use Rattle.rules.specs.Strip.{Valid}
 use Rattle.standard.specs.Standard.{Config, Stage, going, ended, trapped, halted, step, onward, runs}
 use Rattle.standard.specs.Safety.{Sound, Safe, safe-going, safe-ended}
-use Rattle.standard.proofs.Turn.{safe-step, sound-strays}
+use Rattle.standard.proofs.Turn.{safe-step, sound-strays, sound-finishes}
 use Rattle.standard.proofs.Along.{one-more}
 use Rattle.run.specs.Meter.{leaves, meter, meterBy}
 use Rattle.run.specs.Told.{Told, told-done, told-trap, told-budget}
@@ -75,8 +75,8 @@ module _ {s : List ℕ} (v : Valid s) (b : Config) (out : List ℕ) (budget : �
       go : (g : Stage) → step s h c ≡ g → Safe s h c g
           → ((d : Config) → step s h c ≡ going d → Sound s h d → Told s h b out budget (meter s h j (suc k) d out)) → Told s h b out budget (meterBy k c out (λ d. meter s h j (suc k) d out) g)
       go (going d) f (safe-going D l) on = on d f D
-      go (ended vs m) f (safe-ended kinds range l) on =
-          told-done k (omega arith) r f (all-long vs range ∙ ap (λ (n : ℕ). slot * n) (sym (length-map vs kindOf) ∙ ap length kinds))
+      go (ended vs m) f (safe-ended i g there t kinds range l) on =
+          told-done k (omega arith) r f (sound-finishes v c sound f) (all-long vs range ∙ ap (λ (n : ℕ). slot * n) (sym (length-map vs kindOf) ∙ ap length kinds))
       go (trapped a n) f safe on = told-trap k (omega arith) r f (sound-strays v c sound f)
 
   -- the answer is one of three, and never that the machine is stuck

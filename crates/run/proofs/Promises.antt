@@ -77,38 +77,38 @@ module _ {s : List ℕ} (v : Valid s) (vs : List Value) (mem out : List ℕ) (bu
   ended-long k {c} {ws} {m} e f = by (subst (Safe s h b) (one-more s h k b c e ∙ f) (safe (suc k)))
     where
       by : Safe s h b (ended ws m) → length m ≡ length mem
-      by (safe-ended a b l) = l
+      by (safe-ended j e sound t kinds range l) = l
 
   told-place : {x : Left} → Told s h (begin h vs mem) out budget x → x .answer .place ≤ fileLimit
-  told-place (told-done k l e f w) = omega arith
+  told-place (told-done k l e f g w) = omega arith
   told-place (told-trap k l e f g) = reached-inside (sound-at k e .0 .reached)
   told-place (told-budget e) = reached-inside (sound-at budget e .0 .reached)
 
   told-long : {x : Left} → Slots (h .results) out → Told s h (begin h vs mem) out budget x
       → (length (x .memory) ≡ length mem) × (length (x .results) ≡ length out)
-  told-long o (told-done k l e f w) = (ended-long k e f, w ∙ sym o)
+  told-long o (told-done k l e f g w) = (ended-long k e f, w ∙ sym o)
   told-long o (told-trap k l e f g) = (sound-at k e .1, refl)
   told-long o (told-budget e) = (sound-at budget e .1, refl)
 
 told-steps : {s : List ℕ} {h : Header} {b : Config} {out : List ℕ} {budget : ℕ} {x : Left} → Told s h b out budget x → x .answer .steps ≤ budget
-told-steps (told-done k l e f w) = l
+told-steps (told-done k l e f g w) = l
 told-steps (told-trap k l e f g) = omega arith
 told-steps (told-budget e) = omega arith
 
 told-code : {s : List ℕ} {h : Header} {b : Config} {out : List ℕ} {budget : ℕ} {x : Left} → Told s h b out budget x → OnCard (x .answer .code)
-told-code (told-done k l e f w) = inl (omega arith)
+told-code (told-done k l e f g w) = inl (omega arith)
 told-code (told-trap k l e f g) = inr (inr (inl refl))
 told-code (told-budget e) = inr (inr (inr refl))
 
 told-results : {s : List ℕ} {h : Header} {b : Config} {out : List ℕ} {budget : ℕ} {x : Left} → Told s h b out budget x → (x .answer .code ≡ DONE → ⊥)
     → x .results ≡ out
-told-results (told-done k l e f w) ne = absurd (ne refl)
+told-results (told-done k l e f g w) ne = absurd (ne refl)
 told-results (told-trap k l e f g) ne = refl
 told-results (told-budget e) ne = refl
 
 told-late : {s : List ℕ} {h : Header} {b : Config} {out : List ℕ} {budget : ℕ} {x : Left} → Told s h b out budget x → (x .answer .code ≡ DONE → ⊥)
     → SMALL < x .answer .code
-told-late (told-done k l e f w) ne = absurd (ne refl)
+told-late (told-done k l e f g w) ne = absurd (ne refl)
 told-late (told-trap k l e f g) ne = omega arith
 told-late (told-budget e) ne = omega arith
 

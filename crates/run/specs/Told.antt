@@ -10,7 +10,7 @@ use Rattle.machine.specs.Value.{Value, allBytes}
 use Rattle.rules.specs.Header.{Header}
 use Rattle.rules.specs.Strip.{Valid}
 use Rattle.standard.specs.Standard.{Config, going, ended, trapped, step, runs, begin}
-use Rattle.standard.specs.Safety.{Strays}
+use Rattle.standard.specs.Safety.{Strays, Finishes}
 use Rattle.run.specs.Meter.{Left, leaves}
 use Rattle.run.specs.Run.{Arguments, Slots, TurnsAway}
 
@@ -19,7 +19,7 @@ module _ (s : List ℕ) (h : Header) (b : Config) (out : List ℕ) (budget : ℕ
   pub data Told : Left → Type 0 where
     -- the strip's `end`, or a branch out of it, is the last of k + 1 steps, and writes sixteen bytes for each result
     told-done : (k : ℕ) {c : Config} {vs : List Value} {m : List ℕ} → suc k ≤ budget → runs s h k b ≡ going c → step s h c ≡ ended vs m
-        → length (allBytes vs) ≡ slot * length (h .results) → Told (leaves DONE 0 (suc k) m (allBytes vs))
+        → Finishes s h c vs m → length (allBytes vs) ≡ slot * length (h .results) → Told (leaves DONE 0 (suc k) m (allBytes vs))
     -- at an access past the memory's end; the step after k does not count
     told-trap : (k : ℕ) {c : Config} {a n : ℕ} → k < budget → runs s h k b ≡ going c → step s h c ≡ trapped a n → Strays s h c a n
         → Told (leaves TRAP (c .place) k (c .state .memory) out)

@@ -11,8 +11,8 @@ use Rattle.rules.specs.Header.{Header, locals}
 use Rattle.rules.specs.Typing.{Frame, opened, holding, branchKinds, Target, innermost, outer}
 use Rattle.rules.specs.Strip.{Reaches, Valid}
 use Rattle.standard.specs.Closing.{close}
-use Rattle.standard.specs.Standard.{Label, Config, Stage, going, ended, halted, withStack, along, resume, jump, branch}
-use Rattle.standard.specs.Safety.{Live, Nested, outermost, inside, Fits, Safe, safe-going, safe-ended}
+use Rattle.standard.specs.Standard.{Label, Config, Stage, going, ended, halted, withStack, along, resume, jump, branch, runs}
+use Rattle.standard.specs.Safety.{Live, Nested, outermost, inside, Fits, Sound, Finishes, Safe, safe-going, safe-ended}
 use Rattle.standard.proofs.ValueKinds.{reverse-kinds, reverse-range, kinds-fit}
 use Rattle.standard.proofs.Nestings.{nested-same, no-target}
 use Rattle.standard.proofs.Unwinding.{finds-end}
@@ -38,8 +38,12 @@ pub goes-along : (ks : List Kind) (vs : List Value) (f : List Value → Stage) �
     → along ks vs f ≡ f (take (length ks) vs)
 goes-along ks vs f e = ap (λ (t : Bool). cond t (f (take (length ks) vs)) halted) (kinds-fit (take (length ks) vs) (reverse ks) e)
 
+-- where this is an end, the strip is left at c
+abbrev pub Finishing : List ℕ → Header → Config → Stage → Type 0
+Finishing s h c g = (vs : List Value) (m : List ℕ) → g ≡ ended vs m → Finishes s h c vs m
+
 -- from b on, where the state is σ
-module _ {s : List ℕ} (v : Valid s) (b : Config) (σ : State) (long : length (σ .memory) ≡ length (b .state .memory))
+module _ {s : List ℕ} (v : Valid s) (b : Config) (sound : Sound s (v .header) b) (σ : State) (long : length (σ .memory) ≡ length (b .state .memory))
     (rest : Rest (v .header) σ) (range : AllInRange (σ .stack)) where
   abbrev h : Header
   h = v .header
@@ -48,11 +52,15 @@ module _ {s : List ℕ} (v : Valid s) (b : Config) (σ : State) (long : length (
   Good g = Safe s h b g
 
   -- the strip is left
-  out : map kindOf (take (length (h .results)) (σ .stack)) ≡ reverse (h .results) → Good (along (h .results) (σ .stack) (λ vs. ended (reverse vs) (σ .memory)))
-  out top =
+  out : map kindOf (take (length (h .results)) (σ .stack)) ≡ reverse (h .results)
+      → Finishing s h b (along (h .results) (σ .stack) (λ vs. ended (reverse vs) (σ .memory)))
+      → Good (along (h .results) (σ .stack) (λ vs. ended (reverse vs) (σ .memory)))
+  unfolding runs
+  out top finishes =
       let vs = take (length (h .results)) (σ .stack) in
-      subst Good (sym (goes-along (h .results) (σ .stack) (λ vs. ended (reverse vs) (σ .memory)) top))
-      (safe-ended (reverse-kinds vs ∙ ap reverse top ∙ reverse-reverse (h .results))
+      let all = goes-along (h .results) (σ .stack) (λ vs. ended (reverse vs) (σ .memory)) top in
+      subst Good (sym all)
+      (safe-ended 0 refl sound (finishes (reverse vs) (σ .memory) all) (reverse-kinds vs ∙ ap reverse top ∙ reverse-reverse (h .results))
       (reverse-range vs (range-take (length (h .results)) (σ .stack) range)) long)
 
   module _ (f g : Frame) (fs : List Frame) (l : Label) (ls : List Label) (live : Live (g ∷ fs)) (a : l .loop ≡ f .loop) (r : l .results ≡ f .results)
@@ -97,10 +105,11 @@ module _ {s : List ℕ} (v : Valid s) (b : Config) (σ : State) (long : length (
             leaves (top-kinds (σ .stack) below (l .results) (top ∙ ap (λ (ks : List Kind). reverse (below ++ ks)) taken))
 
   pub branch-safe : {n : ℕ} {g : Frame} {fs : List Frame} {ls : List Label} (below : List Kind) → Target fs n g → Nested s h fs ls → Live fs
-      → map kindOf (σ .stack) ≡ reverse (below ++ branchKinds g) → Good (branch s h σ n ls)
-  branch-safe {g = g} below innermost (outermost a b) live top =
+      → map kindOf (σ .stack) ≡ reverse (below ++ branchKinds g) → Finishing s h b (branch s h σ n ls) → Good (branch s h σ n ls)
+  branch-safe {g = g} below innermost (outermost a b) live top finishes =
       let taken : branchKinds g ≡ h .results = ap₂ (λ (t : Bool) (ks : List Kind). cond t [] ks) a b in
-      out (top-kinds (σ .stack) below (h .results) (top ∙ ap (λ (ks : List Kind). reverse (below ++ ks)) taken))
-  branch-safe below innermost (inside {f = f} {g = g} {fs = fs} {l = l} {ls = ls} a b c d e n) live top = jumps f g fs l ls (live .1) a b c d e n below top
-  branch-safe below (outer t) (outermost a b) live top = absurd (no-target t refl)
-  branch-safe below (outer t) (inside a b c d e n) live top = branch-safe below t n (live .1) top
+      out (top-kinds (σ .stack) below (h .results) (top ∙ ap (λ (ks : List Kind). reverse (below ++ ks)) taken)) finishes
+  branch-safe below innermost (inside {f = f} {g = g} {fs = fs} {l = l} {ls = ls} a b c d e n) live top finishes =
+      jumps f g fs l ls (live .1) a b c d e n below top
+  branch-safe below (outer t) (outermost a b) live top finishes = absurd (no-target t refl)
+  branch-safe below (outer t) (inside a b c d e n) live top finishes = branch-safe below t n (live .1) top finishes

@@ -13,6 +13,7 @@ pub mod Unwinding
 pub mod Labels
 pub mod Tops
 pub mod Branching
+pub mod Finishing
 pub mod Turn
 pub mod Begin
 pub mod Never

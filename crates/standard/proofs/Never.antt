@@ -17,7 +17,8 @@ use Rattle.standard.proofs.Begin.{begin-sound}
 safe-from : {s : List ℕ} {h : Header} {b c : Config} (j : ℕ) → runs s h j b ≡ going c → length (c .state .memory) ≡ length (b .state .memory) → {g : Stage}
     → Safe s h c g → Safe s h b g
 safe-from j e long (safe-going sound l) = safe-going sound (l ∙ long)
-safe-from j e long (safe-ended kinds range l) = safe-ended kinds range (l ∙ long)
+safe-from {s} {h} {b} {c} j e long (safe-ended k f sound t kinds range l) =
+    safe-ended (j + k) (runs-along s h j k b c e ∙ f) sound t kinds range (l ∙ long)
 safe-from {s} {h} {b} {c} j e long (safe-trapped k f sound l t) = safe-trapped (j + k) (runs-along s h j k b c e ∙ f) sound (l ∙ long) t
 
 -- EVERY STEP
@@ -34,7 +35,7 @@ never-stuck {s} v b sound (suc k) = by (runs s (v .header) k b) refl (never-stuc
 -- what is safe is not stuck
 pub safe-unhalted : {s : List ℕ} {h : Header} {b : Config} {g : Stage} → Safe s h b g → g ≡ halted → ⊥
 safe-unhalted (safe-going sound long) e = let z : _≡_ {A = ℕ} 0 1 = cc in omega arith
-safe-unhalted (safe-ended kinds range long) e = let z : _≡_ {A = ℕ} 0 1 = cc in omega arith
+safe-unhalted (safe-ended j f sound t kinds range long) e = let z : _≡_ {A = ℕ} 0 1 = cc in omega arith
 safe-unhalted (safe-trapped j f sound long t) e = let z : _≡_ {A = ℕ} 0 1 = cc in omega arith
 
 pub never-halted : {s : List ℕ} (v : Valid s) (b : Config) → Sound s (v .header) b → (k : ℕ) → runs s (v .header) k b ≡ halted → ⊥

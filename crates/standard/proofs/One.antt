@@ -37,7 +37,7 @@ module _ (c : ConfigOne) (n : ℕ) where
           ap (λ (t : Bool). cond t halted (going (record { place = c .place + n; state = next; labels = [] }))) (ap (ltb stackLimit) (add-zero (length st)) ∙ e)
 
   same-after : (rs : List Kind) (k : Code) (i : Instr) → after (bare c) n (exec rs k i (c .state)) ≡ bareStage (afterOne c n (exec rs k i (c .state)))
-  same-after rs k i = of-exec i (c .state) (λ o. after (bare c) n o ≡ bareStage (afterOne c n o)) refl (λ vs. refl) full-alike rs k (λ a m at past. refl)
+  same-after rs k i = of-exec i (c .state) (λ o. after (bare c) n o ≡ bareStage (afterOne c n o)) refl full-alike rs k (λ is fit. refl) (λ a m at past. refl)
 
 module _ (s : List ℕ) (h : Header) where
   same-row : (c : ConfigOne) (d : Decoded) (r : Row) → rowIn 1 (d .instr) ≡ r → stepRow s h (bare c) d r ≡ bareStage (rowOne h c d r)

@@ -2,22 +2,26 @@
 use Prim.Native.Nat.{ℕ, zero, suc, _<_}
 use mathlib.Core.Path.{_≡_, refl, ap, _∙_}
 use mathlib.Core.List.{List, [], _∷_}
-use mathlib.Core.Bool.{Bool, false, cond}
+use mathlib.Core.Bool.{Bool, true, false, cond}
 use native.Mathlib.Omega.{arith}
+use lib.Dec.{eqb}
 use lib.ListN.{getD}
-use borrow.Author.Tests.{ne-eqb}
+use borrow.Author.Tests.{eqb-true, ne-eqb}
 use Rattle.card.specs.Card.{DONE}
-use Rattle.opcode.specs.Table.{Plain, End, Drop, LocalGet, LocalSet, LocalTee, I32Const, I64Const, I32Add, I32Sub, I32Eqz, I32LtU, Control, Code, plain, control, vector}
+use Rattle.leb128.specs.Bytes.{bytes}
+use Rattle.opcode.specs.Table.{Plain, End, Drop, LocalGet, LocalSet, LocalTee, I32Const, I64Const, I32Add, I32Sub, I32Eqz, I32LtU, Control, Code, plain, control, vector, Row, carried, float, unassigned}
 use Rattle.instr.specs.declared.Instr.{Instr}
+use Rattle.instr.specs.declared.Decoded.{Decoded}
 use Rattle.instr.specs.Layout.{Below, rowIn, found, Typed as InTypes}
 use Rattle.instr.specs.Decode.{decodeAt}
+use Rattle.instr.proofs.Stands.{decoded-stands}
 use Rattle.instr.proofs.Decodes.{stands-decodes}
 use Rattle.machine.specs.Exec.{exec}
 use Rattle.machine.proofs.Simulates.{Apt}
 use Rattle.rules.specs.Header.{Header}
 use Rattle.rules.specs.Strip.{Reads}
 use Rattle.standard.specs.Closing.{isEnd}
-use Rattle.standard.specs.Standard.{Label, Config, halted, after, leave, stepPlain, stepCode, stepRow, stepBy, step}
+use Rattle.standard.specs.Standard.{Label, Config, Stage, halted, after, leave, stepPlain, stepCode, stepRow, stepBy, step}
 
 pub reads-decoded : {v : ℕ} {s : List ℕ} {p n : ℕ} {i : Instr} {c : Code} → Reads v s p i c n → decodeAt v s p ≡ found n i
 reads-decoded {v} {s} {p} {n} {i} r = stands-decodes v s p i n (r .stands)
@@ -31,6 +35,25 @@ unfolding step
 step-halts s h c wrong =
     let d = decodeAt (h .version) s (c .place) in
     ap (λ (t : Bool). cond t (stepRow s h c d (rowIn (h .version) (d .instr))) halted) (ne-eqb (d .code) DONE wrong)
+
+-- what is so of a stuck state and of every instruction that is read is so of a step; a strip is bytes
+module _ (s : List ℕ) (b : bytes s) (h : Header) (c : Config) (P : Stage → Type 0) (sticks : P halted)
+    (does : (n : ℕ) (i : Instr) (k : Code) → Reads (h .version) s (c .place) i k n → P (stepCode s h c n i k)) where
+  abbrev d : Decoded
+  d = decodeAt (h .version) s (c .place)
+
+  of-row : d .code ≡ DONE → (r : Row) → rowIn (h .version) (d .instr) ≡ r → P (stepRow s h c d r)
+  of-row z (carried k) w = does (d .len) (d .instr) k (record { stands = decoded-stands s b (h .version) (c .place) z; does = w })
+  of-row z float w = sticks
+  of-row z unassigned w = sticks
+
+  of-code : (t : Bool) → eqb (d .code) DONE ≡ t → P (cond t (stepRow s h c d (rowIn (h .version) (d .instr))) halted)
+  of-code true z = of-row (eqb-true (d .code) DONE z) (rowIn (h .version) (d .instr)) refl
+  of-code false z = sticks
+
+  pub of-step : P (step s h c)
+  unfolding step
+  of-step = of-code (eqb (d .code) DONE) refl
 
 pub not-end : (p : Plain) → (plain p ≡ plain End → ⊥) → isEnd p ≡ false
 not-end End d = absurd (d refl)

@@ -9,17 +9,11 @@ use mathlib.Core.Logic.{_↔_}
 use native.Mathlib.Omega.{arith}
 use lib.Dec.{eqb, ltb}
 use lib.ListN.{length, take}
-use borrow.Author.Tests.{eqb-true}
-use Rattle.card.specs.Card.{DONE}
 use Rattle.limits.specs.Limits.{stackLimit, nestLimit}
 use Rattle.leb128.specs.Bytes.{bytes}
 use Rattle.opcode.specs.Kind.{Kind}
-use Rattle.opcode.specs.Table.{Block, Loop, Br, BrIf, Code, plain, control, vector, Row, carried, float, unassigned}
+use Rattle.opcode.specs.Table.{Block, Loop, Br, BrIf, Code, plain, control, vector}
 use Rattle.instr.specs.declared.Instr.{Instr}
-use Rattle.instr.specs.declared.Decoded.{Decoded}
-use Rattle.instr.specs.Layout.{rowIn}
-use Rattle.instr.specs.Decode.{decodeAt}
-use Rattle.instr.proofs.Stands.{decoded-stands}
 use Rattle.machine.specs.Value.{Value, I32, I64, V128}
 use Rattle.machine.specs.Exec.{State, Outcome, goes, done, trap, stuck, ofKinds, exec}
 use Rattle.machine.specs.Accesses.{Accesses, load, load-extend, load-splat, load-zero, load-lane, store, store-lane}
@@ -27,9 +21,9 @@ use Rattle.machine.proofs.Traps.{traps-exact}
 use Rattle.rules.specs.Header.{Header}
 use Rattle.rules.specs.Strip.{Reads}
 use Rattle.standard.specs.Closing.{isEnd, close}
-use Rattle.standard.specs.Standard.{Label, Config, Stage, going, ended, trapped, halted, withStack, countUnder, after, leave, along, resume, branch, branchIf, stepPlain, stepCode, stepRow, stepBy, step}
+use Rattle.standard.specs.Standard.{Label, Config, Stage, going, ended, trapped, halted, withStack, countUnder, after, leave, along, resume, branch, branchIf, stepPlain, stepCode, step}
 use Rattle.standard.specs.Safety.{Strays}
-use Rattle.standard.proofs.Steps.{step-does}
+use Rattle.standard.proofs.Steps.{step-does, of-step}
 
 -- ---- what an instruction that is read comes to
 
@@ -40,10 +34,6 @@ strays-there h c {i} {k} {n} r {a} {m} e =
     let at = traps-exact (h .results) i (c .state) k a m .0 e in record { instr = i; code = k; size = n; reads = r; accesses = at .0; past = at .1 }
 
 -- ---- nothing else traps
-
-step-by : (s : List ℕ) (h : Header) (c : Config) → step s h c ≡ stepBy s h c (decodeAt (h .version) s (c .place))
-unfolding step
-step-by s h c = refl
 
 module _ (s : List ℕ) (h : Header) (a m : ℕ) where
   abbrev Calm : Stage → Type 0
@@ -127,23 +117,7 @@ module _ (s : List ℕ) (h : Header) (a m : ℕ) where
 
   -- EXACTLY, in whatever state; a strip is bytes
   pub trapped-exact : bytes s → (c : Config) → (step s h c ≡ trapped a m) ↔ Strays s h c a m
-  trapped-exact b c = (by, strays-traps c)
-    where
-      d : Decoded
-      d = decodeAt (h .version) s (c .place)
-
-      row : d .code ≡ DONE → (r : Row) → rowIn (h .version) (d .instr) ≡ r → stepRow s h c d r ≡ trapped a m → Strays s h c a m
-      row z (carried k) w e =
-          strays-there h c (record { stands = decoded-stands s b (h .version) (c .place) z; does = w }) (code-traps c (d .len) (d .instr) k e)
-      row z float w e = absurd (calm-halted e)
-      row z unassigned w e = absurd (calm-halted e)
-
-      done-or : (t : Bool) → eqb (d .code) DONE ≡ t → cond t (stepRow s h c d (rowIn (h .version) (d .instr))) halted ≡ trapped a m → Strays s h c a m
-      done-or true z e = row (eqb-true (d .code) DONE z) (rowIn (h .version) (d .instr)) refl e
-      done-or false z e = absurd (calm-halted e)
-
-      by : step s h c ≡ trapped a m → Strays s h c a m
-      by e = done-or (eqb (d .code) DONE) refl (step-is ∙ e)
-        where
-          step-is : stepBy s h c d ≡ step s h c
-          step-is = sym (step-by s h c)
+  trapped-exact b c = (
+    of-step s b h c (λ g. g ≡ trapped a m → Strays s h c a m) (λ e. absurd (calm-halted e)) (λ n i k r e. strays-there h c r (code-traps c n i k e)),
+    strays-traps c,
+  )

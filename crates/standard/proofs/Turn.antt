@@ -10,7 +10,7 @@ use borrow.Author.Tests.{le-ltb, lt-ltb}
 use Rattle.limits.specs.Limits.{stackLimit, nestLimit}
 use Rattle.opcode.specs.Kind.{Kind, i32}
 use Rattle.opcode.specs.BlockType.{blockResults}
-use Rattle.opcode.specs.Table.{End, Code}
+use Rattle.opcode.specs.Table.{End, Code, plain}
 use Rattle.instr.specs.declared.Instr.{Instr}
 use Rattle.machine.specs.Value.{Value, I32, I64, V128, kindOf, AllInRange}
 use Rattle.machine.specs.Exec.{State, Outcome, goes, done, stuck, exec}
@@ -18,8 +18,8 @@ use Rattle.rules.specs.Header.{Header, locals}
 use Rattle.rules.specs.Typing.{Frame, opened, holding, branchKinds, allValues, Target, Typed, Types, ordinary, branches, may-branch, opens-block, opens-loop, closes, Ends, ends}
 use Rattle.rules.specs.Strip.{Reads, Within, Reaches, past, Valid}
 use Rattle.rules.proofs.Typings.{end-untyped, control-untyped}
-use Rattle.standard.specs.Standard.{Label, Config, Stage, going, trapped, halted, withStack, countUnder, after, enter, branch, branchIf, stepPlain, stepCode, step, runs}
-use Rattle.standard.specs.Safety.{Live, Nested, outermost, inside, Fits, Sound, Strays, Safe, safe-going, safe-ended, safe-trapped}
+use Rattle.standard.specs.Standard.{Label, Config, Stage, going, ended, trapped, halted, withStack, countUnder, after, enter, branch, branchIf, stepPlain, stepCode, step, runs}
+use Rattle.standard.specs.Safety.{Live, Nested, outermost, inside, Fits, Sound, Strays, Finishes, Safe, safe-going, safe-ended, safe-trapped}
 use Rattle.standard.proofs.ValueKinds.{reverse-kinds, reverse-range, kinds-fit}
 use Rattle.standard.proofs.Fine.{Kept, Fine, on, past as trapped-past}
 use Rattle.standard.proofs.Typeds.{Ranged, typed-fine}
@@ -28,7 +28,8 @@ use Rattle.standard.proofs.Straying.{strays-there, reads-strays}
 use Rattle.standard.proofs.Nestings.{nested-many, nested-under, nested-same, live-has}
 use Rattle.standard.proofs.Unwinding.{Next, last, goes-on, what-next}
 use Rattle.standard.proofs.Tops.{kinds-append, range-append}
-use Rattle.standard.proofs.Branching.{rest-of, fits-with, branch-safe}
+use Rattle.standard.proofs.Branching.{rest-of, fits-with, Finishing, branch-safe}
+use Rattle.standard.proofs.Finishing.{code-finishes}
 
 pub ranged : {s : List ℕ} {h : Header} {f : Frame} {fs : List Frame} {c : Config} → Fits s h f fs c → Ranged (c .state)
 ranged t = record { stack = t .stack-range; locals = t .local-range; memory = λ k. record { fits = t .memory-range k } }
@@ -133,20 +134,26 @@ module _ {s : List ℕ} (v : Valid s) (c : Config) where
   -- ---- br_if
 
   module _ {f g : Frame} {fs : List Frame} (fits : Fits s h f fs c) (live : Live (f ∷ fs)) (x n : ℕ) (below : List Kind) (target : Target (f ∷ fs) x g)
-      (has : f .values ≡ below ++ (branchKinds g ++ i32 ∷ [])) (reached : Reaches s h (c .place + n) (holding f (below ++ branchKinds g) ∷ fs)) where
+      (has : f .values ≡ below ++ (branchKinds g ++ i32 ∷ [])) (sound : Sound s h c) (reached : Reaches s h (c .place + n) (holding f (below ++ branchKinds g) ∷ fs)) where
     on-top : reverse (f .values) ≡ i32 ∷ reverse (below ++ branchKinds g)
     on-top = ap reverse (has ∙ sym (append-assoc below (branchKinds g) (i32 ∷ []))) ∙ reverse-append (below ++ branchKinds g) (i32 ∷ [])
 
     under : (k : Kind) (ks : List Kind) → k ∷ ks ≡ reverse (f .values) → (k ≡ i32) × (ks ≡ reverse (below ++ branchKinds g))
     under k ks e = let all : k ∷ ks ≡ i32 ∷ reverse (below ++ branchKinds g) = e ∙ on-top in (cc (all), cc (all))
 
-    pub decided : (vs : List Value) → map kindOf vs ≡ reverse (f .values) → AllInRange vs → Good (branchIf s h c n x vs)
-    decided [] e r = absurd (let z : _≡_ {A = ℕ} 0 1 = cc (e, on-top) in omega arith)
-    decided (I32 a ∷ st) e r = by (eqb a 0)
+    pub decided : (vs : List Value) → map kindOf vs ≡ reverse (f .values) → AllInRange vs → Finishing s h c (branchIf s h c n x vs)
+        → Good (branchIf s h c n x vs)
+    decided [] e r finishes = absurd (let z : _≡_ {A = ℕ} 0 1 = cc (e, on-top) in omega arith)
+    decided (I32 a ∷ st) e r finishes = by (eqb a 0) finishes
       where
-        by : (t : Bool)
-            → Good (cond t (going (record { place = c .place + n; state = withStack (c .state) st; labels = c .labels })) (branch s h (withStack (c .state) st) x (c .labels)))
-        by true =
+        on : Stage
+        on = going (record { place = c .place + n; state = withStack (c .state) st; labels = c .labels })
+
+        away : Stage
+        away = branch s h (withStack (c .state) st) x (c .labels)
+
+        by : (t : Bool) → Finishing s h c (cond t on away) → Good (cond t on away)
+        by true q =
             safe-going (record {
               frame = holding f (below ++ branchKinds g);
               outer = fs;
@@ -154,13 +161,16 @@ module _ {s : List ℕ} (v : Valid s) (c : Config) where
               live = live;
               fits = fits-with (c .place + n) st (c .labels) (rest-of fits) (under i32 (map kindOf st) e .1) (r .1) (nested-same (below ++ branchKinds g) (fits .nested));
             }) refl
-        by false =
-            branch-safe v c (withStack (c .state) st) refl (record { held = fits .held; local-range = fits .local-range; memory-range = fits .memory-range })
-            (r .1) below target (fits .nested) live (under i32 (map kindOf st) e .1)
-    decided (I64 a ∷ st) e r = absurd (let same = under _ (map kindOf st) e .0 in let z : _≡_ {A = ℕ} 0 1 = cc (same) in omega arith)
-    decided (V128 a ∷ st) e r = absurd (let same = under _ (map kindOf st) e .0 in let z : _≡_ {A = ℕ} 0 1 = cc (same) in omega arith)
+        by false q =
+            branch-safe v c sound (withStack (c .state) st) refl (record { held = fits .held; local-range = fits .local-range; memory-range = fits .memory-range })
+            (r .1) below target (fits .nested) live (under i32 (map kindOf st) e .1) q
+    decided (I64 a ∷ st) e r finishes = absurd (let same = under _ (map kindOf st) e .0 in let z : _≡_ {A = ℕ} 0 1 = cc (same) in omega arith)
+    decided (V128 a ∷ st) e r finishes = absurd (let same = under _ (map kindOf st) e .0 in let z : _≡_ {A = ℕ} 0 1 = cc (same) in omega arith)
 
   -- ---- each instruction
+
+  here : {f : Frame} {fs : List Frame} → Fits s h f fs c → Live (f ∷ fs) → Reaches s h (c .place) (f ∷ fs) → Sound s h c
+  here {f} {fs} fits live reached = record { frame = f; outer = fs; reached = reached; live = live; fits = fits }
 
   typed-safe : {f : Frame} {fs fs′ : List Frame} {n : ℕ} {i : Instr} {k : Code} → Fits s h f fs c → Live (f ∷ fs) → Reaches s h (c .place) (f ∷ fs)
       → Reads (h .version) s (c .place) i k n
@@ -170,26 +180,33 @@ module _ {s : List ℕ} (v : Valid s) (c : Config) where
       (fine-safe c fits r refl live reached w (past reached r (ordinary t x) w)
       (typed-runs c fits below r t (live-has (live .0) x) (omega (arith, w .values, length-append (allValues fs) (below ++ outs)))))
   typed-safe {fs = fs} fits live reached r (branches {below = below} {f = f} {g = g} l x) w =
-      branch-safe v c (c .state) refl (rest-of fits) (fits .stack-range) below l (fits .nested) live (fits .stacked ∙ ap reverse (live-has (live .0) x))
+      branch-safe v c (here fits live reached) (c .state) refl (rest-of fits) (fits .stack-range) below l (fits .nested) live
+      (fits .stacked ∙ ap reverse (live-has (live .0) x)) (λ vs m e. code-finishes s h vs m c r e)
   typed-safe {fs = fs} {n = n} {i} fits live reached r (may-branch {below = below} {f = f} {g = g} l x) w =
-      decided fits live (i .index) n below l (live-has (live .0) x) (past reached r (may-branch l x) w) (c .state .stack) (fits .stacked) (fits .stack-range)
+      decided fits live (i .index) n below l (live-has (live .0) x) (here fits live reached) (past reached r (may-branch l x) w)
+      (c .state .stack) (fits .stacked) (fits .stack-range) (λ vs m e. code-finishes s h vs m c r e)
   typed-safe {n = n} {i} fits live reached r opens-block w = entered false i n fits live w (past reached r opens-block w)
   typed-safe {n = n} {i} fits live reached r opens-loop w = entered true i n fits live w (past reached r opens-loop w)
   typed-safe {n = n} {i} fits live reached r (closes (ends x)) w = left n i fits (live .1) (live-has (live .0) x) (past reached r (closes (ends x)) w)
 
   -- the strip's `end`
-  ended-safe : (n : ℕ) (i : Instr) {f : Frame} → Fits s h f [] c → Live (f ∷ []) → Ends (f ∷ []) → Good (stepPlain h c n i End (c .labels))
-  ended-safe n i {f} fits live (ends x) = by (c .labels) (fits .nested)
+  ended-safe : (n : ℕ) (i : Instr) {f : Frame} → Fits s h f [] c → Live (f ∷ []) → Reaches s h (c .place) (f ∷ []) → Ends (f ∷ [])
+      → Finishing s h c (stepPlain h c n i End (c .labels)) → Good (stepPlain h c n i End (c .labels))
+  unfolding runs
+  ended-safe n i {f} fits live reached (ends x) finishes = by (c .labels) (fits .nested) finishes
     where
-      by : (ls : List Label) → Nested s h (f ∷ []) ls → Good (stepPlain h c n i End ls)
-      by ls (outermost a b) =
+      by : (ls : List Label) → Nested s h (f ∷ []) ls → Finishing s h c (stepPlain h c n i End ls) → Good (stepPlain h c n i End ls)
+      by ls (outermost a b) q =
           let kinds : map kindOf (c .state .stack) ≡ reverse (h .results) = fits .stacked ∙ ap reverse (live-has (live .0) x ∙ b) in
-          subst Good (sym (ap (λ (t : Bool). after c n (cond t (done (reverse (c .state .stack))) stuck)) (kinds-fit (c .state .stack) (reverse (h .results)) kinds)))
-          (safe-ended (reverse-kinds (c .state .stack) ∙ ap reverse kinds ∙ reverse-reverse (h .results)) (reverse-range (c .state .stack) (fits .stack-range)) refl)
+          let all : after c n (exec (h .results) (plain End) i (c .state)) ≡ ended (reverse (c .state .stack)) (c .state .memory) =
+          ap (λ (t : Bool). after c n (cond t (done (reverse (c .state .stack))) stuck)) (kinds-fit (c .state .stack) (reverse (h .results)) kinds) in
+          subst Good (sym all)
+          (safe-ended 0 refl (here fits live reached) (q (reverse (c .state .stack)) (c .state .memory) all)
+          (reverse-kinds (c .state .stack) ∙ ap reverse kinds ∙ reverse-reverse (h .results)) (reverse-range (c .state .stack) (fits .stack-range)) refl)
 
   next-safe : {f : Frame} {fs : List Frame} → Fits s h f fs c → Live (f ∷ fs) → Reaches s h (c .place) (f ∷ fs) → Next s h (c .place) (f ∷ fs)
       → Good (step s h c)
-  next-safe fits live reached (last {i = i} r e) = subst Good (sym (step-does h c r)) (ended-safe 1 i fits live e)
+  next-safe fits live reached (last {i = i} r e) = subst Good (sym (step-does h c r)) (ended-safe 1 i fits live reached e (λ vs m q. code-finishes s h vs m c r q))
   next-safe fits live reached (goes-on r t w) = subst Good (sym (step-does h c r)) (typed-safe fits live reached r t w)
 
   pub safe-step : Sound s h c → Safe s h c (step s h c)
@@ -202,3 +219,11 @@ module _ {s : List ℕ} (v : Valid s) (c : Config) where
       by : {fs : List Frame} → Next s h (c .place) fs → Strays s h c a m
       by (last r x) = reads-strays s h a m c r e
       by (goes-on r t w) = reads-strays s h a m c r e
+
+  -- a step that ends is one that leaves the strip
+  pub sound-finishes : Sound s h c → {vs : List Value} {m : List ℕ} → step s h c ≡ ended vs m → Finishes s h c vs m
+  sound-finishes sound {vs} {m} e = by (what-next v (sound .reached))
+    where
+      by : {fs : List Frame} → Next s h (c .place) fs → Finishes s h c vs m
+      by (last r x) = code-finishes s h vs m c r (sym (step-does h c r) ∙ e)
+      by (goes-on r t w) = code-finishes s h vs m c r (sym (step-does h c r) ∙ e)

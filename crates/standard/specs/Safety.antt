@@ -3,9 +3,9 @@ use Prim.Native.Nat.{ℕ, _+_, _^_, _<_}
 use mathlib.Core.Path.{_≡_}
 use mathlib.Core.Bool.{false}
 use mathlib.Core.Option.{some}
-use mathlib.Core.List.{List, [], _∷_, reverse, map}
+use mathlib.Core.List.{List, [], _∷_, _++_, reverse, map}
 use lib.ListN.{length, getD}
-use Rattle.opcode.specs.Table.{BrIf, Code, control}
+use Rattle.opcode.specs.Table.{End, Br, BrIf, Code, plain, control}
 use Rattle.instr.specs.declared.Instr.{Instr}
 use Rattle.machine.specs.Value.{Value, I32, kindOf, AllInRange}
 use Rattle.machine.specs.Accesses.{Accesses}
@@ -64,12 +64,30 @@ pub record Strays (s : List ℕ) (h : Header) (c : Config) (a n : ℕ) : Type 0 
   pub accesses : Accesses instr code (c .state .stack) a n
   pub past : length (c .state .memory) < a + n
 
--- from b on: going on in a sound state, ended with results of the declared kinds and in range, or trapped at an access past the end, in a sound state that
--- the machine came to; the memory is as long as it was
+-- with so many labels and this stack, its top first, the instruction i of this code is one at which a strip is left with vs, the first of them lowest on the
+-- stack: an `end` that closes no block, over vs alone; or a branch to the number after those of all the labels, with vs on top (02, C-13: "at the outermost that
+-- is DONE"; Core 2.0, 4.4.8), which br_if takes where the number that it pops is not 0
+pub data Exits (i : Instr) : Code → ℕ → List Value → List Value → Type 0 where
+  by-end : {vs : List Value} → Exits i (plain End) 0 (reverse vs) vs
+  by-br : {vs : List Value} (below : List Value) → Exits i (control Br) (i .index) (reverse vs ++ below) vs
+  by-br-if : {x : ℕ} {vs : List Value} (below : List Value) → (x ≡ 0 → ⊥) → Exits i (control BrIf) (i .index) (I32 x ∷ (reverse vs ++ below)) vs
+
+-- the instruction that stands at the place of c leaves the strip with vs, which are of the results' kinds, and with the memory m, as it is
+pub record Finishes (s : List ℕ) (h : Header) (c : Config) (vs : List Value) (m : List ℕ) : Type 0 where
+  pub instr : Instr
+  pub code : Code
+  pub size : ℕ
+  pub reads : Reads (h .version) s (c .place) instr code size
+  pub exits : Exits instr code (length (c .labels)) (c .state .stack) vs
+  pub kinds : map kindOf vs ≡ h .results
+  pub memory : m ≡ c .state .memory
+
+-- from b on: going on in a sound state, ended with results of the declared kinds and in range, where the strip is left, or trapped at an access past the end;
+-- these two in a sound state that the machine came to; the memory is as long as it was
 pub data Safe (s : List ℕ) (h : Header) (b : Config) : Stage → Type 0 where
   safe-going : {c : Config} → Sound s h c → length (c .state .memory) ≡ length (b .state .memory) → Safe s h b (going c)
-  safe-ended : {vs : List Value} {mem : List ℕ} → map kindOf vs ≡ h .results → AllInRange vs → length mem ≡ length (b .state .memory)
-      → Safe s h b (ended vs mem)
+  safe-ended : (j : ℕ) {c : Config} {vs : List Value} {mem : List ℕ} → runs s h j b ≡ going c → Sound s h c → Finishes s h c vs mem
+      → map kindOf vs ≡ h .results → AllInRange vs → length mem ≡ length (b .state .memory) → Safe s h b (ended vs mem)
   safe-trapped : (j : ℕ) {c : Config} {a n : ℕ} → runs s h j b ≡ going c → Sound s h c → length (c .state .memory) ≡ length (b .state .memory)
       → Strays s h c a n → Safe s h b (trapped a n)
 
