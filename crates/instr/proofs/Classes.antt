@@ -7,11 +7,11 @@ use mathlib.Core.Path.{_≡_, refl, sym, ap, subst, _∙_}
 use native.Mathlib.Omega.{arith}
 use lib.Dec.{eqb}
 use borrow.Author.Tests.{eq-eqb, ne-eqb, lt-ltb, le-ltb}
-use Rattle.card.specs.Card.{DONE, OPCODE}
+use Rattle.card.specs.Card.{DONE, KIND, OPCODE, FLOAT, LANE}
 use Rattle.opcode.specs.BlockType.{isBlockType}
 use Rattle.opcode.specs.Table.{Row, carried, float, unassigned, latest, rowAt}
 use Rattle.opcode.specs.Immediate.{Immediates, nothing, index, blockType, word, long, memory, memoryLane, laneIndex, sixteenBytes, sixteenLanes, immediates, movedBy, lanesOf}
-use Rattle.opcode.specs.Number.{classNumber, FLOAT, UNASSIGNED, classOf, idOf, rowOf}
+use Rattle.opcode.specs.Number.{classNumber, CLASS-FLOAT, CLASS-UNASSIGNED, classOf, idOf, rowOf}
 use Rattle.opcode.proofs.Id.{row-of-id}
 use Rattle.opcode.proofs.Classes.{class-carried, class-float, class-unassigned}
 use Rattle.opcode.proofs.Arms.{Missed}
@@ -20,7 +20,6 @@ use Rattle.instr.specs.Decode.{immediatesAt, bodyOf}
 use Rattle.instr.specs.Encode.{exponentFault, allBelow, faultIn, faultOf}
 use Rattle.instr.specs.Inner.Steps.{memoryClass, laneEnds}
 use Rattle.instr.specs.declared.Instr.{Instr}
-use Rattle.card.specs.Card as card
 
 module _ (r : Row) (k : Immediates) (e : classOf r ≡ classNumber k) where
   pub body-class : (s : List ℕ) (at p : ℕ) (h : Head) → bodyOf r s at p h ≡ immediatesAt k (movedBy r) (lanesOf r) s at p h
@@ -39,15 +38,15 @@ module _ (r : Row) (k : Immediates) (e : classOf r ≡ classNumber k) where
       let t = class-carried r k e in
       rw (t .1) (ap (λ (j : Immediates). faultIn j (movedBy (carried (t .0))) (lanesOf (carried (t .0))) i) (t .2))
 
-pub body-float : (r : Row) → classOf r ≡ FLOAT → (s : List ℕ) (at p : ℕ) (h : Head) → bodyOf r s at p h ≡ refusal card.FLOAT at
+pub body-float : (r : Row) → classOf r ≡ CLASS-FLOAT → (s : List ℕ) (at p : ℕ) (h : Head) → bodyOf r s at p h ≡ refusal FLOAT at
 unfolding bodyOf
 body-float r e s at p h = rw (class-float r e)
 
-pub fault-float : (r : Row) → classOf r ≡ FLOAT → (i : Instr) → faultOf r i ≡ card.FLOAT
+pub fault-float : (r : Row) → classOf r ≡ CLASS-FLOAT → (i : Instr) → faultOf r i ≡ FLOAT
 unfolding faultOf
 fault-float r e i = rw (class-float r e)
 
-pub fault-unassigned : (r : Row) → classOf r ≡ UNASSIGNED → (i : Instr) → faultOf r i ≡ OPCODE
+pub fault-unassigned : (r : Row) → classOf r ≡ CLASS-UNASSIGNED → (i : Instr) → faultOf r i ≡ OPCODE
 unfolding faultOf
 fault-unassigned r e i = rw (class-unassigned r e)
 
@@ -126,7 +125,7 @@ module _ (r : Row) (i : Instr) where
     unfolding faultIn
     fault-memory-lane m f c h = rw f (sym (fault-class r memoryLane c i ∙ rw (lt-ltb (i .lane) (lanesOf r) (omega (arith, e)))))
 
-    pub fault-lane-memory : classOf r ≡ classNumber memoryLane → n ≤ i .lane → card.LANE ≡ faultOf r i
+    pub fault-lane-memory : classOf r ≡ classNumber memoryLane → n ≤ i .lane → LANE ≡ faultOf r i
     unfolding faultIn
     fault-lane-memory c h = sym (fault-class r memoryLane c i ∙ rw (le-ltb (i .lane) (lanesOf r) (omega (arith, e))))
 
@@ -134,15 +133,15 @@ module _ (r : Row) (i : Instr) where
     unfolding faultIn
     no-fault-lane c h = sym (fault-class r laneIndex c i ∙ rw (lt-ltb (i .lane) (lanesOf r) (omega (arith, e))))
 
-    pub fault-lane : classOf r ≡ classNumber laneIndex → n ≤ i .lane → card.LANE ≡ faultOf r i
+    pub fault-lane : classOf r ≡ classNumber laneIndex → n ≤ i .lane → LANE ≡ faultOf r i
     unfolding faultIn
     fault-lane c h = sym (fault-class r laneIndex c i ∙ rw (le-ltb (i .lane) (lanesOf r) (omega (arith, e))))
 
-  pub fault-block : (t : Bool) → t ≡ isBlockType (i .block) → classOf r ≡ classNumber blockType → cond t DONE card.KIND ≡ faultOf r i
+  pub fault-block : (t : Bool) → t ≡ isBlockType (i .block) → classOf r ≡ classNumber blockType → cond t DONE KIND ≡ faultOf r i
   unfolding faultIn
   fault-block t e c = rw e (sym (fault-class r blockType c i))
 
-  pub fault-lanes : (t : Bool) → t ≡ allBelow 32 (i .bytes) → classOf r ≡ classNumber sixteenLanes → cond t DONE card.LANE ≡ faultOf r i
+  pub fault-lanes : (t : Bool) → t ≡ allBelow 32 (i .bytes) → classOf r ≡ classNumber sixteenLanes → cond t DONE LANE ≡ faultOf r i
   unfolding faultIn
   fault-lanes t e c = rw e (sym (fault-class r sixteenLanes c i))
 

@@ -8,12 +8,12 @@ use native.Mathlib.Omega.{arith}
 use lib.Dec.{ltb, eqb}
 use lib.ListN.{length, getD}
 use borrow.Author.Tests.{eq-eqb, ne-eqb, eqb-true}
-use Rattle.card.specs.Card.{DONE, SHORT, KIND, OPCODE}
+use Rattle.card.specs.Card.{DONE, SHORT, KIND, OPCODE, FLOAT}
 use Rattle.leb128.specs.Bytes.{bytes}
 use Rattle.opcode.specs.BlockType.{isBlockType}
 use Rattle.opcode.specs.Table.{Code, Row, carried, float, unassigned, rowAt}
 use Rattle.opcode.specs.Immediate.{Immediates, nothing, index, blockType, word, long, memory, memoryLane, laneIndex, sixteenBytes, sixteenLanes, immediates, movedBy, lanesOf}
-use Rattle.opcode.specs.Number.{classNumber, FLOAT, classOf, idOf, rowOf}
+use Rattle.opcode.specs.Number.{classNumber, CLASS-FLOAT, classOf, idOf, rowOf}
 use Rattle.opcode.specs.Entry.{entryOf}
 use Rattle.opcode.proofs.Id.{row-of-id}
 use Rattle.opcode.proofs.Classes.{class-carried, class-float}
@@ -28,7 +28,6 @@ use Rattle.instr.proofs.Classes.{AllBut, decoded, other-class, memory-c
 use Rattle.instr.proofs.Items.{decode-body}
 use Rattle.instr.proofs.Onward.{Onward, number-onward, exponent-onward, lane-onward, lanes-onward, sixteen-onward}
 use Rattle.instr.proofs.Numbers.{number-32}
-use Rattle.card.specs.Card as card
 
 -- ---- by the class of the row
 
@@ -39,7 +38,7 @@ module _ (r : Row) (s : List ℕ) (at p : ℕ) where
       let t = class-carried r k e in
       rw (t .1) (ap (λ (j : Immediates). overClass j (movedBy (carried (t .0))) (lanesOf (carried (t .0))) s p) (t .2))
 
-  pub over-float : classOf r ≡ FLOAT → overRow r s at p ≡ no card.FLOAT at
+  pub over-float : classOf r ≡ CLASS-FLOAT → overRow r s at p ≡ no FLOAT at
   unfolding overRow
   over-float e = rw (class-float r e)
 

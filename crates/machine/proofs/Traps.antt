@@ -10,13 +10,24 @@ use lib.ListN.{length}
 use borrow.Author.Tests.{lt-leb}
 use Rattle.limits.specs.Limits.{stackLimit}
 use Rattle.opcode.specs.Kind.{Kind}
-use Rattle.opcode.specs.Table.{Code}
+use Rattle.opcode.specs.Table.{Code, carried}
+use Rattle.opcode.specs.Immediate.{movedBy}
 use Rattle.instr.specs.declared.Instr.{Instr}
 use Rattle.machine.specs.Value.{Value, I32, V128}
 use Rattle.machine.specs.Exec.{State, Outcome, goes, done, trap, stuck, popI32, popV128, goOn, access, exec}
 use Rattle.machine.specs.Accesses.{Accesses, load, load-extend, load-splat, load-zero, load-lane, store, store-lane}
 use Rattle.machine.proofs.Laws.Pops.{on-not-trap}
 use Rattle.machine.proofs.Outcomes.{of-exec}
+
+-- the bytes that an instruction accesses are those that the table has for the limit of its alignment exponent (01: "the bytes moved")
+pub accesses-moved : {i : Instr} {c : Code} {st : List Value} {a n : ℕ} → Accesses i c st a n → movedBy (carried c) ≡ n
+accesses-moved load = refl
+accesses-moved load-extend = refl
+accesses-moved load-splat = refl
+accesses-moved load-zero = refl
+accesses-moved load-lane = refl
+accesses-moved store = refl
+accesses-moved store-lane = refl
 
 takes-i32 : (vs : List Value) (x : ℕ) (st : List Value) (f : ℕ → List Value → Outcome) → vs ≡ I32 x ∷ st → popI32 vs f ≡ f x st
 unfolding popI32

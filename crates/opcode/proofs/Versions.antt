@@ -4,7 +4,8 @@ use Prim.Native.String.{String}
 use mathlib.Core.Path.{_≡_, refl, sym, ap, subst, _∙_}
 use mathlib.Core.Bool.{Bool, true, false, cond, _&&_, _||_}
 use mathlib.Core.List.{List, [], _∷_}
-use mathlib.Core.Logic.{⊎-elim}
+use mathlib.Core.Logic.{_⊎_, inl, inr, ⊎-elim, _↔_}
+use native.Mathlib.Nat.{eq-or-lt-of-le}
 use native.Mathlib.Omega.{arith}
 use lib.Dec.{T, eqb, leb, leb→le}
 use lib.ListN.{getD}
@@ -79,6 +80,13 @@ pub known-range : (ver : ℕ) → known ver ≡ true → (1 ≤ ver) × (ver ≤
 known-range ver e =
     let both = and-yes (leb 1 ver) (leb ver latest) (subst T (sym e) tt) in
     (leb→le 1 ver (both .0), leb→le ver latest (both .1))
+
+-- and there are two (01, "The strip file"; 02, C-13)
+pub known-versions : (ver : ℕ) → (known ver ≡ true) ↔ ((ver ≡ 1) ⊎ (ver ≡ 2))
+known-versions ver = (there, ⊎-elim (ap known) (ap known))
+  where
+    there : known ver ≡ true → (ver ≡ 1) ⊎ (ver ≡ 2)
+    there e = let r = known-range ver e in ⊎-elim (λ f. inl (sym f)) (λ l. inr (omega (arith, r .1))) (eq-or-lt-of-le (r .0))
 
 -- ---- what a computed test says of every row of a version
 

@@ -32,7 +32,7 @@ sinceIn b (l ∷ ls) = cond (eqb b (l .0)) (l .2) (sinceIn b ls)
 unfoldable pub sinceOf : ℕ → ℕ
 sinceOf b = sinceIn b plainLines
 
--- NOTHING, INDEX, WORD, LONG, MEMORY, MEMORY_LANE, LANE, BYTES, LANES, BLOCK_TYPE
+-- the code's CLASS_NOTHING, CLASS_INDEX, CLASS_WORD, CLASS_LONG, CLASS_MEMORY, CLASS_MEMORY_LANE, CLASS_LANE, CLASS_BYTES, CLASS_LANES, CLASS_BLOCK_TYPE
 abbrev pub classNumber : Immediates → ℕ
 classNumber nothing = 0
 classNumber index = 1
@@ -45,16 +45,17 @@ classNumber sixteenBytes = 7
 classNumber sixteenLanes = 8
 classNumber blockType = 9
 
-abbrev pub FLOAT : ℕ
-FLOAT = 10
+-- and its CLASS_FLOAT and CLASS_UNASSIGNED; in a name here an underscore would be the place of an operand
+abbrev pub CLASS-FLOAT : ℕ
+CLASS-FLOAT = 10
 
-abbrev pub UNASSIGNED : ℕ
-UNASSIGNED = 11
+abbrev pub CLASS-UNASSIGNED : ℕ
+CLASS-UNASSIGNED = 11
 
 abbrev pub classOf : Row → ℕ
 classOf (carried c) = classNumber (immediates c)
-classOf float = FLOAT
-classOf unassigned = UNASSIGNED
+classOf float = CLASS-FLOAT
+classOf unassigned = CLASS-UNASSIGNED
 
 -- the kinds' bytes: the top operand in byte 0, those below it in bytes 1 and 2, what is left in byte 3; 0 where there is none
 abbrev pub packed : Option Signature → ℕ
