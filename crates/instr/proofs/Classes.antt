@@ -11,7 +11,7 @@ use Rattle.card.specs.Card.{DONE, KIND, OPCODE, FLOAT, LANE}
 use Rattle.opcode.specs.BlockType.{isBlockType}
 use Rattle.opcode.specs.Table.{Row, carried, float, unassigned, latest, rowAt}
 use Rattle.opcode.specs.Immediate.{Immediates, nothing, index, blockType, word, long, memory, memoryLane, laneIndex, sixteenBytes, sixteenLanes, immediates, movedBy, lanesOf}
-use Rattle.opcode.specs.Number.{classNumber, CLASS_FLOAT, CLASS_UNASSIGNED, classOf, idOf, rowOf}
+use Rattle.opcode.specs.Number.{classNumber, CLASS-FLOAT, CLASS-UNASSIGNED, classOf, idOf, rowOf}
 use Rattle.opcode.proofs.Id.{row-of-id}
 use Rattle.opcode.proofs.Classes.{class-carried, class-float, class-unassigned}
 use Rattle.opcode.proofs.Arms.{Missed}
@@ -38,15 +38,15 @@ module _ (r : Row) (k : Immediates) (e : classOf r ≡ classNumber k) where
       let t = class-carried r k e in
       rw (t .1) (ap (λ (j : Immediates). faultIn j (movedBy (carried (t .0))) (lanesOf (carried (t .0))) i) (t .2))
 
-pub body-float : (r : Row) → classOf r ≡ CLASS_FLOAT → (s : List ℕ) (at p : ℕ) (h : Head) → bodyOf r s at p h ≡ refusal FLOAT at
+pub body-float : (r : Row) → classOf r ≡ CLASS-FLOAT → (s : List ℕ) (at p : ℕ) (h : Head) → bodyOf r s at p h ≡ refusal FLOAT at
 unfolding bodyOf
 body-float r e s at p h = rw (class-float r e)
 
-pub fault-float : (r : Row) → classOf r ≡ CLASS_FLOAT → (i : Instr) → faultOf r i ≡ FLOAT
+pub fault-float : (r : Row) → classOf r ≡ CLASS-FLOAT → (i : Instr) → faultOf r i ≡ FLOAT
 unfolding faultOf
 fault-float r e i = rw (class-float r e)
 
-pub fault-unassigned : (r : Row) → classOf r ≡ CLASS_UNASSIGNED → (i : Instr) → faultOf r i ≡ OPCODE
+pub fault-unassigned : (r : Row) → classOf r ≡ CLASS-UNASSIGNED → (i : Instr) → faultOf r i ≡ OPCODE
 unfolding faultOf
 fault-unassigned r e i = rw (class-unassigned r e)
 

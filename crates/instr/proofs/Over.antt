@@ -13,7 +13,7 @@ use Rattle.leb128.specs.Bytes.{bytes}
 use Rattle.opcode.specs.BlockType.{isBlockType}
 use Rattle.opcode.specs.Table.{Code, Row, carried, float, unassigned, rowAt}
 use Rattle.opcode.specs.Immediate.{Immediates, nothing, index, blockType, word, long, memory, memoryLane, laneIndex, sixteenBytes, sixteenLanes, immediates, movedBy, lanesOf}
-use Rattle.opcode.specs.Number.{classNumber, CLASS_FLOAT, classOf, idOf, rowOf}
+use Rattle.opcode.specs.Number.{classNumber, CLASS-FLOAT, classOf, idOf, rowOf}
 use Rattle.opcode.specs.Entry.{entryOf}
 use Rattle.opcode.proofs.Id.{row-of-id}
 use Rattle.opcode.proofs.Classes.{class-carried, class-float}
@@ -38,7 +38,7 @@ module _ (r : Row) (s : List ℕ) (at p : ℕ) where
       let t = class-carried r k e in
       rw (t .1) (ap (λ (j : Immediates). overClass j (movedBy (carried (t .0))) (lanesOf (carried (t .0))) s p) (t .2))
 
-  pub over-float : classOf r ≡ CLASS_FLOAT → overRow r s at p ≡ no FLOAT at
+  pub over-float : classOf r ≡ CLASS-FLOAT → overRow r s at p ≡ no FLOAT at
   unfolding overRow
   over-float e = rw (class-float r e)
 

@@ -15,7 +15,7 @@ use Rattle.operation.specs.Op.{Binary, Bitselect, Test, Shift}
 use Rattle.opcode.specs.Table.{Code, plain, control, vector, Row, carried, float, unassigned}
 use Rattle.opcode.specs.Immediate.{Immediates, nothing, index, blockType, word, long, memory, memoryLane, laneIndex, sixteenBytes, sixteenLanes}
 use Rattle.opcode.specs.Immediate.{immediates, moved, laneCount, movedBy, lanesOf}
-use Rattle.opcode.specs.Number.{classNumber, CLASS_FLOAT, CLASS_UNASSIGNED, classOf}
+use Rattle.opcode.specs.Number.{classNumber, CLASS-FLOAT, CLASS-UNASSIGNED, classOf}
 use Rattle.opcode.proofs.Every.{below-or-past}
 
 abbrev classAt : ℕ → Immediates
@@ -33,7 +33,7 @@ class-back sixteenBytes = refl
 class-back sixteenLanes = refl
 class-back blockType = refl
 
-class-small : (i : Immediates) → classNumber i < CLASS_FLOAT
+class-small : (i : Immediates) → classNumber i < CLASS-FLOAT
 class-small nothing = lit< tt
 class-small index = lit< tt
 class-small word = lit< tt
@@ -54,17 +54,17 @@ class-carried (carried c) i e = (c, refl, class-once e)
 class-carried float i e = let none : ⊥ = omega (arith, class-small i) in absurd none
 class-carried unassigned i e = let none : ⊥ = omega (arith, class-small i) in absurd none
 
-pub class-float : (r : Row) → classOf r ≡ CLASS_FLOAT → r ≡ float
+pub class-float : (r : Row) → classOf r ≡ CLASS-FLOAT → r ≡ float
 class-float (carried c) e = let none : ⊥ = omega (arith, class-small (immediates c)) in absurd none
 class-float float e = refl
 class-float unassigned e = let none : ⊥ = omega arith in absurd none
 
-pub class-unassigned : (r : Row) → classOf r ≡ CLASS_UNASSIGNED → r ≡ unassigned
+pub class-unassigned : (r : Row) → classOf r ≡ CLASS-UNASSIGNED → r ≡ unassigned
 class-unassigned (carried c) e = let none : ⊥ = omega (arith, class-small (immediates c)) in absurd none
 class-unassigned float e = let none : ⊥ = omega arith in absurd none
 class-unassigned unassigned e = refl
 
-pub row-class-small : (r : Row) → classOf r ≤ CLASS_UNASSIGNED
+pub row-class-small : (r : Row) → classOf r ≤ CLASS-UNASSIGNED
 row-class-small (carried c) = omega (arith, class-small (immediates c))
 row-class-small float = lit≤ tt
 row-class-small unassigned = lit≤ tt

@@ -45,16 +45,17 @@ classNumber sixteenBytes = 7
 classNumber sixteenLanes = 8
 classNumber blockType = 9
 
-abbrev pub CLASS_FLOAT : ℕ
-CLASS_FLOAT = 10
+-- and its CLASS_FLOAT and CLASS_UNASSIGNED; in a name here an underscore would be the place of an operand
+abbrev pub CLASS-FLOAT : ℕ
+CLASS-FLOAT = 10
 
-abbrev pub CLASS_UNASSIGNED : ℕ
-CLASS_UNASSIGNED = 11
+abbrev pub CLASS-UNASSIGNED : ℕ
+CLASS-UNASSIGNED = 11
 
 abbrev pub classOf : Row → ℕ
 classOf (carried c) = classNumber (immediates c)
-classOf float = CLASS_FLOAT
-classOf unassigned = CLASS_UNASSIGNED
+classOf float = CLASS-FLOAT
+classOf unassigned = CLASS-UNASSIGNED
 
 -- the kinds' bytes: the top operand in byte 0, those below it in bytes 1 and 2, what is left in byte 3; 0 where there is none
 abbrev pub packed : Option Signature → ℕ
