@@ -74,7 +74,8 @@ module _ (s : List ℕ) where
   one-field p xs rest l e (number sign N v) w = ap (λ (bs : List ℕ). p + numberLong bs) e ∙ ap (λ (n : ℕ). p + n) (written-long w rest)
   one-field p xs rest l e (raw bs) w = omega (arith, ap length w, length-drop p s, ap length e, length-append xs rest)
 
-  pub fields-past : (p : ℕ) (bs rest : List ℕ) → p ≤ length s → drop p s ≡ bs ++ rest → (fs : List Field) → InOrder Writes fs bs → pastFields s p fs ≡ p + length bs
+  pub fields-past : (p : ℕ) (bs rest : List ℕ) → p ≤ length s → drop p s ≡ bs ++ rest → (fs : List Field) → InOrder Writes fs bs
+      → pastFields s p fs ≡ p + length bs
   fields-past p bs rest l e [] o = omega (arith, ap length o)
   fields-past p bs rest l e (f ∷ fs) o =
       let here = first-of s p bs (o .0) (o .1) rest e (o .2) in
@@ -84,7 +85,8 @@ module _ (s : List ℕ) where
       ap (λ (q : ℕ). pastFields s q fs) one ∙ all ∙ omega (arith, ap length (o .2), length-append (o .0) (o .1))
 
   -- whatever they hold
-  pub as-blank : (k : Immediates) (i : Instr) → length (i .bytes) ≡ 16 → (p : ℕ) → pastFields s p (immediateFields k i) ≡ pastFields s p (immediateFields k blank)
+  pub as-blank : (k : Immediates) (i : Instr) → length (i .bytes) ≡ 16 → (p : ℕ)
+      → pastFields s p (immediateFields k i) ≡ pastFields s p (immediateFields k blank)
   unfolding immediateFields
   as-blank nothing i l p = refl
   as-blank index i l p = refl

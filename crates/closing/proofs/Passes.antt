@@ -69,7 +69,9 @@ module _ (s : List ℕ) where
     unfolding fieldsOf
     ends q bs e o l =
         sym (as-blank s (immediates c) i (r .stands .typed .sixteen) q)
-        ∙ fields-past s q bs (r .stands .rest) (omega (arith, l, stands-inside (r .stands))) e (immediateFields (immediates c) i) (subst (λ (x : Row). InOrder Writes (fieldsOf x i) bs) (r .does) o) ∙ l
+        ∙ fields-past s q bs (r .stands .rest) (omega (arith, l, stands-inside (r .stands))) e (immediateFields (immediates c) i)
+        (subst (λ (x : Row). InOrder Writes (fieldsOf x i) bs) (r .does) o)
+        ∙ l
 
     passes-by : (b v : ℕ) (k : ℕ) → b ≡ i .first → rowAt latest b v ≡ carried c → pastRow (carried c) s (p + 1 + k) ≡ p + n → opcodeNumber b s (p + 1) ≡ Val v k
         → passedBy b s (p + 1) (opcodeNumber b s (p + 1)) ≡ passed (carried c) (p + n)
@@ -90,12 +92,15 @@ module _ (s : List ℕ) where
             → passedBy (i .first) s (p + 1) (opcodeNumber (i .first) s (p + 1)) ≡ passed (carried c) (p + n)
         by true q o d far =
             passes-by (i .first) (i .number) (length (o .0)) refl row-is
-            (ends (p + 1 + length (o .0)) (o .1) (others-of s (p + 1) ys (o .0) (o .1) (r .stands .rest) d (o .2)) (o .4) (omega (arith, ap length (o .2), length-append (o .0) (o .1), far)))
+            (ends (p + 1 + length (o .0)) (o .1) (others-of s (p + 1) ys (o .0) (o .1) (r .stands .rest) d (o .2)) (o .4)
+            (omega (arith, ap length (o .2), length-append (o .0) (o .1), far)))
             (ap (λ (t : Bool). cond t (numberAt false 32 s (p + 1)) (Val 0 0)) q
-            ∙ number-back s false 32 (i .number) (p + 1) (o .0) (o .1 ++ r .stands .rest) (omega arith) (r .stands .typed .number) (first-of s (p + 1) ys (o .0) (o .1) (r .stands .rest) d (o .2)) (o .3))
+            ∙ number-back s false 32 (i .number) (p + 1) (o .0) (o .1 ++ r .stands .rest) (omega arith) (r .stands .typed .number)
+            (first-of s (p + 1) ys (o .0) (o .1) (r .stands .rest) d (o .2)) (o .3))
         by false q o d far =
             passes-by (i .first) 0 0 refl
-            (ap (λ (t : Bool). cond t (vectorAt 0) (plainAt latest (i .first))) q ∙ sym (ap (λ (t : Bool). cond t (vectorAt (i .number)) (plainAt latest (i .first))) q) ∙ row-is)
+            (ap (λ (t : Bool). cond t (vectorAt 0) (plainAt latest (i .first))) q
+            ∙ sym (ap (λ (t : Bool). cond t (vectorAt (i .number)) (plainAt latest (i .first))) q) ∙ row-is)
             (ap (pastRow (carried c) s) (add-zero (p + 1)) ∙ ends (p + 1) ys d o far)
             (ap (λ (t : Bool). cond t (numberAt false 32 s (p + 1)) (Val 0 0)) q)
 

@@ -29,7 +29,8 @@ module _ (s : List ℕ) where
   none-past : (k room p : ℕ) → length s ≤ p → endWithin k s room p ≡ 0
   unfolding endWithin
   none-past zero room p l = refl
-  none-past (suc k) room p l = ap (λ (t : Bool). cond t (endBy (roleOf (passedAt s p .row)) room (passedAt s p .next) (endWithin k s)) 0) (le-ltb p (length s) l)
+  none-past (suc k) room p l =
+      ap (λ (t : Bool). cond t (endBy (roleOf (passedAt s p .row)) room (passedAt s p .next) (endWithin k s)) 0) (le-ltb p (length s) l)
 
   pub past-last : (room p : ℕ) → length s ≤ p → endOf s room p ≡ 0
   past-last room p l = none-past (length s) room p l
@@ -43,7 +44,8 @@ module _ (s : List ℕ) where
     enough (suc k) (suc j) room p u w = by (ltb p (length s)) refl (enough k j)
       where
         by : (t : Bool) → ltb p (length s) ≡ t → ((r m : ℕ) → length s - m ≤ k → length s - m ≤ j → endWithin k s r m ≡ endWithin j s r m)
-            → cond t (endBy (roleOf (passedAt s p .row)) room (passedAt s p .next) (endWithin k s)) 0 ≡ cond t (endBy (roleOf (passedAt s p .row)) room (passedAt s p .next) (endWithin j s)) 0
+            → cond t (endBy (roleOf (passedAt s p .row)) room (passedAt s p .next) (endWithin k s)) 0
+            ≡ cond t (endBy (roleOf (passedAt s p .row)) room (passedAt s p .next) (endWithin j s)) 0
         by true e more =
             let l = ltb-true p (length s) e in
             same-by (roleOf (passedAt s p .row)) room p (passedAt s p .next) (endWithin k s) (endWithin j s) (onward s b p l .0)

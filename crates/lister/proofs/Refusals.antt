@@ -39,7 +39,8 @@ some : (c p : ℕ) → 1 ≤ length (told c p)
 unfolding told
 some c p = omega (arith, length-append (joined (decimal c ∷ decimal p ∷ [])) (newline ∷ []))
 
-pub is-broken : {s out out′ : List ℕ} {c p n : ℕ} → Breach s c p → length (told c p) ≤ 42 → 42 ≤ length out → Appends (told c p) out 0 n out′ → PrintsRefusal s out n out′
+pub is-broken : {s out out′ : List ℕ} {c p n : ℕ} → Breach s c p → length (told c p) ≤ 42 → 42 ≤ length out → Appends (told c p) out 0 n out′
+    → PrintsRefusal s out n out′
 is-broken {s} {out} {out′} {c} {p} {n} b short room a =
     let e = appended a (omega arith) in
     let long : length (told c p) ≡ n = omega (arith, e .0) in

@@ -78,8 +78,10 @@ module _ (s : List ℕ) where
       further-kept p l rest here few few-l =
           more HeadAsked 5 (parameters-kept p (l ∷ rest) here few) (λ v′ p′ l′ rest′ e. let same : l ≡ l′ = cc (here, e) in omega (arith, same, few-l))
 
-      pub many-results : (p l r : ℕ) (rest : List ℕ) → s ≡ preamble v ++ p ∷ l ∷ r ∷ rest → p ≤ parameterLimit → l ≤ localLimit → resultLimit < r → Stop HeadAsked 6
-      many-results p l r rest here few few-l g = record { kept = further-kept p l (r ∷ rest) here few few-l; broken = λ q. let small = q v p l r rest here in omega arith }
+      pub many-results : (p l r : ℕ) (rest : List ℕ) → s ≡ preamble v ++ p ∷ l ∷ r ∷ rest → p ≤ parameterLimit → l ≤ localLimit → resultLimit < r
+          → Stop HeadAsked 6
+      many-results p l r rest here few few-l g =
+          record { kept = further-kept p l (r ∷ rest) here few few-l; broken = λ q. let small = q v p l r rest here in omega arith }
 
       counts-kept : (p l r : ℕ) (rest : List ℕ) → s ≡ preamble v ++ p ∷ l ∷ r ∷ rest → Few p l r → Kept HeadAsked 7
       counts-kept p l r rest here few =
@@ -87,9 +89,11 @@ module _ (s : List ℕ) where
           (further-kept p l (r ∷ rest) here (few .parameters) (few .further))
           (λ v′ p′ l′ r′ rest′ e. let same : r ≡ r′ = cc (here, e) in omega (arith, same, few .results))
 
-      pub bad-kinds : (p l r : ℕ) (ks : List Kind) (t : List ℕ) → s ≡ preamble v ++ p ∷ l ∷ r ∷ map kindByte ks ++ t → Few p l r → NoKind t → length ks < p + l + r
+      pub bad-kinds : (p l r : ℕ) (ks : List Kind) (t : List ℕ) → s ≡ preamble v ++ p ∷ l ∷ r ∷ map kindByte ks ++ t → Few p l r → NoKind t
+          → length ks < p + l + r
           → Stop HeadAsked 7
-      bad-kinds p l r ks t here few n g = record { kept = counts-kept p l r (map kindByte ks ++ t) here few; broken = λ q. let enough = q v p l r ks t here n in omega arith }
+      bad-kinds p l r ks t here few n g =
+          record { kept = counts-kept p l r (map kindByte ks ++ t) here few; broken = λ q. let enough = q v p l r ks t here n in omega arith }
 
 -- as many kinds stand there as are declared
 covers : (xs ks : List Kind) (b t : List ℕ) → NoKind t → map kindByte xs ++ b ≡ map kindByte ks ++ t → length xs ≤ length ks

@@ -50,7 +50,9 @@ close-returns : (t : ℕ) → close-lts.Need-returns (
   close-below t,
   close′.Post,
 ) (close-at t) close′.Post close-Inv-loop close-μ-loop
-close-returns t c = sym (c .before .loop .inv ∙ past-last (c .before .before .before .args .s .now) (c .before .before .before .args .room) (c .before .loop .at) (c .if1 .taken))
+close-returns t c =
+    sym
+    (c .before .loop .inv ∙ past-last (c .before .before .before .args .s .now) (c .before .before .before .args .room) (c .before .loop .at) (c .if1 .taken))
 
 close-pass-requires : (t : ℕ) → close-lts.Need-pass-requires (
   pass-reads.Asked,
@@ -70,7 +72,14 @@ close-returns-2 : (t : ℕ) → close-lts.Need-returns-2 (
   close-below t,
   close′.Post,
 ) (close-at t) close′.Post close-Inv-loop close-μ-loop
-close-returns-2 t c = sym (c .before .before .before .before .loop .inv ∙ at-end (c .before .before .before .before .before .before .args .s .now) (λ j. c .before .before .before .before .before .shared-slice-known .given j .fits) (c .before .before .before .before .before .before .args .room) (c .before .before .before .before .loop .at) (c .before .before .before .if1 .left) (c .before .before .pass .ensures .0) (c .before .before .pass .ensures .1) (c .if2 .taken))
+close-returns-2 t c =
+    let at-if1 = c .before .before .before in
+    let at-loop = at-if1 .before in
+    let at-shared-slice-known = at-loop .before in
+    let entry = at-shared-slice-known .before in
+    sym (at-loop .loop .inv
+    ∙ at-end (entry .args .s .now) (λ j. at-shared-slice-known .shared-slice-known .given j .fits) (entry .args .room) (at-loop .loop .at)
+    (at-if1 .if1 .left) (c .before .before .pass .ensures .0) (c .before .before .pass .ensures .1) (c .if2 .taken))
 
 close-opens-requires : (t : ℕ) → close-lts.Need-opens-requires (
   pass-reads.Asked,
@@ -90,7 +99,17 @@ close-returns-3 : (t : ℕ) → close-lts.Need-returns-3 (
   close-below t,
   close′.Post,
 ) (close-at t) close′.Post close-Inv-loop close-μ-loop
-close-returns-3 t c = sym (c .before .before .before .before .before .before .before .loop .inv ∙ no-room (c .before .before .before .before .before .before .before .before .before .args .s .now) (λ j. c .before .before .before .before .before .before .before .before .shared-slice-known .given j .fits) (c .before .before .before .before .before .before .before .before .before .args .room) (c .before .before .before .before .before .before .before .loop .at) (c .before .before .before .before .before .before .if1 .left) (c .before .before .before .before .before .pass .ensures .0) (c .before .before .before .before .before .pass .ensures .1) (c .before .before .before .if2 .left) (sym (c .before .before .opens .ensures) ∙ c .before .if3 .taken) (c .if4 .taken))
+close-returns-3 t c =
+    let at-if2 = c .before .before .before in
+    let at-pass = at-if2 .before .before in
+    let at-if1 = at-pass .before in
+    let at-loop = at-if1 .before in
+    let at-shared-slice-known = at-loop .before in
+    let entry = at-shared-slice-known .before in
+    sym (at-loop .loop .inv
+    ∙ no-room (entry .args .s .now) (λ j. at-shared-slice-known .shared-slice-known .given j .fits) (entry .args .room) (at-loop .loop .at)
+    (at-if1 .if1 .left) (at-pass .pass .ensures .0) (at-pass .pass .ensures .1) (at-if2 .if2 .left)
+    (sym (c .before .before .opens .ensures) ∙ c .before .if3 .taken) (c .if4 .taken))
 
 close-sub-close : (t : ℕ) → close-lts.Need-sub-close (
   pass-reads.Asked,
@@ -110,7 +129,9 @@ close-close-requires : (t : ℕ) → close-lts.Need-close-requires (
   close-below t,
   close′.Post,
 ) (close-at t) close′.Post close-Inv-loop close-μ-loop
-close-close-requires t c κs = (omega (arith, pos-of-ne-zero (c .if4 .left), c .before .before .before .before .before .before .before .before .before .pre .0), tt)
+close-close-requires t c κs =
+    let entry = c .before .before .before .before .before .before .before .before .before in
+    (omega (arith, pos-of-ne-zero (c .if4 .left), entry .pre .0), tt)
 
 close-returns-4 : (t : ℕ) → close-lts.Need-returns-4 (
   pass-reads.Asked,
@@ -120,7 +141,20 @@ close-returns-4 : (t : ℕ) → close-lts.Need-returns-4 (
   close-below t,
   close′.Post,
 ) (close-at t) close′.Post close-Inv-loop close-μ-loop
-close-returns-4 t c = sym (c .before .before .before .before .before .before .before .before .before .before .loop .inv ∙ not-closed (c .before .before .before .before .before .before .before .before .before .before .before .before .args .s .now) (λ j. c .before .before .before .before .before .before .before .before .before .before .before .shared-slice-known .given j .fits) (c .before .before .before .before .before .before .before .before .before .before .before .before .args .room) (c .before .before .before .before .before .before .before .before .before .before .loop .at) (c .before .before .before .before .before .before .before .before .before .if1 .left) (c .before .before .before .before .before .before .before .before .pass .ensures .0) (c .before .before .before .before .before .before .before .before .pass .ensures .1) (c .before .before .before .before .before .before .if2 .left) (sym (c .before .before .before .before .before .opens .ensures) ∙ c .before .before .before .before .if3 .taken) (c .before .before .before .if4 .left) (c .before .before .close .ensures) (c .if5 .taken))
+close-returns-4 t c =
+    let at-if4 = c .before .before .before in
+    let at-if3 = at-if4 .before in
+    let at-opens = at-if3 .before in
+    let at-if2 = at-opens .before in
+    let at-pass = at-if2 .before .before in
+    let at-if1 = at-pass .before in
+    let at-loop = at-if1 .before in
+    let at-shared-slice-known = at-loop .before in
+    let entry = at-shared-slice-known .before in
+    sym (at-loop .loop .inv
+    ∙ not-closed (entry .args .s .now) (λ j. at-shared-slice-known .shared-slice-known .given j .fits) (entry .args .room) (at-loop .loop .at)
+    (at-if1 .if1 .left) (at-pass .pass .ensures .0) (at-pass .pass .ensures .1) (at-if2 .if2 .left) (sym (at-opens .opens .ensures) ∙ at-if3 .if3 .taken)
+    (at-if4 .if4 .left) (c .before .before .close .ensures) (c .if5 .taken))
 
 close-loop-less : (t : ℕ) → close-lts.Need-loop-less (
   pass-reads.Asked,
@@ -130,7 +164,19 @@ close-loop-less : (t : ℕ) → close-lts.Need-loop-less (
   close-below t,
   close′.Post,
 ) (close-at t) close′.Post close-Inv-loop close-μ-loop
-close-loop-less t c = omega (arith, c .before .before .before .before .before .before .before .before .before .if1 .left, goes-on (c .before .before .before .before .before .before .before .before .before .before .before .before .args .s .now) (λ j. c .before .before .before .before .before .before .before .before .before .before .before .shared-slice-known .given j .fits) (c .before .before .before .before .before .before .before .before .before .before .before .before .args .room) (c .before .before .before .before .before .before .before .before .before .before .loop .at) (c .before .before .before .before .before .before .before .before .before .if1 .left) (c .before .before .before .before .before .before .before .before .pass .ensures .0) (c .before .before .before .before .before .before .before .before .pass .ensures .1), c .if5 .left)
+close-loop-less t c =
+    let at-pass = c .before .before .before .before .before .before .before .before in
+    let at-if1 = at-pass .before in
+    let at-loop = at-if1 .before in
+    let at-shared-slice-known = at-loop .before in
+    let entry = at-shared-slice-known .before in
+    omega (
+      arith,
+      at-if1 .if1 .left,
+      goes-on (entry .args .s .now) (λ j. at-shared-slice-known .shared-slice-known .given j .fits) (entry .args .room) (at-loop .loop .at)
+          (at-if1 .if1 .left) (at-pass .pass .ensures .0) (at-pass .pass .ensures .1),
+      c .if5 .left,
+    )
 
 close-loop-again : (t : ℕ) → close-lts.Need-loop-again (
   pass-reads.Asked,
@@ -140,7 +186,20 @@ close-loop-again : (t : ℕ) → close-lts.Need-loop-again (
   close-below t,
   close′.Post,
 ) (close-at t) close′.Post close-Inv-loop close-μ-loop
-close-loop-again t c = c .before .before .before .before .before .before .before .before .before .before .loop .inv ∙ past-block (c .before .before .before .before .before .before .before .before .before .before .before .before .args .s .now) (λ j. c .before .before .before .before .before .before .before .before .before .before .before .shared-slice-known .given j .fits) (c .before .before .before .before .before .before .before .before .before .before .before .before .args .room) (c .before .before .before .before .before .before .before .before .before .before .loop .at) (c .before .before .before .before .before .before .before .before .before .if1 .left) (c .before .before .before .before .before .before .before .before .pass .ensures .0) (c .before .before .before .before .before .before .before .before .pass .ensures .1) (c .before .before .before .before .before .before .if2 .left) (sym (c .before .before .before .before .before .opens .ensures) ∙ c .before .before .before .before .if3 .taken) (c .before .before .before .if4 .left) (c .before .before .close .ensures) (c .if5 .left)
+close-loop-again t c =
+    let at-if4 = c .before .before .before in
+    let at-if3 = at-if4 .before in
+    let at-opens = at-if3 .before in
+    let at-if2 = at-opens .before in
+    let at-pass = at-if2 .before .before in
+    let at-if1 = at-pass .before in
+    let at-loop = at-if1 .before in
+    let at-shared-slice-known = at-loop .before in
+    let entry = at-shared-slice-known .before in
+    at-loop .loop .inv
+    ∙ past-block (entry .args .s .now) (λ j. at-shared-slice-known .shared-slice-known .given j .fits) (entry .args .room) (at-loop .loop .at)
+    (at-if1 .if1 .left) (at-pass .pass .ensures .0) (at-pass .pass .ensures .1) (at-if2 .if2 .left) (sym (at-opens .opens .ensures) ∙ at-if3 .if3 .taken)
+    (at-if4 .if4 .left) (c .before .before .close .ensures) (c .if5 .left)
 
 close-loop-less-2 : (t : ℕ) → close-lts.Need-loop-less-2 (
   pass-reads.Asked,
@@ -150,7 +209,18 @@ close-loop-less-2 : (t : ℕ) → close-lts.Need-loop-less-2 (
   close-below t,
   close′.Post,
 ) (close-at t) close′.Post close-Inv-loop close-μ-loop
-close-loop-less-2 t c = omega (arith, c .before .before .before .before .before .if1 .left, goes-on (c .before .before .before .before .before .before .before .before .args .s .now) (λ j. c .before .before .before .before .before .before .before .shared-slice-known .given j .fits) (c .before .before .before .before .before .before .before .before .args .room) (c .before .before .before .before .before .before .loop .at) (c .before .before .before .before .before .if1 .left) (c .before .before .before .before .pass .ensures .0) (c .before .before .before .before .pass .ensures .1))
+close-loop-less-2 t c =
+    let at-pass = c .before .before .before .before in
+    let at-if1 = at-pass .before in
+    let at-loop = at-if1 .before in
+    let at-shared-slice-known = at-loop .before in
+    let entry = at-shared-slice-known .before in
+    omega (
+      arith,
+      at-if1 .if1 .left,
+      goes-on (entry .args .s .now) (λ j. at-shared-slice-known .shared-slice-known .given j .fits) (entry .args .room) (at-loop .loop .at)
+          (at-if1 .if1 .left) (at-pass .pass .ensures .0) (at-pass .pass .ensures .1),
+    )
 
 close-loop-again-2 : (t : ℕ) → close-lts.Need-loop-again-2 (
   pass-reads.Asked,
@@ -160,7 +230,16 @@ close-loop-again-2 : (t : ℕ) → close-lts.Need-loop-again-2 (
   close-below t,
   close′.Post,
 ) (close-at t) close′.Post close-Inv-loop close-μ-loop
-close-loop-again-2 t c = c .before .before .before .before .before .before .loop .inv ∙ at-other (c .before .before .before .before .before .before .before .before .args .s .now) (λ j. c .before .before .before .before .before .before .before .shared-slice-known .given j .fits) (c .before .before .before .before .before .before .before .before .args .room) (c .before .before .before .before .before .before .loop .at) (c .before .before .before .before .before .if1 .left) (c .before .before .before .before .pass .ensures .0) (c .before .before .before .before .pass .ensures .1) (c .before .before .if2 .left) (sym (c .before .opens .ensures) ∙ c .if3 .left)
+close-loop-again-2 t c =
+    let at-pass = c .before .before .before .before in
+    let at-if1 = at-pass .before in
+    let at-loop = at-if1 .before in
+    let at-shared-slice-known = at-loop .before in
+    let entry = at-shared-slice-known .before in
+    at-loop .loop .inv
+    ∙ at-other (entry .args .s .now) (λ j. at-shared-slice-known .shared-slice-known .given j .fits) (entry .args .room) (at-loop .loop .at)
+    (at-if1 .if1 .left) (at-pass .pass .ensures .0) (at-pass .pass .ensures .1) (c .before .before .if2 .left)
+    (sym (c .before .opens .ensures) ∙ c .if3 .left)
 
 pub +close-spec : {M : Type 1} → statement M
 +close-spec = close μ-close λ t. close-lts.spec (

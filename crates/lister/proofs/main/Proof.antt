@@ -19,7 +19,9 @@ array-share-prefix-strip : tie.Need-array-share-prefix-strip
 array-share-prefix-strip c = inside-bytes (c .before .got .given .1) (c .before .before .before .before .read-all .ensures)
 
 slice-aggregate-print : tie.Need-slice-aggregate-print
-slice-aggregate-print c = sym (length-take-le _ _ (inside-bytes (c .before .before .got .given .1) (c .before .before .before .before .before .read-all .ensures)))
+slice-aggregate-print c =
+    let at-read-all = c .before .before .before .before .before in
+    sym (length-take-le _ _ (inside-bytes (c .before .before .got .given .1) (at-read-all .read-all .ensures)))
 
 print-requires : tie.Need-print-requires
 print-requires c κs = search needs

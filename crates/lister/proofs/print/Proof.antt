@@ -20,7 +20,8 @@ array-share-prefix-out : tie.Need-array-share-prefix-out
 array-share-prefix-out c = omega (arith, c .before .before .refusal .ensures .0, c .before .before .refusal .kept .1 .0)
 
 slice-aggregate-wrote : tie.Need-slice-aggregate-wrote
-slice-aggregate-wrote c = sym (length-take-le _ _ (omega (arith, c .before .before .before .refusal .ensures .0, c .before .before .before .refusal .kept .1 .0)))
+slice-aggregate-wrote c =
+    sym (length-take-le _ _ (omega (arith, c .before .before .before .refusal .ensures .0, c .before .before .before .refusal .kept .1 .0)))
 
 wrote-requires : tie.Need-wrote-requires
 wrote-requires c κs = search needs

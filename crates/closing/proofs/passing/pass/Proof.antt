@@ -21,7 +21,8 @@ past-immediates-requires c κs = c .before .before .opcode-at .ensures .inside
 
 returns : tie.Need-returns
 returns c = let r = rowOf (c .before .before .before .opcode-at .result .id) in (
-  c .before .group .ensures ∙ group-in r (c .before .before .entry .ensures) ∙ sym (ap (λ (x : Passed). groupOf (x .row)) (c .before .before .before .opcode-at .ensures .says)),
+  c .before .group .ensures ∙ group-in r (c .before .before .entry .ensures)
+      ∙ sym (ap (λ (x : Passed). groupOf (x .row)) (c .before .before .before .opcode-at .ensures .says)),
   c .past-immediates .ensures r (c .before .before .entry .ensures) ∙ sym (ap (λ (x : Passed). x .next) (c .before .before .before .opcode-at .ensures .says)),
 )
 

@@ -60,42 +60,71 @@ returns c = λ row is. sym (past-class row _ _ nothing (sym (c .before .immediat
 
 returns-2 : tie.Need-returns-2
 unfolding immediateFields
-returns-2 c = λ row is. c .past-number .ensures .0 ∙ sym (past-class row _ _ index (sym (c .before .before .immediates .ensures ∙ class-in row is) ∙ c .before .match .keys2))
+returns-2 c =
+    λ row is.
+    c .past-number .ensures .0 ∙ sym (past-class row _ _ index (sym (c .before .before .immediates .ensures ∙ class-in row is) ∙ c .before .match .keys2))
 
 returns-3 : tie.Need-returns-3
 unfolding immediateFields
-returns-3 c = λ row is. c .past-number2 .ensures .0 ∙ sym (past-class row _ _ word (sym (c .before .before .immediates .ensures ∙ class-in row is) ∙ c .before .match .keys3))
+returns-3 c =
+    λ row is.
+    c .past-number2 .ensures .0 ∙ sym (past-class row _ _ word (sym (c .before .before .immediates .ensures ∙ class-in row is) ∙ c .before .match .keys3))
 
 returns-4 : tie.Need-returns-4
 unfolding immediateFields
-returns-4 c = λ row is. c .past-number3 .ensures .0 ∙ sym (past-class row _ _ long (sym (c .before .before .immediates .ensures ∙ class-in row is) ∙ c .before .match .keys4))
+returns-4 c =
+    λ row is.
+    c .past-number3 .ensures .0 ∙ sym (past-class row _ _ long (sym (c .before .before .immediates .ensures ∙ class-in row is) ∙ c .before .match .keys4))
 
 returns-5 : tie.Need-returns-5
 unfolding immediateFields
-returns-5 c = λ row is. c .past-number5 .ensures .0 ∙ ap (pastNumber (c .before .before .before .before .before .args .s .now)) (c .before .past-number4 .ensures .0) ∙ sym (past-class row _ _ memory (sym (c .before .before .before .immediates .ensures ∙ class-in row is) ∙ c .before .before .match .keys5))
+returns-5 c =
+    let at-immediates = c .before .before .before in
+    let start = at-immediates .before .before in
+    λ row is. c .past-number5 .ensures .0 ∙ ap (pastNumber (start .args .s .now)) (c .before .past-number4 .ensures .0)
+    ∙ sym (past-class row _ _ memory (sym (at-immediates .immediates .ensures ∙ class-in row is) ∙ c .before .before .match .keys5))
 
 returns-6 : tie.Need-returns-6
 unfolding immediateFields
-returns-6 c = λ row is. c .past-bytes .ensures .0 ∙ ap (λ (q : ℕ). pastBytes (c .before .before .before .before .before .before .args .s .now) q 1) (c .before .past-number7 .ensures .0 ∙ ap (pastNumber (c .before .before .before .before .before .before .args .s .now)) (c .before .before .past-number6 .ensures .0)) ∙ sym (past-class row _ _ memoryLane (sym (c .before .before .before .before .immediates .ensures ∙ class-in row is) ∙ c .before .before .before .match .keys6))
+returns-6 c =
+    let at-match = c .before .before .before in
+    let at-immediates = at-match .before in
+    let start = at-immediates .before .before in
+    λ row is. c .past-bytes .ensures .0
+    ∙ ap (λ (q : ℕ). pastBytes (start .args .s .now) q 1)
+    (c .before .past-number7 .ensures .0 ∙ ap (pastNumber (start .args .s .now)) (c .before .before .past-number6 .ensures .0))
+    ∙ sym (past-class row _ _ memoryLane (sym (at-immediates .immediates .ensures ∙ class-in row is) ∙ at-match .match .keys6))
 
 returns-7 : tie.Need-returns-7
 unfolding immediateFields
-returns-7 c = λ row is. c .past-bytes2 .ensures .0 ∙ sym (past-class row _ _ laneIndex (sym (c .before .before .immediates .ensures ∙ class-in row is) ∙ c .before .match .keys7))
+returns-7 c =
+    λ row is.
+    c .past-bytes2 .ensures .0 ∙ sym (past-class row _ _ laneIndex (sym (c .before .before .immediates .ensures ∙ class-in row is) ∙ c .before .match .keys7))
 
 returns-8 : tie.Need-returns-8
 unfolding immediateFields
-returns-8 c = λ row is. c .past-bytes3 .ensures .0 ∙ sym (past-class row _ _ sixteenBytes (sym (c .before .before .immediates .ensures ∙ class-in row is) ∙ c .before .match .keys8))
+returns-8 c =
+    λ row is. c .past-bytes3 .ensures .0
+    ∙ sym (past-class row _ _ sixteenBytes (sym (c .before .before .immediates .ensures ∙ class-in row is) ∙ c .before .match .keys8))
 
 returns-9 : tie.Need-returns-9
 unfolding immediateFields
-returns-9 c = λ row is. c .past-bytes4 .ensures .0 ∙ sym (past-class row _ _ sixteenLanes (sym (c .before .before .immediates .ensures ∙ class-in row is) ∙ c .before .match .keys9))
+returns-9 c =
+    λ row is. c .past-bytes4 .ensures .0
+    ∙ sym (past-class row _ _ sixteenLanes (sym (c .before .before .immediates .ensures ∙ class-in row is) ∙ c .before .match .keys9))
 
 returns-10 : tie.Need-returns-10
 unfolding immediateFields
-returns-10 c = λ row is. c .past-bytes5 .ensures .0 ∙ sym (past-class row _ _ blockType (sym (c .before .before .immediates .ensures ∙ class-in row is) ∙ c .before .match .keys10))
+returns-10 c =
+    λ row is.
+    c .past-bytes5 .ensures .0 ∙ sym (past-class row _ _ blockType (sym (c .before .before .immediates .ensures ∙ class-in row is) ∙ c .before .match .keys10))
 
 returns-11 : tie.Need-returns-11
-returns-11 c = λ row is. sym (past-other row _ _ (subst (λ (k : ℕ). 10 ≤ k) (c .before .immediates .ensures ∙ class-in row is) (next (next (next (next (next (next (next (next (next (next (omega arith) (c .match .rest .0 .0 .0 .0 .0 .0 .0 .0 .0 .1)) (c .match .rest .0 .0 .0 .0 .0 .0 .0 .0 .1)) (c .match .rest .0 .0 .0 .0 .0 .0 .0 .1)) (c .match .rest .0 .0 .0 .0 .0 .0 .1)) (c .match .rest .0 .0 .0 .0 .0 .1)) (c .match .rest .0 .0 .0 .0 .1)) (c .match .rest .0 .0 .0 .1)) (c .match .rest .0 .0 .1)) (c .match .rest .0 .1)) (c .match .rest .1))))
+returns-11 c =
+    λ row is. sym (past-other row _ _ (subst (λ (k : ℕ). 10 ≤ k) (c .before .immediates .ensures ∙ class-in row is) (next (next (next (next
+    (next (next (next (next (next (next (omega arith) (c .match .rest .0 .0 .0 .0 .0 .0 .0 .0 .0 .1)) (c .match .rest .0 .0 .0 .0 .0 .0 .0 .0 .1))
+    (c .match .rest .0 .0 .0 .0 .0 .0 .0 .1)) (c .match .rest .0 .0 .0 .0 .0 .0 .1)) (c .match .rest .0 .0 .0 .0 .0 .1))
+    (c .match .rest .0 .0 .0 .0 .1)) (c .match .rest .0 .0 .0 .1)) (c .match .rest .0 .0 .1)) (c .match .rest .0 .1)) (c .match .rest .1))))
 
 pub past-immediates-spec : {M : Type 1} → statement M
 past-immediates-spec =

@@ -34,13 +34,23 @@ slice-aggregate-next-line-3 : tie.Need-slice-aggregate-next-line-3 Inv-loop μ-l
 slice-aggregate-next-line-3 c = let f = c .before .before .before .before .loop .inv in search needs
 
 next-line-requires : tie.Need-next-line-requires Inv-loop μ-loop
-next-line-requires c κs = let p = c .before .before .before .before .loop .inv in (follow-walks p (c .before .before .before .loop-test .taken), omega (arith, p .room))
+next-line-requires c κs =
+    let p = c .before .before .before .before .loop .inv in (follow-walks p (c .before .before .before .loop-test .taken), omega (arith, p .room))
 
 array-share-prefix-text : tie.Need-array-share-prefix-text Inv-loop μ-loop
-array-share-prefix-text c = let w = c .before .before .before .next-line in line-fits (c .before .before .before .before .before .before .before .before .loop .inv) (c .before .before .before .before .before .before .before .loop-test .taken) (w .ensures) (w .kept .1 .1 .1 .1 .1 .0)
+array-share-prefix-text c =
+    let at-next-line = c .before .before .before in
+    let at-loop-test = at-next-line .before .before .before .before in
+    let at-loop = at-loop-test .before in
+    let w = at-next-line .next-line in line-fits (at-loop .loop .inv) (at-loop-test .loop-test .taken) (w .ensures) (w .kept .1 .1 .1 .1 .1 .0)
 
 slice-aggregate-wrote : tie.Need-slice-aggregate-wrote Inv-loop μ-loop
-slice-aggregate-wrote c = let w = c .before .before .before .before .next-line in sym (length-take-le _ _ (line-fits (c .before .before .before .before .before .before .before .before .before .loop .inv) (c .before .before .before .before .before .before .before .before .loop-test .taken) (w .ensures) (w .kept .1 .1 .1 .1 .1 .0)))
+slice-aggregate-wrote c =
+    let at-next-line = c .before .before .before .before in
+    let at-loop-test = at-next-line .before .before .before .before in
+    let at-loop = at-loop-test .before in
+    let w = at-next-line .next-line in
+    sym (length-take-le _ _ (line-fits (at-loop .loop .inv) (at-loop-test .loop-test .taken) (w .ensures) (w .kept .1 .1 .1 .1 .1 .0)))
 
 wrote-requires : tie.Need-wrote-requires Inv-loop μ-loop
 wrote-requires c κs = search needs
@@ -49,10 +59,20 @@ returns : tie.Need-returns Inv-loop μ-loop
 returns c = search needs
 
 loop-less : tie.Need-loop-less Inv-loop μ-loop
-loop-less c = let w = c .before .before .before .before .before .before .before .next-line in omega (arith, onward (c .before .before .before .before .before .before .before .before .before .before .before .before .loop .inv) (c .before .before .before .before .before .before .before .before .before .before .before .loop-test .taken) (w .ensures) (w .kept .1 .1 .1 .1 .1 .0), c .before .before .before .before .before .before .before .before .before .before .before .loop-test .taken)
+loop-less c =
+    let at-next-line = c .before .before .before .before .before .before .before in
+    let at-loop-test = at-next-line .before .before .before .before in
+    let at-loop = at-loop-test .before in
+    let w = at-next-line .next-line in
+    omega (arith, onward (at-loop .loop .inv) (at-loop-test .loop-test .taken) (w .ensures) (w .kept .1 .1 .1 .1 .1 .0), at-loop-test .loop-test .taken)
 
 loop-again : tie.Need-loop-again Inv-loop μ-loop
-loop-again c = let w = c .before .before .before .before .before .before .before .next-line in follow-on (c .before .before .before .before .before .before .before .before .before .before .before .before .loop .inv) (c .before .before .before .before .before .before .before .before .before .before .before .loop-test .taken) (w .ensures) (w .kept .1 .1 .1 .1 .1 .0) (w .kept .1 .1 .0) (w .kept .1 .1 .1 .0)
+loop-again c =
+    let at-next-line = c .before .before .before .before .before .before .before in
+    let at-loop-test = at-next-line .before .before .before .before in
+    let at-loop = at-loop-test .before in
+    let w = at-next-line .next-line in
+    follow-on (at-loop .loop .inv) (at-loop-test .loop-test .taken) (w .ensures) (w .kept .1 .1 .1 .1 .1 .0) (w .kept .1 .1 .0) (w .kept .1 .1 .1 .0)
 
 returns-2 : tie.Need-returns-2 Inv-loop μ-loop
 returns-2 c = search needs

@@ -21,7 +21,15 @@ same-length : tie.Need-same-length
 same-length c = search needs
 
 returns : tie.Need-returns
-returns c = let t = line-told (omega (arith, c .before .before .before .before .before .before .before .before .before .before .before .before .before .before .before .before .before .fits .code .fits)) (c .before .before .before .before .before .before .before .before .before .before .before .before .before .before .before .before .before .fits .place .fits) (c .before .before .before .before .before .before .before .before .before .before .before .before .before .before .before .before .before .pre) (c .before .before .before .before .before .before .before .before .before .before .before .before .before .before .decimal .ensures) (c .before .before .before .before .before .before .before .before .before .before .push .ensures) (c .before .before .before .before .before .before .decimal2 .ensures) (c .before .before .push2 .ensures) in ((t .0, t .1), t .2)
+returns c =
+    let at-decimal2 = c .before .before .before .before .before .before in
+    let at-push = at-decimal2 .before .before .before .before in
+    let at-decimal = at-push .before .before .before .before in
+    let start = at-decimal .before .before .before in
+    let t =
+    line-told (omega (arith, start .fits .code .fits)) (start .fits .place .fits) (start .pre) (at-decimal .decimal .ensures) (at-push .push .ensures)
+    (at-decimal2 .decimal2 .ensures) (c .before .before .push2 .ensures) in
+    ((t .0, t .1), t .2)
 
 pub line-spec : {M : Type 1} → statement M
 line-spec =

@@ -20,7 +20,14 @@ same-length : tie.Need-same-length
 same-length c = search needs
 
 returns-2 : tie.Need-returns-2
-returns-2 c = (c .before .before .line .ensures .0 .0, is-broken (says-breach (c .before .before .before .before .before .before .check .ensures .says) (c .before .before .before .before .if1 .left)) (c .before .before .line .ensures .0 .1) (c .before .before .before .before .before .before .before .before .before .pre) (c .before .before .line .ensures .1))
+returns-2 c =
+    let at-if1 = c .before .before .before .before in
+    let at-check = at-if1 .before .before in
+    let start = at-check .before .before .before in (
+      c .before .before .line .ensures .0 .0,
+      is-broken (says-breach (at-check .check .ensures .says) (at-if1 .if1 .left)) (c .before .before .line .ensures .0 .1) (start .pre)
+          (c .before .before .line .ensures .1),
+    )
 
 pub refusal-spec : {M : Type 1} → statement M
 refusal-spec = tie.close (tie.spec check-requires returns line-requires same-length returns-2)

@@ -17,4 +17,7 @@ abbrev μ-loop : tie.MeasureT-loop
 pub bytes-at-spec : {M : Type 1} → statement M
 bytes-at-spec =
     tie.close
-    (tie.spec Inv-loop μ-loop (λ c. search needs) (λ c. search needs) (λ c. search needs) (λ c. counts _ _ (omega arith)) (λ c. search needs) (λ c κs. search needs) (λ c. search needs) (λ c. counts _ _ (omega arith)) (λ c. search needs) (λ c κs. search needs) (λ c. search needs) (λ c. search needs) (λ c. search needs) (λ c κs. search needs) (λ c. search needs) (λ c. search needs) (λ c. search needs) (λ c. search needs) (λ c. search needs) (λ c. (simp length-set (omega arith), simp length-set (omega arith))) (λ c. search needs) (λ c. counts _ _ (omega arith)))
+    (tie.spec Inv-loop μ-loop (λ c. search needs) (λ c. search needs) (λ c. search needs) (λ c. counts _ _ (omega arith)) (λ c. search needs)
+    (λ c κs. search needs) (λ c. search needs) (λ c. counts _ _ (omega arith)) (λ c. search needs) (λ c κs. search needs) (λ c. search needs)
+    (λ c. search needs) (λ c. search needs) (λ c κs. search needs) (λ c. search needs) (λ c. search needs) (λ c. search needs) (λ c. search needs)
+    (λ c. search needs) (λ c. (simp length-set (omega arith), simp length-set (omega arith))) (λ c. search needs) (λ c. counts _ _ (omega arith)))
