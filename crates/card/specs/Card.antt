@@ -1,4 +1,5 @@
--- The codes of the inspector's card (01, "Numbers on the inspector's card"; 02, C-13), each under its name. No other statement writes a code as a numeral.
+-- The codes of the inspector's card (01, "Numbers on the inspector's card"; 02, C-13), each under its name. No other statement writes a code as a
+-- numeral.
 use Prim.Native.Nat.{ℕ}
 
 -- the strip's `end` completed, or a branch out of the strip

@@ -13,7 +13,7 @@ use Rattle.opcode.specs.BlockType.{isBlockType, blockResults}
 use Rattle.opcode.specs.Table.{control}
 use Rattle.instr.specs.declared.Instr.{Instr}
 use Rattle.rules.specs.Typing.{Frame, opened, allValues, Types, opens-block, opens-loop, Opens, block-opens, loop-opens}
-use Rattle.checker.specs.Walk.{KindBytes, word, Nested, block, Framed}
+use Rattle.checker.specs.Walk.{KindBytes, word, OpenBlocks, block, Framed}
 use Rattle.checker.specs.Inner.Judging.{opener, Judges, too-nested, typed}
 use Rattle.checker.proofs.Nests.{nested-many, nested-keeps, frames-case}
 
@@ -37,13 +37,13 @@ module _ {rs : List Kind} {kinds blocks : List ℕ} {depth nest floor : ℕ} {de
         let same : allValues (f ∷ fs) ++ [] ≡ allValues (f ∷ fs) = append-nil (allValues (f ∷ fs)) in
         let more : suc nest ≡ nest + 1 = omega arith in
         let here : getD (set blocks nest b) nest 0 ≡ word floor type loop dead = getD-set-same blocks nest b 0 (omega (arith, less, long)) ∙ is in
-        let now : Nested rs (set blocks nest b) (suc nest) (length (allValues (f ∷ fs))) false (opened loop (blockResults type) ∷ f ∷ fs) =
+        let now : OpenBlocks rs (set blocks nest b) (suc nest) (length (allValues (f ∷ fs))) false (opened loop (blockResults type) ∷ f ∷ fs) =
         block type (nested-keeps nest b (omega arith) (w .nested)) here is-type refl in
         record {
           holds = subst (KindBytes kinds depth) (sym same) (w .holds);
           nested =
-              subst (λ (k : ℕ). Nested rs (set blocks nest b) (nest + 1) k false (opened loop (blockResults type) ∷ f ∷ fs)) (w .holds .many)
-              (subst (λ (k : ℕ). Nested rs (set blocks nest b) k (length (allValues (f ∷ fs))) false (opened loop (blockResults type) ∷ f ∷ fs)) more now);
+              subst (λ (k : ℕ). OpenBlocks rs (set blocks nest b) (nest + 1) k false (opened loop (blockResults type) ∷ f ∷ fs)) (w .holds .many)
+              (subst (λ (k : ℕ). OpenBlocks rs (set blocks nest b) k (length (allValues (f ∷ fs))) false (opened loop (blockResults type) ∷ f ∷ fs)) more now);
           within = record { blocks = omega (arith, less, nested-many (w .nested)); values = omega (arith, ap length same, w .within .values) };
         }
 

@@ -14,7 +14,7 @@ use Rattle.instr.specs.declared.Instr.{Instr}
 use Rattle.rules.specs.Typing.{Frame, holding, deadened, allValues, branchKinds, Target, Has, all-known, Types, ordinary, branches, may-branch, Branches, br-branches, if-branches}
 use Rattle.rules.proofs.Typings.{control-untyped, label-once}
 use Rattle.rules.proofs.Sorts.{names-control, branches-plain}
-use Rattle.checker.specs.Walk.{KindBytes, Nested, Framed}
+use Rattle.checker.specs.Walk.{KindBytes, OpenBlocks, Framed}
 use Rattle.checker.specs.Inner.Stack.{Top, Under, Applies, lacks, over, fits}
 use Rattle.checker.specs.Inner.Blocks.{topFirst, Labelled}
 use Rattle.checker.specs.Inner.Judging.{brancher, Judges, no-label, untyped, too-deep, typed}
@@ -90,7 +90,7 @@ module _ {ls rs : List Kind} {i : Instr} {kinds after blocks : List ℕ} {depth 
         typed (may-branch (g .label) h)
         (record {
           holds = held;
-          nested = subst (λ (x : Bool). Nested rs blocks nest floor x (holding f (below ++ branchKinds (g .target)) ∷ fs)) (framed-top w .dead-is)
+          nested = subst (λ (x : Bool). OpenBlocks rs blocks nest floor x (holding f (below ++ branchKinds (g .target)) ∷ fs)) (framed-top w .dead-is)
               (nested-as (holding f (below ++ branchKinds (g .target))) refl refl (w .nested));
           within = record { blocks = w .within .blocks; values = small };
         })

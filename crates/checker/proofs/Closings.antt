@@ -14,7 +14,7 @@ use Rattle.opcode.specs.Table.{End, plain}
 use Rattle.instr.specs.declared.Instr.{Instr}
 use Rattle.rules.specs.Typing.{Frame, holding, allValues, Has, all-known, closes, Ends, ends}
 use Rattle.rules.proofs.Typings.{has-once}
-use Rattle.checker.specs.Walk.{KindBytes, Nested, Framed}
+use Rattle.checker.specs.Walk.{KindBytes, OpenBlocks, Framed}
 use Rattle.checker.specs.Inner.Stack.{Top, Under, under, missing, Leaves, too-many, left}
 use Rattle.checker.specs.Inner.Blocks.{topFirst}
 use Rattle.checker.specs.Inner.Judging.{Judges, no-results, too-deep, typed}
@@ -75,11 +75,11 @@ module _ {rs : List Kind} {kinds blocks : List ℕ} {depth nest floor : ℕ} {de
         subst (λ (x : List Frame). Judges ls rs i (plain End) x after blocks′ d n l e RESULT) (sym (k .frames)) (no-results refl (ends-not u z))
 
     module _ {l : ℕ} {e : Bool} (h : Has (k .top) [] (k .top .results)) (floor-told : l ≡ k .outer-floor) (dead-told : e ≡ k .outer-dead) where
-      outside : Nested rs blocks (nest - 1) l e ((holding (k .next) (k .next .values ++ k .top .results)) ∷ k .rest)
+      outside : OpenBlocks rs blocks (nest - 1) l e ((holding (k .next) (k .next .values ++ k .top .results)) ∷ k .rest)
       outside =
           let v = framed-top′ in
-          subst (λ (x : ℕ). Nested rs blocks (nest - 1) x e ((holding (k .next) (k .next .values ++ k .top .results)) ∷ k .rest)) (sym floor-told)
-          (subst (λ (x : Bool). Nested rs blocks (nest - 1) (k .outer-floor) x ((holding (k .next) (k .next .values ++ k .top .results)) ∷ k .rest))
+          subst (λ (x : ℕ). OpenBlocks rs blocks (nest - 1) x e ((holding (k .next) (k .next .values ++ k .top .results)) ∷ k .rest)) (sym floor-told)
+          (subst (λ (x : Bool). OpenBlocks rs blocks (nest - 1) (k .outer-floor) x ((holding (k .next) (k .next .values ++ k .top .results)) ∷ k .rest))
           (v ∙ sym dead-told) (nested-as (holding (k .next) (k .next .values ++ k .top .results)) refl refl (k .around)))
         where
           framed-top′ : k .next .dead ≡ k .outer-dead

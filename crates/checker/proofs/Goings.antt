@@ -34,7 +34,7 @@ use Rattle.rules.specs.Strip.{Reads, Reaches, front, past}
 use Rattle.rules.specs.Breach.{At, Breach, local, nest, label, operand, deep, result}
 use Rattle.rules.proofs.Headers.{decodes-known}
 use Rattle.checker.specs.declared.turns.State.{State}
-use Rattle.checker.specs.Walk.{KindBytes, Nested, strip, block, Framed, outset}
+use Rattle.checker.specs.Walk.{KindBytes, OpenBlocks, strip, block, Framed, outset}
 use Rattle.checker.specs.Inner.Stack.{Top}
 use Rattle.checker.specs.Inner.Blocks.{topFirst}
 use Rattle.checker.specs.Inner.Judging.{Judges, no-local, too-nested, no-label, untyped, no-results, too-deep, typed, Faces, AtTurn}
@@ -95,7 +95,7 @@ record Alone (rs : List Kind) (floor : ℕ) (dead : Bool) (fs : List Frame) : Ty
   floor-is : floor ≡ 0
   dead-is : strip-frame .dead ≡ dead
 
-alone : {rs : List Kind} {blocks : List ℕ} {nest floor : ℕ} {dead : Bool} {fs : List Frame} → Nested rs blocks nest floor dead fs → nest ≡ 0 → Alone rs floor dead fs
+alone : {rs : List Kind} {blocks : List ℕ} {nest floor : ℕ} {dead : Bool} {fs : List Frame} → OpenBlocks rs blocks nest floor dead fs → nest ≡ 0 → Alone rs floor dead fs
 alone (strip {f} l r) z = record { strip-frame = f; frames = refl; results-are = r; floor-is = refl; dead-is = refl }
 alone (block y n e t r) z = absurd (let no-more : ⊥ = omega arith in no-more)
 

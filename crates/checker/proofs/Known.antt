@@ -15,7 +15,7 @@ use Rattle.rules.proofs.Onward.{declared, reached-once}
 use Rattle.instr.specs.Layout.{Stands}
 use Rattle.instr.proofs.Stands.{stands-once}
 use Rattle.checker.specs.declared.turns.State.{State}
-use Rattle.checker.specs.Walk.{word, Nested, strip, block, Framed, Walks, Goes, over, on, Steps}
+use Rattle.checker.specs.Walk.{word, OpenBlocks, strip, block, Framed, Walks, Goes, over, on, Steps}
 use Rattle.checker.proofs.Held.{held-front}
 use Rattle.checker.proofs.Words.{type-once}
 use Rattle.checker.proofs.Nests.{nested-many}
@@ -29,7 +29,7 @@ record Same-words (b b′ : List ℕ) (n n′ l l′ : ℕ) (d d′ : Bool) : Ty
   dead : d ≡ d′
   words : take n b ≡ take n′ b′
 
-nested-once : {rs : List Kind} {b b′ : List ℕ} {n n′ l l′ : ℕ} {d d′ : Bool} {fs : List Frame} → Nested rs b n l d fs → Nested rs b′ n′ l′ d′ fs → n ≤ length b → n′ ≤ length b′
+nested-once : {rs : List Kind} {b b′ : List ℕ} {n n′ l l′ : ℕ} {d d′ : Bool} {fs : List Frame} → OpenBlocks rs b n l d fs → OpenBlocks rs b′ n′ l′ d′ fs → n ≤ length b → n′ ≤ length b′
     → Same-words b b′ n n′ l l′ d d′
 nested-once (strip p r) (strip p′ r′) m m′ = record { nest = refl; floor = refl; dead = refl; words = refl }
 nested-once {b = b} {b′} (block t {nest = n} {dead = d} {f = f} x w is r) (block t′ {nest = n′} {floor = l′} x′ w′ is′ r′) m m′ =

@@ -11,7 +11,7 @@ use Rattle.opcode.specs.Kind.{Kind}
 use Rattle.opcode.specs.BlockType.{isBlockType, blockResults}
 use Rattle.rules.specs.Typing.{Frame, allValues, branchKinds, Target, innermost, outer}
 use Rattle.checker.specs.Inner.Stack.{Top}
-use Rattle.checker.specs.Walk.{word, Nested, strip, block, Framed}
+use Rattle.checker.specs.Walk.{word, OpenBlocks, strip, block, Framed}
 use Rattle.checker.specs.Inner.Blocks.{topFirst, Labelled}
 use Rattle.checker.proofs.Words.{type-few}
 
@@ -26,36 +26,36 @@ pub record Inner (floor : ℕ) (dead : Bool) (fs : List Frame) : Type 0 where
   pub dead-is : top .dead ≡ dead
 
 module _ {rs : List Kind} {blocks : List ℕ} where
-  pub nested-many : {nest floor : ℕ} {dead : Bool} {fs : List Frame} → Nested rs blocks nest floor dead fs → length fs ≡ suc nest
+  pub nested-many : {nest floor : ℕ} {dead : Bool} {fs : List Frame} → OpenBlocks rs blocks nest floor dead fs → length fs ≡ suc nest
   nested-many (strip l r) = refl
   nested-many (block y n e t r) = ap suc (nested-many n)
 
-  pub nested-inner : {nest floor : ℕ} {dead : Bool} {fs : List Frame} → Nested rs blocks nest floor dead fs → Inner floor dead fs
+  pub nested-inner : {nest floor : ℕ} {dead : Bool} {fs : List Frame} → OpenBlocks rs blocks nest floor dead fs → Inner floor dead fs
   nested-inner (strip {f} l r) = record { top = f; rest = []; frames = refl; floor-is = refl; dead-is = refl }
   nested-inner (block y {f = f} {g} {fs} n e t r) = record { top = f; rest = g ∷ fs; frames = refl; floor-is = refl; dead-is = refl }
 
-  pub nested-dead : {nest floor : ℕ} {dead : Bool} {f : Frame} {fs : List Frame} → Nested rs blocks nest floor dead (f ∷ fs) → f .dead ≡ dead
+  pub nested-dead : {nest floor : ℕ} {dead : Bool} {f : Frame} {fs : List Frame} → OpenBlocks rs blocks nest floor dead (f ∷ fs) → f .dead ≡ dead
   nested-dead (strip l r) = refl
   nested-dead (block y n e t r) = refl
 
-  pub nested-floor : {nest floor : ℕ} {dead : Bool} {f : Frame} {fs : List Frame} → Nested rs blocks nest floor dead (f ∷ fs) → length (allValues fs) ≡ floor
+  pub nested-floor : {nest floor : ℕ} {dead : Bool} {f : Frame} {fs : List Frame} → OpenBlocks rs blocks nest floor dead (f ∷ fs) → length (allValues fs) ≡ floor
   nested-floor (strip l r) = refl
   nested-floor (block y n e t r) = refl
 
   -- with other values, or dead
   pub nested-as : {nest floor : ℕ} {dead : Bool} {f : Frame} {fs : List Frame} (f′ : Frame) → f′ .loop ≡ f .loop → f′ .results ≡ f .results
-      → Nested rs blocks nest floor dead (f ∷ fs) → Nested rs blocks nest floor (f′ .dead) (f′ ∷ fs)
+      → OpenBlocks rs blocks nest floor dead (f ∷ fs) → OpenBlocks rs blocks nest floor (f′ .dead) (f′ ∷ fs)
   nested-as f′ el er (strip l r) = strip (el ∙ l) (er ∙ r)
   nested-as {f = f} f′ el er (block type {floor = floor} {dead} n e t r) =
       block type {f = f′} n (e ∙ ap (λ (x : Bool). word floor type x dead) (sym el)) t (er ∙ r)
 
   -- by its frames
-  pub frames-case : (P : List Frame → Type 0) {nest floor : ℕ} {dead : Bool} {fs : List Frame} → Nested rs blocks nest floor dead fs → ((f : Frame) (rest : List Frame) → P (f ∷ rest)) → P fs
+  pub frames-case : (P : List Frame → Type 0) {nest floor : ℕ} {dead : Bool} {fs : List Frame} → OpenBlocks rs blocks nest floor dead fs → ((f : Frame) (rest : List Frame) → P (f ∷ rest)) → P fs
   frames-case P (strip {f} l r) k = k f []
   frames-case P (block y {f = f} {g} {fs} n e t r) k = k f (g ∷ fs)
 
   -- a word more changes none before it
-  pub nested-keeps : {nest floor : ℕ} {dead : Bool} {fs : List Frame} (at w : ℕ) → nest ≤ at → Nested rs blocks nest floor dead fs → Nested rs (set blocks at w) nest floor dead fs
+  pub nested-keeps : {nest floor : ℕ} {dead : Bool} {fs : List Frame} (at w : ℕ) → nest ≤ at → OpenBlocks rs blocks nest floor dead fs → OpenBlocks rs (set blocks at w) nest floor dead fs
   nested-keeps at w l (strip e r) = strip e r
   nested-keeps at w l (block y {nest} n e t r) =
       block y (nested-keeps at w (omega arith) n) (getD-set-other blocks at nest w 0 (λ z. omega (arith, z, l)) ∙ e) t r
@@ -72,12 +72,12 @@ pub record Closing (rs : List Kind) (blocks : List ℕ) (nest floor : ℕ) (dead
   pub outer-floor : ℕ
   pub outer-dead : Bool
   pub type : ℕ
-  pub around : Nested rs blocks (nest - 1) outer-floor outer-dead (next ∷ rest)
+  pub around : OpenBlocks rs blocks (nest - 1) outer-floor outer-dead (next ∷ rest)
   pub word-is : getD blocks (nest - 1) 0 ≡ word outer-floor type (top .loop) outer-dead
   pub is-type : isBlockType type ≡ true
   pub results-are : top .results ≡ blockResults type
 
-pub closing : {rs : List Kind} {blocks : List ℕ} {nest floor : ℕ} {dead : Bool} {fs : List Frame} → Nested rs blocks nest floor dead fs → 0 < nest
+pub closing : {rs : List Kind} {blocks : List ℕ} {nest floor : ℕ} {dead : Bool} {fs : List Frame} → OpenBlocks rs blocks nest floor dead fs → 0 < nest
     → Closing rs blocks nest floor dead fs
 closing (strip l r) h = absurd (let z : ⊥ = omega arith in z)
 closing {rs} {blocks} (block type {nest} {floor} {dead} {f} {g} {fs} n e t r) h =
@@ -92,7 +92,7 @@ closing {rs} {blocks} (block type {nest} {floor} {dead} {f} {g} {fs} n e t r) h 
       outer-floor = floor;
       outer-dead = dead;
       type = type;
-      around = subst (λ (k : ℕ). Nested rs blocks k floor dead (g ∷ fs)) less n;
+      around = subst (λ (k : ℕ). OpenBlocks rs blocks k floor dead (g ∷ fs)) less n;
       word-is = ap (λ (k : ℕ). getD blocks k 0) (sym less) ∙ e;
       is-type = t;
       results-are = r;
@@ -127,14 +127,14 @@ worded-outer d e =
     }
 
 module _ {rs : List Kind} {blocks : List ℕ} where
-  pub label-strip : {nest floor : ℕ} {dead : Bool} {fs : List Frame} → Nested rs blocks nest floor dead fs → (takes : ℕ) → topFirst rs ≡ takes → length rs ≤ resultLimit → Labelled fs nest takes
+  pub label-strip : {nest floor : ℕ} {dead : Bool} {fs : List Frame} → OpenBlocks rs blocks nest floor dead fs → (takes : ℕ) → topFirst rs ≡ takes → length rs ≤ resultLimit → Labelled fs nest takes
   label-strip (strip {f} l r) takes e few =
       let same : branchKinds f ≡ rs = ap (λ (b : Bool). cond b [] (f .results)) l ∙ r in
       record { target = f; label = innermost; takes-is = ap topFirst same ∙ e; few = omega (arith, ap length same, few) }
   label-strip (block y n w t r) takes e few =
       let g = label-strip n takes e few in record { target = g .target; label = outer (g .label); takes-is = g .takes-is; few = g .few }
 
-  pub label-block : {nest floor : ℕ} {dead : Bool} {fs : List Frame} → Nested rs blocks nest floor dead fs → length (allValues fs) ≤ stackLimit → (n : ℕ) → n < nest
+  pub label-block : {nest floor : ℕ} {dead : Bool} {fs : List Frame} → OpenBlocks rs blocks nest floor dead fs → length (allValues fs) ≤ stackLimit → (n : ℕ) → n < nest
       → Worded fs n (getD blocks (nest - n - 1) 0)
   label-block (strip l r) small n h = absurd (let z : ⊥ = omega arith in z)
   label-block (block type {nest} {floor} {dead} {f} {g} {fs} n w t r) small zero h =
@@ -159,7 +159,7 @@ module _ {rs : List Kind} {blocks : List ℕ} where
       (ap (λ (x : ℕ). getD blocks x 0) (let z : suc nest - suc k - 1 ≡ nest - k - 1 = omega arith in z))
 
   -- none beyond the strip
-  pub no-such : {nest floor : ℕ} {dead : Bool} {fs : List Frame} → Nested rs blocks nest floor dead fs → (n : ℕ) → nest < n → (g : Frame) → Target fs n g → ⊥
+  pub no-such : {nest floor : ℕ} {dead : Bool} {fs : List Frame} → OpenBlocks rs blocks nest floor dead fs → (n : ℕ) → nest < n → (g : Frame) → Target fs n g → ⊥
   no-such n k l g label = beyond label (omega (arith, nested-many n))
     where
       beyond : {fs : List Frame} {k : ℕ} {g : Frame} → Target fs k g → length fs ≤ k → ⊥

@@ -9,7 +9,7 @@ use Rattle.instr.specs.declared.Instr.{Instr}
 use Rattle.rules.specs.Typing.{Frame, holding, allValues, Has, all-known, Typed, Types, ordinary, branches, may-branch, opens-block, opens-loop, closes}
 use Rattle.rules.proofs.Sorts.{typed-local, branches-control}
 use Rattle.checker.specs.Inner.Stack.{Top}
-use Rattle.checker.specs.Walk.{Nested, Framed}
+use Rattle.checker.specs.Walk.{OpenBlocks, Framed}
 use Rattle.checker.specs.Inner.Judging.{Ordinary, Gives, undeclared-local, lacking, overfull, does, Judges, no-local, untyped, too-deep, typed}
 use Rattle.checker.proofs.Nests.{nested-as, frames-case, framed-top}
 
@@ -35,7 +35,7 @@ module _ {ls : List Kind} {i : Instr} {c : Code} (o : Ordinary c) where
         typed (ordinary {below = below} t h)
         (record {
           holds = g;
-          nested = subst (λ (x : Bool). Nested rs blocks nest floor x (holding f (below ++ outs) ∷ fs)) (framed-top w .dead-is) (nested-as (holding f (below ++ outs)) refl refl (w .nested));
+          nested = subst (λ (x : Bool). OpenBlocks rs blocks nest floor x (holding f (below ++ outs) ∷ fs)) (framed-top w .dead-is) (nested-as (holding f (below ++ outs)) refl refl (w .nested));
           within = record { blocks = w .within .blocks; values = small };
         })
 

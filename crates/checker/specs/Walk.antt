@@ -40,16 +40,16 @@ abbrev pub word : ℕ → ℕ → Bool → Bool → ℕ
 word floor type loop dead = floor + 2 ^ 8 * type + 2 ^ 16 * bit loop + 2 ^ 24 * bit dead
 
 -- the strip's results and the words of so many open blocks are these frames; the innermost's floor, and whether code is dead in it
-pub data Nested (rs : List Kind) (blocks : List ℕ) : ℕ → ℕ → Bool → List Frame → Type 0 where
-  strip : {f : Frame} → f .loop ≡ false → f .results ≡ rs → Nested rs blocks 0 0 (f .dead) (f ∷ [])
-  block : (type : ℕ) {nest floor : ℕ} {dead : Bool} {f g : Frame} {fs : List Frame} → Nested rs blocks nest floor dead (g ∷ fs)
+pub data OpenBlocks (rs : List Kind) (blocks : List ℕ) : ℕ → ℕ → Bool → List Frame → Type 0 where
+  strip : {f : Frame} → f .loop ≡ false → f .results ≡ rs → OpenBlocks rs blocks 0 0 (f .dead) (f ∷ [])
+  block : (type : ℕ) {nest floor : ℕ} {dead : Bool} {f g : Frame} {fs : List Frame} → OpenBlocks rs blocks nest floor dead (g ∷ fs)
       → getD blocks nest 0 ≡ word floor type (f .loop) dead → isBlockType type ≡ true → f .results ≡ blockResults type
-      → Nested rs blocks (suc nest) (length (allValues (g ∷ fs))) (f .dead) (f ∷ g ∷ fs)
+      → OpenBlocks rs blocks (suc nest) (length (allValues (g ∷ fs))) (f .dead) (f ∷ g ∷ fs)
 
 -- with the kinds on the stack
 pub record Framed (rs : List Kind) (kinds blocks : List ℕ) (depth nest floor : ℕ) (dead : Bool) (fs : List Frame) : Type 0 where
   pub holds : KindBytes kinds depth (allValues fs)
-  pub nested : Nested rs blocks nest floor dead fs
+  pub nested : OpenBlocks rs blocks nest floor dead fs
   pub within : Within fs
 
 -- ---- the walk
@@ -72,7 +72,8 @@ pub record Walks (s : List ℕ) (p : ℕ) (kinds blocks : List ℕ) (state : Sta
 abbrev pub readAt : List ℕ → ℕ → Scanned
 readAt s p = scanOf (decodeIn (getD s 3 0) s p)
 
--- after the strip's own `end` the walk is over, and all is as it was; after another instruction it goes on, and beyond what is held then the arrays are as they were
+-- after the strip's own `end` the walk is over, and all is as it was; after another instruction it goes on, and beyond what is held then the arrays
+-- are as they were
 pub data Goes (s : List ℕ) (p : ℕ) (kinds blocks : List ℕ) (state : State) : List ℕ → List ℕ → State → Type 0 where
   over : p ≡ length s → Goes s p kinds blocks state kinds blocks state
   on : {kinds′ blocks′ : List ℕ} {state′ : State} → Walks s p kinds′ blocks′ state′ → drop (state′ .depth) kinds′ ≡ drop (state′ .depth) kinds

@@ -8,7 +8,7 @@ ghost use Rattle.limits.specs.Limits.{stackLimit, resultLimit};
 ghost use Rattle.opcode.specs.Kind.{Kind};
 ghost use Rattle.opcode.specs.BlockType.{isBlockType, blockResults};
 ghost use Rattle.rules.specs.Typing.{Frame, allValues};
-ghost use Rattle.checker.specs.Walk.{bit, word, Nested};
+ghost use Rattle.checker.specs.Walk.{bit, word, OpenBlocks};
 ghost use Rattle.checker.specs.Inner.Blocks.{topFirst, Labelled};
 
 const EMPTY: u32 = opcode::kind::EMPTY as u32;
@@ -59,7 +59,7 @@ pub(crate) fn results_in(w: u32) -> u64
 // What a branch to the n-th block takes, the top one first in a number.
 pub(crate) fn takes(results: u64, blocks: &[u32], nest: usize, n: usize) -> u64
     requires { ⌜ (results < 2 ^ 32) × (n ≤ nest) × (nest ≤ length (now blocks)) ⌝ }
-    ensures { λ r. ⌜ (r < 2 ^ 32) × ((rs : List Kind) (fs : List Frame) (floor : ℕ) (dead : Bool) → topFirst rs ≡ results → length rs ≤ resultLimit → Nested rs (now (blocks .entry)) nest floor dead fs → length (allValues fs) ≤ stackLimit → Labelled fs n r) ⌝ }
+    ensures { λ r. ⌜ (r < 2 ^ 32) × ((rs : List Kind) (fs : List Frame) (floor : ℕ) (dead : Bool) → topFirst rs ≡ results → length rs ≤ resultLimit → OpenBlocks rs (now (blocks .entry)) nest floor dead fs → length (allValues fs) ≤ stackLimit → Labelled fs n r) ⌝ }
 {
     if n == nest {
         return results;

@@ -38,7 +38,8 @@ module _ {ver : ℕ} {s : List ℕ} (b : bytes s) where
       turn-as r e (suc room) ∙ ap (λ (k : ℕ). onFrom (p + n) k (endOf s (suc room))) (finds c)
       ∙ ap (λ (t : Bool). cond t (endOf s (suc room) m) 0) (lt-ltb (p + n) m (forward c)) ∙ finds c′
 
--- ON A STRIP THAT PASSES: a block that is open at a place is closed where the search from there ends, with the room that is left to the blocks inside it
+-- ON A STRIP THAT PASSES: a block that is open at a place is closed where the search from there ends, with the room that is left to the blocks inside
+-- it
 pub on-valid : {s : List ℕ} (b : bytes s) (v : Valid s) {p : ℕ} {f g : Frame} {fs : List Frame} → Reaches s (v .header) p (f ∷ g ∷ fs) → (room : ℕ)
     → Room (f ∷ g ∷ fs) room
     → (close (v .header .version) s p ≡ some (endOf s room p)) × Closes (v .header .version) s p (endOf s room p)

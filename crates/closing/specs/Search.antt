@@ -1,6 +1,7 @@
--- Inner: what only contracts inside the project cite. The search for the `end` that closes a block, as it goes over bytes that were checked: past each instruction by its
--- opcode and the fields that the table gives it, whatever they hold, and into each block with room that falls (01, "matching a block with its end recurses on the remaining
--- bytes, with nesting room that falls"). It has one answer for any bytes; on a strip that passes this is Closing's (proofs/Exact).
+-- Inner: what only contracts inside the project cite. The search for the `end` that closes a block, as it goes over bytes that were checked: past
+-- each instruction by its opcode and the fields that the table gives it, whatever they hold, and into each block with room that falls (01, "matching
+-- a block with its end recurses on the remaining bytes, with nesting room that falls"). It has one answer for any bytes; on a strip that passes this
+-- is Closing's (proofs/Exact).
 use Prim.Native.Nat.{ℕ, zero, suc, _+_, _≤_, min}
 use mathlib.Core.Path.{_≡_}
 use mathlib.Core.Bool.{cond}

@@ -1,4 +1,5 @@
-// The `end` that closes a block, found from the bytes. They were checked, so the search goes over an instruction and asks nothing of it but where the next one stands.
+// The `end` that closes a block, found from the bytes. They were checked, so the search goes over an instruction and asks nothing of it but where the
+// next one stands.
 mod passing;
 
 ghost use mathlib.Core.Path.{_≡_};
@@ -6,7 +7,8 @@ ghost use mathlib.Core.Bool.{_||_};
 ghost use lib.Dec.{eqb};
 ghost use Rattle.closing.specs.Search.{endOf};
 
-// The place after the `end` of the block whose body begins at `start`, 0 where there is none: inside it the search recurses into blocks, with nesting room that falls.
+// The place after the `end` of the block whose body begins at `start`, 0 where there is none: inside it the search recurses into blocks, with nesting
+// room that falls.
 pub fn close(s: &[u8], start: usize, room: usize) -> usize
     ensures { λ r. ⌜ r ≡ endOf (now (s .entry)) room start ⌝ }
 {

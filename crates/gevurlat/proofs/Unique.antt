@@ -1,4 +1,5 @@
--- Of any bytes the program prints one text. The memory that it lends is within the limit, and the buffer for the results is the one that the strip asks for.
+-- Of any bytes the program prints one text. The memory that it lends is within the limit, and the buffer for the results is the one that the strip
+-- asks for.
 use Prim.Native.Nat.{ℕ, _*_, _≤_}
 use mathlib.Core.Path.{_≡_, ap, ap₂, sym, _∙_, subst}
 use mathlib.Core.List.{List, [], _∷_, _++_}

@@ -11,7 +11,8 @@ const BUDGET: u32 = 1000000;
 // The memory's bytes: the program's own number, which does not move with the limit.
 const MEMORY: usize = 65536;
 
-// Room for three numbers of at most twenty digits and a byte after each, and for three bytes for each of the results' 64: a line of 33 for sixteen is less.
+// Room for three numbers of at most twenty digits and a byte after each, and for three bytes for each of the results' 64: a line of 33 for sixteen is
+// less.
 pub(crate) const LONGEST: usize = 255;
 
 pub(crate) fn answer(strip: &[u8], out: &mut [u8]) -> usize

@@ -1,4 +1,5 @@
-// The program: a strip from standard input, run with no arguments; what comes of it on standard output (document 01, "Numbers on the inspector's card").
+// The program: a strip from standard input, run with no arguments; what comes of it on standard output (document 01, "Numbers on the inspector's
+// card").
 mod answer;
 mod ascii;
 

@@ -1,5 +1,5 @@
--- REFUSALS, EXACTLY: decoding refuses an instruction with the code and the place that the card names, and nothing else; at every place of a file either an
--- instruction stands or one refusal is named.
+-- REFUSALS, EXACTLY: decoding refuses an instruction with the code and the place that the card names, and nothing else; at every place of a file
+-- either an instruction stands or one refusal is named.
 use Prim.Native.Nat.{ℕ, zero, suc, _+_, _<_, _≤_, _^_}
 use mathlib.Core.Bool.{Bool, true, false, cond}
 use mathlib.Core.List.{List, [], _∷_, _++_}

@@ -1,5 +1,5 @@
--- Which instruction is refused, with which code and place, in the card's words (01, "Numbers on the inspector's card": 2 and 7 to 11; 02, C-13: 6 after 8):
--- "left to right, byte by byte, each item judged as soon as it is read". Numbers are those of Core's grammar. Written without the decoder.
+-- Which instruction is refused, with which code and place, in the card's words (01, "Numbers on the inspector's card": 2 and 7 to 11; 02, C-13: 6
+-- after 8): "left to right, byte by byte, each item judged as soon as it is read". Numbers are those of Core's grammar. Written without the decoder.
 use Prim.Native.Nat.{ℕ, _+_, _≤_, _<_, _^_}
 use mathlib.Core.Bool.{Bool, true, false}
 use mathlib.Core.List.{List, [], _∷_}

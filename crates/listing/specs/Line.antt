@@ -1,5 +1,6 @@
--- One line of a listing (02, C-11, C-13): place, stack kinds before the instruction, the bottom first, mnemonic and decimal immediates in file order, with
--- single blanks between, ended by 0A. A line is of no version: the names are one table's, and what a version has the latest has too (opcode, row-latest).
+-- One line of a listing (02, C-11, C-13): place, stack kinds before the instruction, the bottom first, mnemonic and decimal immediates in file order,
+-- with single blanks between, ended by 0A. A line is of no version: the names are one table's, and what a version has the latest has too (opcode,
+-- row-latest).
 use Prim.Native.Nat.{ℕ}
 use mathlib.Core.List.{List, [], _∷_, _++_, map}
 use lib.IntN.{ℤ, pos}

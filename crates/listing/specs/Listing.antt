@@ -1,4 +1,5 @@
--- What the lister answers and writes (02, C-11, C-13): one line an instruction, with the kinds that the rules say: the whole known stack, those under open blocks too.
+-- What the lister answers and writes (02, C-11, C-13): one line an instruction, with the kinds that the rules say: the whole known stack, those under
+-- open blocks too.
 use Prim.Native.Nat.{ℕ, _+_, _<_, _≤_}
 use mathlib.Core.Path.{_≡_}
 use mathlib.Core.List.{List, [], _++_}

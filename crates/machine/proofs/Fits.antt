@@ -1,5 +1,5 @@
--- Where the standard's machine is not stuck, the code has what it asks before an instruction: enough values, a slot for the local, and the bounds that tell
--- a trap from going on.
+-- Where the standard's machine is not stuck, the code has what it asks before an instruction: enough values, a slot for the local, and the bounds
+-- that tell a trap from going on.
 use Prim.Native.Nat.{ℕ, _+_, _-_, _^_, _≤_, _<_, max, zero-le}
 use mathlib.Core.Path.{_≡_, refl, ap, ap₂, sym, _∙_}
 use mathlib.Core.Bool.{Bool, true, false, cond}
@@ -10,7 +10,8 @@ use lib.ListN.{length}
 use borrow.Author.Tests.{lt-leb, leb-false}
 use mir.Syntax.{Width, w8, w16, w32, w64, w128}
 use Rattle.operation.specs.Vector.{le}
-use Rattle.operation.specs.Op.{Loadop, Whole, Widen, Repeat, ZeroPad, Op, Load, LoadLane, Store, StoreLane, Const, Shuffle, Splat, ExtractLane, ReplaceLane, Unary, Binary, Bitselect, Test, Shift, extracted}
+use Rattle.operation.specs.Op.{Loadop, Whole, Widen, Repeat, ZeroPad, Op, Load, LoadLane, Store, StoreLane, Const, Shuffle, Splat, ExtractLane, ReplaceLane}
+use Rattle.operation.specs.Op.{Unary, Binary, Bitselect, Test, Shift, extracted}
 use Rattle.limits.specs.Limits.{slot, stackLimit}
 use Rattle.opcode.specs.Kind.{Kind}
 use Rattle.opcode.specs.Table.{Plain, End, Drop, LocalGet, LocalSet, LocalTee, I32Const, I64Const, I32Add, I32Sub, I32Eqz, I32LtU, Code, plain, control, vector}
@@ -20,7 +21,7 @@ use Rattle.machine.specs.Value.{Value, I32, I64}
 use Rattle.machine.specs.Exec.{State, Outcome, goes, done, trap, stuck, pushScalar, goOn, access, ofKinds, popI32, popV128, execPlain, execVector, exec}
 use Rattle.machine.specs.Inner.Flat.{slotAt, topOf, low32, reach}
 use Rattle.machine.specs.Inner.Fit.{takenByPlain, takenByOp, takenBy, Slotted, boundsAt, boundsOp, boundsOf}
-use Rattle.machine.specs.Answer.{Told, inReach, outOfReach}
+use Rattle.machine.specs.Answer.{Reach, inReach, outOfReach}
 use Rattle.machine.specs.Accesses.{Accesses, load, load-extend, load-splat, load-zero, load-lane, store, store-lane}
 use Rattle.machine.specs.Inner.Rep.{Rep}
 use Rattle.machine.proofs.Laws.Rep.{low-i32}
@@ -52,7 +53,7 @@ goes-clear : (c : State) (at n : ℕ) (p : Outcome) (σ : State) → Access c at
 goes-clear c at n p σ (within w) = w .clear
 goes-clear c at n p σ (past l e) = absurd (let z : _≡_ {A = ℕ} 0 1 = cc in omega arith)
 
-pub record Beyond (b : Told) (len a k : ℕ) : Type 0 where
+pub record Beyond (b : Reach) (len a k : ℕ) : Type 0 where
   pub bounds : b ≡ outOfReach (max a len)
   pub outside : len < a + k
 
@@ -93,28 +94,48 @@ module _ (rs : List Kind) (i : Instr) (σ : State) (st : List ℕ) (d : ℕ) (ls
     enough-plain LocalTee e = omega (arith, pop-any st o moves (σ .stack) _ (all-held rep) e .long, rep .depth)
     enough-plain I32Const e = zero-le
     enough-plain I64Const e = zero-le
-    enough-plain I32Add e = let p = pop-i32 st o moves (σ .stack) _ (all-held rep) e in omega (arith, p .long, pop-i32 st o moves (p .rest) _ (p .under) (p .next) .long, rep .depth)
-    enough-plain I32Sub e = let p = pop-i32 st o moves (σ .stack) _ (all-held rep) e in omega (arith, p .long, pop-i32 st o moves (p .rest) _ (p .under) (p .next) .long, rep .depth)
+    enough-plain I32Add e =
+        let p = pop-i32 st o moves (σ .stack) _ (all-held rep) e in
+        omega (arith, p .long, pop-i32 st o moves (p .rest) _ (p .under) (p .next) .long, rep .depth)
+    enough-plain I32Sub e =
+        let p = pop-i32 st o moves (σ .stack) _ (all-held rep) e in
+        omega (arith, p .long, pop-i32 st o moves (p .rest) _ (p .under) (p .next) .long, rep .depth)
     enough-plain I32Eqz e = omega (arith, pop-i32 st o moves (σ .stack) _ (all-held rep) e .long, rep .depth)
-    enough-plain I32LtU e = let p = pop-i32 st o moves (σ .stack) _ (all-held rep) e in omega (arith, p .long, pop-i32 st o moves (p .rest) _ (p .under) (p .next) .long, rep .depth)
+    enough-plain I32LtU e =
+        let p = pop-i32 st o moves (σ .stack) _ (all-held rep) e in
+        omega (arith, p .long, pop-i32 st o moves (p .rest) _ (p .under) (p .next) .long, rep .depth)
 
     enough-vector : (v : Op) → execVector v i σ ≡ o → takenByOp v ≤ d
     enough-vector (Load l) e = omega (arith, pop-i32 st o moves (σ .stack) _ (all-held rep) e .long, rep .depth)
-    enough-vector (LoadLane w) e = let p = pop-v128 st o moves (σ .stack) _ (all-held rep) e in omega (arith, p .long, pop-i32 st o moves (p .rest) _ (p .under) (p .next) .long, rep .depth)
-    enough-vector Store e = let p = pop-v128 st o moves (σ .stack) _ (all-held rep) e in omega (arith, p .long, pop-i32 st o moves (p .rest) _ (p .under) (p .next) .long, rep .depth)
-    enough-vector (StoreLane w) e = let p = pop-v128 st o moves (σ .stack) _ (all-held rep) e in omega (arith, p .long, pop-i32 st o moves (p .rest) _ (p .under) (p .next) .long, rep .depth)
+    enough-vector (LoadLane w) e =
+        let p = pop-v128 st o moves (σ .stack) _ (all-held rep) e in
+        omega (arith, p .long, pop-i32 st o moves (p .rest) _ (p .under) (p .next) .long, rep .depth)
+    enough-vector Store e =
+        let p = pop-v128 st o moves (σ .stack) _ (all-held rep) e in
+        omega (arith, p .long, pop-i32 st o moves (p .rest) _ (p .under) (p .next) .long, rep .depth)
+    enough-vector (StoreLane w) e =
+        let p = pop-v128 st o moves (σ .stack) _ (all-held rep) e in
+        omega (arith, p .long, pop-i32 st o moves (p .rest) _ (p .under) (p .next) .long, rep .depth)
     enough-vector Const e = zero-le
-    enough-vector Shuffle e = let p = pop-v128 st o moves (σ .stack) _ (all-held rep) e in omega (arith, p .long, pop-v128 st o moves (p .rest) _ (p .under) (p .next) .long, rep .depth)
+    enough-vector Shuffle e =
+        let p = pop-v128 st o moves (σ .stack) _ (all-held rep) e in
+        omega (arith, p .long, pop-v128 st o moves (p .rest) _ (p .under) (p .next) .long, rep .depth)
     enough-vector (Splat w) e = omega (arith, pop-scalar st o moves w (σ .stack) _ (all-held rep) e .long, rep .depth)
     enough-vector (ExtractLane s w) e = omega (arith, pop-v128 st o moves (σ .stack) _ (all-held rep) e .long, rep .depth)
-    enough-vector (ReplaceLane w) e = let p = pop-scalar st o moves w (σ .stack) _ (all-held rep) e in omega (arith, p .long, pop-v128 st o moves (p .rest) _ (p .under) (p .next) .long, rep .depth)
+    enough-vector (ReplaceLane w) e =
+        let p = pop-scalar st o moves w (σ .stack) _ (all-held rep) e in
+        omega (arith, p .long, pop-v128 st o moves (p .rest) _ (p .under) (p .next) .long, rep .depth)
     enough-vector (Unary f) e = omega (arith, pop-v128 st o moves (σ .stack) _ (all-held rep) e .long, rep .depth)
-    enough-vector (Binary f) e = let p = pop-v128 st o moves (σ .stack) _ (all-held rep) e in omega (arith, p .long, pop-v128 st o moves (p .rest) _ (p .under) (p .next) .long, rep .depth)
+    enough-vector (Binary f) e =
+        let p = pop-v128 st o moves (σ .stack) _ (all-held rep) e in
+        omega (arith, p .long, pop-v128 st o moves (p .rest) _ (p .under) (p .next) .long, rep .depth)
     enough-vector Bitselect e =
         let p = pop-v128 st o moves (σ .stack) _ (all-held rep) e in let q = pop-v128 st o moves (p .rest) _ (p .under) (p .next) in
         omega (arith, p .long, q .long, pop-v128 st o moves (q .rest) _ (q .under) (q .next) .long, rep .depth)
     enough-vector (Test f) e = omega (arith, pop-v128 st o moves (σ .stack) _ (all-held rep) e .long, rep .depth)
-    enough-vector (Shift f) e = let p = pop-i32 st o moves (σ .stack) _ (all-held rep) e in omega (arith, p .long, pop-v128 st o moves (p .rest) _ (p .under) (p .next) .long, rep .depth)
+    enough-vector (Shift f) e =
+        let p = pop-i32 st o moves (σ .stack) _ (all-held rep) e in
+        omega (arith, p .long, pop-v128 st o moves (p .rest) _ (p .under) (p .next) .long, rep .depth)
 
     pub enough : (c : Code) → exec rs c i σ ≡ o → takenBy c ≤ d
     enough (plain p) e = enough-plain p e
@@ -139,7 +160,9 @@ module _ (rs : List Kind) (i : Instr) (σ : State) (st : List ℕ) (d : ℕ) (ls
           at = p .value + i .offset;
           next = _;
           access = accessed σ (p .value + i .offset) (moved (Load l)) _ o (p .next);
-          bounds = ap₂ (λ (x n : ℕ). boundsAt x (moved (Load l)) n) (address 1 (length (p .rest)) (p .value) (omega (arith, rep .depth, p .long)) (p .at) (p .ok)) (ap length (sym (rep .memory)));
+          bounds =
+              ap₂ (λ (x n : ℕ). boundsAt x (moved (Load l)) n) (address 1 (length (p .rest)) (p .value) (omega (arith, rep .depth, p .long)) (p .at) (p .ok))
+              (ap length (sym (rep .memory)));
           goes-on = λ a k. on-not-trap _ (σ .locals) (σ .memory) a k;
         }
 
@@ -153,7 +176,10 @@ module _ (rs : List Kind) (i : Instr) (σ : State) (st : List ℕ) (d : ℕ) (ls
           at = q .value + i .offset;
           next = next (p .value) (q .value) (q .rest);
           access = accessed σ (q .value + i .offset) (moved v) _ o (q .next);
-          bounds = b ∙ ap₂ (λ (x n : ℕ). boundsAt x (moved v) n) (address 2 (length (q .rest)) (q .value) (omega (arith, rep .depth, p .long, q .long)) (q .at) (q .ok)) (ap length (sym (rep .memory)));
+          bounds =
+              b
+              ∙ ap₂ (λ (x n : ℕ). boundsAt x (moved v) n)
+              (address 2 (length (q .rest)) (q .value) (omega (arith, rep .depth, p .long, q .long)) (q .at) (q .ok)) (ap length (sym (rep .memory)));
           goes-on = never (p .value) (q .value) (q .rest);
         }
 

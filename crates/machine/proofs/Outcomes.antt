@@ -1,5 +1,5 @@
--- Whatever an instruction comes to: it goes on by `goOn`, traps at an access of its own past the memory's end, ends at `end` or is stuck. What is so of
--- these is so of every instruction.
+-- Whatever an instruction comes to: it goes on by `goOn`, traps at an access of its own past the memory's end, ends at `end` or is stuck. What is so
+-- of these is so of every instruction.
 use Prim.Native.Nat.{ℕ, _+_, _<_}
 use mathlib.Core.Path.{_≡_, refl, ap, sym, _∙_, subst}
 use mathlib.Core.Bool.{Bool, true, false, cond}

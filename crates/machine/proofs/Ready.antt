@@ -22,7 +22,7 @@ use Rattle.opcode.proofs.Arms.{anyKey}
 use Rattle.instr.specs.declared.Instr.{Instr}
 use Rattle.machine.specs.Inner.Flat.{flat, flatOf}
 use Rattle.machine.specs.Inner.Fit.{Fit, Fits, Named, Ready, Did, DidBy, boundsAt, boundsOf}
-use Rattle.machine.specs.Answer.{Told, inReach, outOfReach}
+use Rattle.machine.specs.Answer.{Reach, inReach, outOfReach}
 
 -- an access that is clear lies within the memory
 pub within : (at n len : ℕ) → boundsAt at n len ≡ inReach → at + n ≤ len
@@ -30,7 +30,7 @@ within at n len e = go (leb (at + n) len) refl e
   where
     go : (t : Bool) → leb (at + n) len ≡ t → cond t inReach (outOfReach (max at len)) ≡ inReach → at + n ≤ len
     go true q e = leb-true (at + n) len q
-    go false q e = let wrong : TRAP ≡ DONE = ap (λ (x : Told). x .code) e in absurd (omega (arith, wrong))
+    go false q e = let wrong : TRAP ≡ DONE = ap (λ (x : Reach). x .code) e in absurd (omega (arith, wrong))
 
 -- the keys of arms of one number each
 abbrev pub alone : List ℕ → List (List ℕ)

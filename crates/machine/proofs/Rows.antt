@@ -100,7 +100,8 @@ module _ {X : Type 0} (K : Class X) (P : X → Type 0) where
   in-arm {x} at row p y is = subst P (K .once x y (sym row ∙ ap rowOf (sym at) ∙ is)) p
 
   -- the default: of the numbers from lo and below hi, those of the arms alone have an operation of the class
-  pub past-between : (b : Body) (lo hi id : ℕ) → T (others (ofGroup (K .number) lo) 0 (arms b) hi) → Missed (Unit {0}) (arms b) id → lo ≤ id → id < hi → Right id
+  pub past-between : (b : Body) (lo hi id : ℕ) → T (others (ofGroup (K .number) lo) 0 (arms b) hi) → Missed (Unit {0}) (arms b) id → lo ≤ id → id < hi
+      → Right id
   past-between b lo hi id t m l h x row =
       let yes : ofGroup (K .number) lo id ≡ 1 = simp (le-ltb id lo l, row, eq-eqb (K .number) (groupOfOp (K .op x)) (sym (K .is x))) in
       let no : 0 ≡ ofGroup (K .number) lo id = number-past-arms (ofGroup (K .number) lo) b hi t (λ g. let wrong : ⊥ = omega arith in absurd wrong) m in
@@ -124,8 +125,10 @@ module _ {X A B C : Type 0} (K : Class X) (f : X → A → B → C) where
 
 -- the same of a class of two arguments
 module _ (P : Sign → Width → Type 0) where
-  pub in-arm₂ : {s : Sign} {w : Width} {k id : ℕ} → id ≡ k → rowOf k ≡ does (ExtractLane s w) → P s w → (t : Sign) (v : Width) → rowOf id ≡ carried (vector (ExtractLane t v)) → P t v
+  pub in-arm₂ : {s : Sign} {w : Width} {k id : ℕ} → id ≡ k → rowOf k ≡ does (ExtractLane s w) → P s w → (t : Sign) (v : Width)
+      → rowOf id ≡ carried (vector (ExtractLane t v)) → P t v
   in-arm₂ at row p t v = in-arm extracts (λ x. P (x .0) (x .1)) at row p (t, v)
 
-  pub past-arms₂ : (b : Body) (id : ℕ) → T (others (ofGroup (extracts .number) 0) 0 (arms b) 512) → Missed (Unit {0}) (arms b) id → (t : Sign) (v : Width) → rowOf id ≡ carried (vector (ExtractLane t v)) → P t v
+  pub past-arms₂ : (b : Body) (id : ℕ) → T (others (ofGroup (extracts .number) 0) 0 (arms b) 512) → Missed (Unit {0}) (arms b) id → (t : Sign) (v : Width)
+      → rowOf id ≡ carried (vector (ExtractLane t v)) → P t v
   past-arms₂ b id tests m t v = past-arms extracts (λ x. P (x .0) (x .1)) b id tests m (t, v)

@@ -11,9 +11,11 @@ use lib.IntN.{pos, _+ℤ_, _-ℤ_}
 use Rattle.scalar.specs.Scalar.{Sign, iadd, isub}
 use Rattle.scalar.proofs.Laws.Integers.{wrap-lt}
 use Rattle.operation.specs.Vector.{le, Sixteen}
-use Rattle.operation.specs.Op.{Loadop, Shiftop, Op, Load, LoadLane, Store, StoreLane, Const, Shuffle, Splat, ExtractLane, ReplaceLane, Unary, Binary, Bitselect, Test, Shift, unary, binary, bitselect, test, shift, splat, extracted, replaced, shuffled, loaded, laneIn, laneOut}
+use Rattle.operation.specs.Op.{Loadop, Shiftop, Op, Load, LoadLane, Store, StoreLane, Const, Shuffle, Splat, ExtractLane, ReplaceLane, Unary, Binary, Bitselect}
+use Rattle.operation.specs.Op.{Test, Shift, unary, binary, bitselect, test, shift, splat, extracted, replaced, shuffled, loaded, laneIn, laneOut}
 use Rattle.operation.proofs.Laws.Number.{Bytes, bytes-take}
-use Rattle.operation.proofs.Laws.Vectors.{test-lt, extracted-lt, sixteen-unary, sixteen-binary, sixteen-bitselect, sixteen-shift, sixteen-splat, sixteen-replaced, sixteen-shuffled, sixteen-loaded, sixteen-laneIn, sixteen-laneOut}
+use Rattle.operation.proofs.Laws.Vectors.{test-lt, extracted-lt, sixteen-unary, sixteen-binary, sixteen-bitselect, sixteen-shift, sixteen-splat}
+use Rattle.operation.proofs.Laws.Vectors.{sixteen-replaced, sixteen-shuffled, sixteen-loaded, sixteen-laneIn, sixteen-laneOut}
 use Rattle.limits.specs.Limits.{slot}
 use Rattle.opcode.specs.Kind.{Kind}
 use Rattle.opcode.specs.Table.{Plain, End, Drop, LocalGet, LocalSet, LocalTee, I32Const, I64Const, I32Add, I32Sub, I32Eqz, I32LtU, Code, plain, control, vector}
@@ -74,14 +76,16 @@ module _ (rs : List Kind) (i : Instr) (apt : Apt i) (σ σ′ : State) (st : Lis
   sim-get e =
       let n = named st (goes σ′) moves σ (i .index) _ e in
       pushed rep (σ .stack) (all-held rep) (getD (σ .locals) (i .index) (I32 0)) (slotAt ls (i .index)) d (d + 1)
-      (range-at (σ .locals) (i .index) (rep .local-range) (n .declared)) (rep .held (i .index) (n .declared)) (sym (rep .depth)) (omega (arith, rep .depth)) (n .next)
+      (range-at (σ .locals) (i .index) (rep .local-range) (n .declared)) (rep .held (i .index) (n .declared)) (sym (rep .depth)) (omega (arith, rep .depth))
+      (n .next)
 
   sim-set : execPlain rs LocalSet i σ ≡ goes σ′ → After (flatPlain LocalSet i st d ls m)
   sim-set e =
       let p = pop-any st (goes σ′) moves (σ .stack) _ (all-held rep) e in
       let n = named st (goes σ′) moves σ (i .index) _ (p .next) in
       let k = same-kind st (goes σ′) moves (p .value) (getD (σ .locals) (i .index) (I32 0)) _ (n .next) in
-      popped (with-local rep (i .index) (p .value) (topOf st d 1) (n .declared) (p .ok) (top 1 (length (p .rest)) _ (omega (arith, rep .depth, p .long)) (p .at)))
+      popped
+      (with-local rep (i .index) (p .value) (topOf st d 1) (n .declared) (p .ok) (top 1 (length (p .rest)) _ (omega (arith, rep .depth, p .long)) (p .at)))
       (p .rest) (p .under) (d - 1) (omega (arith, rep .depth, p .long)) (k .1)
 
   sim-tee : execPlain rs LocalTee i σ ≡ goes σ′ → After (flatPlain LocalTee i st d ls m)
@@ -89,14 +93,17 @@ module _ (rs : List Kind) (i : Instr) (apt : Apt i) (σ σ′ : State) (st : Lis
       let p = pop-any st (goes σ′) moves (σ .stack) _ (all-held rep) e in
       let n = named st (goes σ′) moves σ (i .index) _ (p .next) in
       let k = same-kind st (goes σ′) moves (p .value) (getD (σ .locals) (i .index) (I32 0)) _ (n .next) in
-      popped (with-local rep (i .index) (p .value) (topOf st d 1) (n .declared) (p .ok) (top 1 (length (p .rest)) _ (omega (arith, rep .depth, p .long)) (p .at)))
+      popped
+      (with-local rep (i .index) (p .value) (topOf st d 1) (n .declared) (p .ok) (top 1 (length (p .rest)) _ (omega (arith, rep .depth, p .long)) (p .at)))
       (p .value ∷ p .rest) (record { slots = (p .at, p .under .slots); range = (p .ok, p .under .range) }) d (omega (arith, rep .depth, p .long)) (k .1)
 
   sim-i32-const : execPlain rs I32Const i σ ≡ goes σ′ → After (flatPlain I32Const i st d ls m)
-  sim-i32-const e = pushed rep (σ .stack) (all-held rep) (I32 (i .word)) (le slot (i .word)) d (d + 1) (apt .word) refl (sym (rep .depth)) (omega (arith, rep .depth)) e
+  sim-i32-const e =
+      pushed rep (σ .stack) (all-held rep) (I32 (i .word)) (le slot (i .word)) d (d + 1) (apt .word) refl (sym (rep .depth)) (omega (arith, rep .depth)) e
 
   sim-i64-const : execPlain rs I64Const i σ ≡ goes σ′ → After (flatPlain I64Const i st d ls m)
-  sim-i64-const e = pushed rep (σ .stack) (all-held rep) (I64 (i .long)) (le slot (i .long)) d (d + 1) (apt .long) refl (sym (rep .depth)) (omega (arith, rep .depth)) e
+  sim-i64-const e =
+      pushed rep (σ .stack) (all-held rep) (I64 (i .long)) (le slot (i .long)) d (d + 1) (apt .long) refl (sym (rep .depth)) (omega (arith, rep .depth)) e
 
   -- two numbers
   sim-two : (f : ℕ → ℕ → ℕ) → ((a b : ℕ) → f a b < 2 ^ 32)
@@ -147,7 +154,8 @@ module _ (rs : List Kind) (i : Instr) (apt : Apt i) (σ σ′ : State) (st : Lis
       let r = reached σ (q .value + i .offset) (moved (LoadLane w)) _ σ′ (q .next) in
       let t1 = top 1 (length (p .rest)) _ (omega (arith, rep .depth, p .long)) (p .at) in
       let t = address 2 (length (q .rest)) (q .value) (omega (arith, rep .depth, p .long, q .long)) (q .at) (q .ok) in
-      pushed rep (q .rest) (q .under) (V128 (laneIn w (padded (part (moved (LoadLane w)) (q .value + i .offset) (σ .memory))) (p .value) (i .lane))) _ (d - 2) (d - 1)
+      pushed rep (q .rest) (q .under) (V128 (laneIn w (padded (part (moved (LoadLane w)) (q .value + i .offset) (σ .memory))) (p .value) (i .lane))) _
+      (d - 2) (d - 1)
       (sixteen-laneIn w _ (p .value) (i .lane))
       (ap₂ (λ (bs v : List ℕ). laneIn w (padded bs) v (i .lane)) (ap₂ (part (moved (LoadLane w))) t (sym (rep .memory))) t1)
       (omega (arith, rep .depth, p .long, q .long)) (omega (arith, rep .depth, p .long, q .long)) (r .1)
@@ -177,7 +185,8 @@ module _ (rs : List Kind) (i : Instr) (apt : Apt i) (σ σ′ : State) (st : Lis
   sim-one f g ok same e =
       let p = pop-v128 st (goes σ′) moves (σ .stack) _ (all-held rep) e in
       let t1 = top 1 (length (p .rest)) _ (omega (arith, rep .depth, p .long)) (p .at) in
-      pushed rep (p .rest) (p .under) (f (p .value)) _ (d - 1) d (ok (p .value)) (ap g t1 ∙ same (p .value)) (omega (arith, rep .depth, p .long)) (omega (arith, rep .depth, p .long)) (p .next)
+      pushed rep (p .rest) (p .under) (f (p .value)) _ (d - 1) d (ok (p .value)) (ap g t1 ∙ same (p .value)) (omega (arith, rep .depth, p .long))
+      (omega (arith, rep .depth, p .long)) (p .next)
 
   sim-pair : (f : List ℕ → List ℕ → List ℕ) → ((a b : List ℕ) → Sixteen (f a b))
       → popV128 (σ .stack) (λ b vs. popV128 vs (λ a vs. goOn (V128 (f a b) ∷ vs) (σ .locals) (σ .memory))) ≡ goes σ′
@@ -229,10 +238,14 @@ module _ (rs : List Kind) (i : Instr) (apt : Apt i) (σ σ′ : State) (st : Lis
       (omega (arith, rep .depth, p .long, q .long)) (omega (arith, rep .depth, p .long, q .long)) (q .next)
 
   sim-extract : (s : Sign) (w : Width) → execVector (ExtractLane s w) i σ ≡ goes σ′ → After (flatVector (ExtractLane s w) i st d ls m)
-  sim-extract s w8 e = sim-one (λ a. I32 (extracted s w8 a (i .lane))) (λ a. le slot (extracted s w8 a (i .lane))) (λ a. extracted-lt s w8 a (i .lane)) (λ a. refl) e
-  sim-extract s w16 e = sim-one (λ a. I32 (extracted s w16 a (i .lane))) (λ a. le slot (extracted s w16 a (i .lane))) (λ a. extracted-lt s w16 a (i .lane)) (λ a. refl) e
-  sim-extract s w32 e = sim-one (λ a. I32 (extracted s w32 a (i .lane))) (λ a. le slot (extracted s w32 a (i .lane))) (λ a. extracted-lt s w32 a (i .lane)) (λ a. refl) e
-  sim-extract s w64 e = sim-one (λ a. I64 (extracted s w64 a (i .lane))) (λ a. le slot (extracted s w64 a (i .lane))) (λ a. extracted-lt s w64 a (i .lane)) (λ a. refl) e
+  sim-extract s w8 e =
+      sim-one (λ a. I32 (extracted s w8 a (i .lane))) (λ a. le slot (extracted s w8 a (i .lane))) (λ a. extracted-lt s w8 a (i .lane)) (λ a. refl) e
+  sim-extract s w16 e =
+      sim-one (λ a. I32 (extracted s w16 a (i .lane))) (λ a. le slot (extracted s w16 a (i .lane))) (λ a. extracted-lt s w16 a (i .lane)) (λ a. refl) e
+  sim-extract s w32 e =
+      sim-one (λ a. I32 (extracted s w32 a (i .lane))) (λ a. le slot (extracted s w32 a (i .lane))) (λ a. extracted-lt s w32 a (i .lane)) (λ a. refl) e
+  sim-extract s w64 e =
+      sim-one (λ a. I64 (extracted s w64 a (i .lane))) (λ a. le slot (extracted s w64 a (i .lane))) (λ a. extracted-lt s w64 a (i .lane)) (λ a. refl) e
   sim-extract s w128 e = absurd (moves (sym (pop-v128 st (goes σ′) moves (σ .stack) _ (all-held rep) e .next)))
 
   sim-plain : (p : Plain) → execPlain rs p i σ ≡ goes σ′ → After (flatPlain p i st d ls m)
@@ -256,7 +269,9 @@ module _ (rs : List Kind) (i : Instr) (apt : Apt i) (σ σ′ : State) (st : Lis
   sim-vector (Load l) e = sim-load l e
   sim-vector (LoadLane w) e = sim-load-lane w e
   sim-vector Store e = sim-stored 16 (λ v. v) (λ v h. h .bytes) e
-  sim-vector (StoreLane w) e = sim-stored (moved (StoreLane w)) (λ v. take (moved (StoreLane w)) (laneOut w v (i .lane))) (λ v h. bytes-take (moved (StoreLane w)) (laneOut w v (i .lane)) (sixteen-laneOut w v (i .lane) .bytes)) e
+  sim-vector (StoreLane w) e =
+      sim-stored (moved (StoreLane w)) (λ v. take (moved (StoreLane w)) (laneOut w v (i .lane)))
+      (λ v h. bytes-take (moved (StoreLane w)) (laneOut w v (i .lane)) (sixteen-laneOut w v (i .lane) .bytes)) e
   sim-vector Const e = sim-const e
   sim-vector Shuffle e = sim-pair (λ a b. shuffled a b (i .bytes)) (λ a b. sixteen-shuffled a b (i .bytes)) e
   sim-vector (Splat w) e = sim-splat w e

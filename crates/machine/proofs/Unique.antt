@@ -9,7 +9,7 @@ use Rattle.opcode.specs.Table.{Code, carried}
 use Rattle.opcode.specs.Number.{rowOf}
 use Rattle.instr.specs.declared.Instr.{Instr}
 use Rattle.machine.specs.Inner.Fit.{DidBy, boundsOf}
-use Rattle.machine.specs.Answer.{Told, toldBounds}
+use Rattle.machine.specs.Answer.{Reach, toldBounds}
 use Rattle.machine.specs.declared.access.Bounds.{Bounds}
 use Rattle.machine.specs.declared.access.Bounds.the-variants.{Clear, Past}
 use Rattle.machine.proofs.slot.top_word.Reads as top-word
@@ -18,9 +18,9 @@ use Rattle.machine.proofs.slot.carry.Reads as carry
 -- the card's numbers tell the answers apart
 told-once : (r r′ : Bounds) → toldBounds r ≡ toldBounds r′ → r ≡ r′
 told-once Clear Clear e = refl
-told-once Clear (Past a) e = absurd (let z : DONE ≡ TRAP = ap (λ (x : Told). x .code) e in omega (arith, z))
-told-once (Past a) Clear e = absurd (let z : TRAP ≡ DONE = ap (λ (x : Told). x .code) e in omega (arith, z))
-told-once (Past a) (Past b) e = ap Past (ap (λ (x : Told). x .address) e)
+told-once Clear (Past a) e = absurd (let z : DONE ≡ TRAP = ap (λ (x : Reach). x .code) e in omega (arith, z))
+told-once (Past a) Clear e = absurd (let z : TRAP ≡ DONE = ap (λ (x : Reach). x .code) e in omega (arith, z))
+told-once (Past a) (Past b) e = ap Past (ap (λ (x : Reach). x .address) e)
 
 module _ (id : ℕ) (i : Instr) (st : List ℕ) (d : ℕ) (c : Code) (row : rowOf id ≡ carried c) where
   pub one-bounds : (len : ℕ) (r r′ : Bounds) → ((c : Code) → rowOf id ≡ carried c → toldBounds r ≡ boundsOf c i st d len)

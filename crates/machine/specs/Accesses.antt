@@ -1,5 +1,5 @@
--- Which instructions reach into the memory, and where (01, "Instructions"; 000, "Load and store"; Core 2.0, 4.4.7): written without the machine, which traps at
--- such an access past the memory's end and nowhere else (proofs/Traps, traps-exact).
+-- Which instructions reach into the memory, and where (01, "Instructions"; 000, "Load and store"; Core 2.0, 4.4.7): written without the machine,
+-- which traps at such an access past the memory's end and nowhere else (proofs/Traps, traps-exact).
 use Prim.Native.Nat.{ℕ, _+_}
 use mathlib.Core.List.{List, _∷_}
 use mir.Syntax.{Width}
@@ -10,8 +10,8 @@ use Rattle.opcode.specs.Table.{Code, vector}
 use Rattle.instr.specs.declared.Instr.{Instr}
 use Rattle.machine.specs.Value.{Value, I32, V128}
 
--- with this stack, its top first, the instruction i of this code accesses n bytes from a on: a is the address on the stack, below any vector, plus the offset,
--- never wrapped; n is sixteen bytes, eight for an extending load, else the bytes of a lane
+-- with this stack, its top first, the instruction i of this code accesses n bytes from a on: a is the address on the stack, below any vector, plus
+-- the offset, never wrapped; n is sixteen bytes, eight for an extending load, else the bytes of a lane
 pub data Accesses (i : Instr) : Code → List Value → ℕ → ℕ → Type 0 where
   load : {x : ℕ} {st : List Value} → Accesses i (vector (Load Whole)) (I32 x ∷ st) (x + i .offset) 16
   load-extend : {s : Sign} {w : Width} {x : ℕ} {st : List Value} → Accesses i (vector (Load (Widen s w))) (I32 x ∷ st) (x + i .offset) 8

@@ -1,5 +1,6 @@
--- What the documents write beside the opcodes: 01's two lists of numbers after FD ("Instructions"), the opcodes outside the prefix by version, the immediate
--- operands (002's column; 01; 02, C-13), the block types (02, C-13) and the kinds (01, "The strip file"). A second source, to which the tables are held.
+-- What the documents write beside the opcodes: 01's two lists of numbers after FD ("Instructions"), the opcodes outside the prefix by version, the
+-- immediate operands (002's column; 01; 02, C-13), the block types (02, C-13) and the kinds (01, "The strip file"). A second source, to which the
+-- tables are held.
 use Prim.Native.Nat.{ℕ, zero, suc, _-_}
 use mathlib.Core.Path.{_≡_}
 use mathlib.Core.Bool.{Bool, true, false}

@@ -32,7 +32,8 @@ sinceIn b (l ∷ ls) = cond (eqb b (l .0)) (l .2) (sinceIn b ls)
 unfoldable pub sinceOf : ℕ → ℕ
 sinceOf b = sinceIn b plainLines
 
--- the code's CLASS_NOTHING, CLASS_INDEX, CLASS_WORD, CLASS_LONG, CLASS_MEMORY, CLASS_MEMORY_LANE, CLASS_LANE, CLASS_BYTES, CLASS_LANES, CLASS_BLOCK_TYPE
+-- the code's CLASS_NOTHING, CLASS_INDEX, CLASS_WORD, CLASS_LONG, CLASS_MEMORY, CLASS_MEMORY_LANE, CLASS_LANE, CLASS_BYTES, CLASS_LANES,
+-- CLASS_BLOCK_TYPE
 abbrev pub classNumber : Immediates → ℕ
 classNumber nothing = 0
 classNumber index = 1

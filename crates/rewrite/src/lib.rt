@@ -51,8 +51,9 @@ fn refused(code: u8, place: usize) -> Rewritten
     }
 }
 
-// A pass over the instructions of a strip of this version, from `start` to the end of the file. Their shortest forms are written, or only counted, from the
-// same place of the output on; the answer is the place after them. One function for both passes: the decoder and the encoder have one caller here.
+// A pass over the instructions of a strip of this version, from `start` to the end of the file. Their shortest forms are written, or only counted,
+// from the same place of the output on; the answer is the place after them. One function for both passes: the decoder and the encoder have one caller
+// here.
 fn pass(version: u16, strip: &[u8], start: usize, out: &mut [u8], writing: bool) -> usize
     requires { ⌜ AtPass version (now strip) start writing (length (now out)) ⌝ }
     ensures { λ r. ⌜ Passed version (now (strip .entry)) start writing (now (out .entry)) r (now (out .exit)) ⌝ }

@@ -1,5 +1,5 @@
--- Code after a `br` is typed exactly as Core's any-kind stack has it (02, C-13; Core 2.0, 3.3.8, 3.3.9): by what some whole stack lets it do, and no more; and
--- what is known after it is what every such stack leaves. In live code nothing is any.
+-- Code after a `br` is typed exactly as Core's any-kind stack has it (02, C-13; Core 2.0, 3.3.8, 3.3.9): by what some whole stack lets it do, and no
+-- more; and what is known after it is what every such stack leaves. In live code nothing is any.
 use mathlib.Core.Path.{_≡_, refl, ap, sym, _∙_, subst}
 use mathlib.Core.Bool.{Bool, true, false}
 use mathlib.Core.List.{List, [], _∷_, _++_, append-assoc}
@@ -118,7 +118,8 @@ dead-taken (each {f = f} w (each {f = f′} {fs = fs} w′ ws)) (end e) =
       fill = each (held (w′ .under) (f′ .values) w′ (ap (λ (x : Frame). x .values) (w′ .whole)) (ap (λ (x : Frame). x .results) (w .whole)) (w′ .none-live)) ws;
     }
 
--- DEAD CODE IS TYPED AS CORE HAS IT: by what some stack that the frames stand for lets it do; and what that may leave is what the frames after it stand for
+-- DEAD CODE IS TYPED AS CORE HAS IT: by what some stack that the frames stand for lets it do; and what that may leave is what the frames after it
+-- stand for
 pub dead-exact : {ls : List Kind} {i : Instr} {c : Code} {fs gs′ : List Frame} → Typable ls i c fs gs′ ↔ Possible ls i c fs gs′
 dead-exact = (λ t. dead-given (t .typed) (t .fill), λ p. dead-taken (p .fill) (p .allowed))
 

@@ -1,6 +1,6 @@
--- Core's validation with no word of dead code (Core 2.0, 3.3.8, 3.3.9): every stack is whole, and after a `br` it is any. This is what frames mean: a dead one
--- stands for every stack that ends in its values, another for its values alone. The rules pass what Core does, within the limits: dead-exact of proofs/Dead
--- for one instruction; core-valid, valid-core of proofs/Core for a strip.
+-- Core's validation with no word of dead code (Core 2.0, 3.3.8, 3.3.9): every stack is whole, and after a `br` it is any. This is what frames mean: a
+-- dead one stands for every stack that ends in its values, another for its values alone. The rules pass what Core does, within the limits: dead-exact
+-- of proofs/Dead for one instruction; core-valid, valid-core of proofs/Core for a strip.
 use Prim.Native.Nat.{ℕ, _+_}
 use mathlib.Core.Path.{_≡_}
 use mathlib.Core.Bool.{true, false}

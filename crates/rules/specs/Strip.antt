@@ -1,5 +1,6 @@
--- A strip that keeps every rule (01, "The strip file", "Numbers on the inspector's card"; 02, C-13; Core 2.0, 3.3): its header, its instructions in order,
--- typed from the empty stack to the results, never more values than the stack holds nor more blocks than may be open, `end` last. Written without the checker.
+-- A strip that keeps every rule (01, "The strip file", "Numbers on the inspector's card"; 02, C-13; Core 2.0, 3.3): its header, its instructions in
+-- order, typed from the empty stack to the results, never more values than the stack holds nor more blocks than may be open, `end` last. Written
+-- without the checker.
 use Prim.Native.Nat.{ℕ, _+_, _≤_}
 use mathlib.Core.Path.{_≡_}
 use mathlib.Core.Bool.{false}

@@ -1,4 +1,5 @@
--- What an instruction takes and leaves among locals of these kinds and inside these blocks (Core 2.0, 3.3.1, 3.3.3 to 3.3.5, 3.3.7 to 3.3.9), the last on top.
+-- What an instruction takes and leaves among locals of these kinds and inside these blocks (Core 2.0, 3.3.1, 3.3.3 to 3.3.5, 3.3.7 to 3.3.9), the
+-- last on top.
 use Prim.Native.Nat.{ℕ, zero, suc}
 use mathlib.Core.Path.{_≡_}
 use mathlib.Core.Bool.{Bool, true, false, cond}

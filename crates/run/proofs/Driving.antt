@@ -24,7 +24,7 @@ use Rattle.machine.specs.Inner.Fit.{Fits, DidBy, boundsOf}
 use Rattle.machine.specs.Inner.Fit.{Ready}
 use Rattle.machine.specs.declared.access.Bounds.{Bounds}
 use Rattle.machine.specs.declared.access.Bounds.the-variants.{Clear, Past}
-use Rattle.machine.specs.Answer.{Told, inReach, toldBounds}
+use Rattle.machine.specs.Answer.{Reach, inReach, toldBounds}
 use Rattle.rules.specs.Header.{Header}
 use Rattle.rules.specs.Strip.{Reads, Valid}
 use Rattle.rules.proofs.Onward.{declared}
@@ -45,7 +45,7 @@ not-clear e f = let z : _≡_ {A = ℕ} 0 1 = cc in omega arith
 
 reach-clear : (b : Bounds) → toldBounds b ≡ inReach → b ≡ Clear
 reach-clear Clear e = refl
-reach-clear (Past a) e = absurd (let z : TRAP ≡ DONE = ap (λ (x : Told). x .code) e in omega (arith, z))
+reach-clear (Past a) e = absurd (let z : TRAP ≡ DONE = ap (λ (x : Reach). x .code) e in omega (arith, z))
 
 -- a strip has one number of results
 results-once : {s : List ℕ} (v w : Valid s) (out : List ℕ) → Slots (v .header .results) out → Slots (w .header .results) out

@@ -37,7 +37,9 @@ module _ {s : List ℕ} {h : Header} (d : Declares s h) where
   parameter-kind j l =
       ap (λ (x : List ℕ). getD x (8 + j) 0) (d .bytes) ∙ getD-append-add (mark ++ versionBytes (h .version) ++ counts h) (map kindByte (kinds h) ++ d .body) j 0
       ∙ List·getD-append (map kindByte (kinds h)) (d .body) 0 j (omega (arith, length-map (kinds h) kindByte, all-kinds)) ∙ first (kinds h) j
-      (omega (arith, all-kinds)) ∙ ap kindByte (List·getD-append (locals h) (h .results) i32 j (omega (arith, length-append (h .parameters) (h .further))) ∙ List·getD-append (h .parameters) (h .further) i32 j l)
+      (omega (arith, all-kinds))
+      ∙ ap kindByte (List·getD-append (locals h) (h .results) i32 j (omega (arith, length-append (h .parameters) (h .further)))
+      ∙ List·getD-append (h .parameters) (h .further) i32 j l)
     where
       first : (ks : List Kind) (j : ℕ) → j < length ks → getD (map kindByte ks) j 0 ≡ kindByte (getD ks j i32)
       first [] j h = absurd (let z : ⊥ = omega arith in z)

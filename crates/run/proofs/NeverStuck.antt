@@ -20,7 +20,8 @@ use Rattle.run.specs.Run.{Arguments}
 -- the check answered 0; the strip declares this header, the arguments are of the form that it declares, and the memory is bytes, few or many
 module _ {s : List ℕ} {r : Answer} (checked : Checked s r) (passed : r .code ≡ DONE) {h : Header} (declares : Declares s h) {args : List ℕ} {vs : List Value}
     (given : Arguments (h .parameters) args vs) (mem : List ℕ) (m : bytes mem) where
-  -- after any number of steps: going on in a sound state, ended with results of the declared kinds and in range, or trapped at an access past the memory's end
+  -- after any number of steps: going on in a sound state, ended with results of the declared kinds and in range, or trapped at an access past the
+  -- memory's end
   pub checked-never-stuck : (k : ℕ) → Safe s h (begin h vs mem) (runs s h k (begin h vs mem))
   checked-never-stuck k = subst Reached same (λ a. never-stuck-from-begin v vs mem (record { kinds = a .kinds; range = a .range; bytes = m }) k) given
     where

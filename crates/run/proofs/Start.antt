@@ -48,7 +48,8 @@ value-slot (v ∷ vs) rest r (suc k) l =
     let more : slot * suc k ≡ slot + slot * k = omega arith in
     ap (λ (bs : List ℕ). part slot (slot * suc k) bs) (append-assoc (bytesOf v) (allBytes vs) rest)
     ∙ ap (λ (n : ℕ). take slot (drop n (bytesOf v ++ (allBytes vs ++ rest)))) more
-    ∙ ap (take slot) (sym (drop-drop (slot * k) slot (bytesOf v ++ (allBytes vs ++ rest))) ∙ ap (drop (slot * k)) (drop-at (bytesOf v) (allBytes vs ++ rest) slot (sixteen-bytes v (r .0) .long)))
+    ∙ ap (take slot) (sym (drop-drop (slot * k) slot (bytesOf v ++ (allBytes vs ++ rest)))
+    ∙ ap (drop (slot * k)) (drop-at (bytesOf v) (allBytes vs ++ rest) slot (sixteen-bytes v (r .0) .long)))
     ∙ value-slot vs rest (r .1) k (omega arith)
 
 zero-bytes : (k : Kind) → bytesOf (zeroOf k) ≡ replicate slot 0
@@ -69,7 +70,8 @@ zeros = replicate localBytes 0
 zeros-long : length zeros ≡ localBytes
 zeros-long = length-replicate {A = ℕ} localBytes 0
 
-module _ (h : Header) (args : List ℕ) (vs : List Value) (g : Arguments (h .parameters) args vs) (few : length (h .parameters) + length (h .further) ≤ localCount) where
+module _ (h : Header) (args : List ℕ) (vs : List Value) (g : Arguments (h .parameters) args vs)
+    (few : length (h .parameters) + length (h .further) ≤ localCount) where
   pub counted : length vs ≡ length (h .parameters)
   counted = sym (length-map vs kindOf) ∙ ap length (g .kinds)
 
@@ -87,14 +89,18 @@ module _ (h : Header) (args : List ℕ) (vs : List Value) (g : Arguments (h .par
   held k l = at (ltb k (length vs)) refl
     where
       at : (t : Bool) → ltb k (length vs) ≡ t → slotAt (stored zeros 0 args) k ≡ bytesOf (getD (vs ++ map zeroOf (h .further)) k (I32 0))
-      at true q = ap (λ (bs : List ℕ). slotAt bs k) front ∙ value-slot vs _ (g .range) k (ltb-true k (length vs) q) ∙ ap bytesOf (sym (List·getD-append vs (map zeroOf (h .further)) (I32 0) k (ltb-true k (length vs) q)))
+      at true q =
+          ap (λ (bs : List ℕ). slotAt bs k) front ∙ value-slot vs _ (g .range) k (ltb-true k (length vs) q)
+          ∙ ap bytesOf (sym (List·getD-append vs (map zeroOf (h .further)) (I32 0) k (ltb-true k (length vs) q)))
       at false q =
           let past = ltb-false k (length vs) q in let here : length vs + (k - length vs) ≡ k = omega arith in
           part-other zeros 0 args (omega (arith, args-long, zeros-long, counted)) slot (slot * k) (inr (omega (arith, args-long)))
           ∙ zero-slot localBytes k (omega (arith, all)) ∙ sym (further-zero (h .further) (k - length vs))
-          ∙ ap bytesOf (sym (getD-append-add vs (map zeroOf (h .further)) (k - length vs) (I32 0)) ∙ ap (λ (n : ℕ). getD (vs ++ map zeroOf (h .further)) n (I32 0)) here)
+          ∙ ap bytesOf
+          (sym (getD-append-add vs (map zeroOf (h .further)) (k - length vs) (I32 0)) ∙ ap (λ (n : ℕ). getD (vs ++ map zeroOf (h .further)) n (I32 0)) here)
 
-  pub start-holds : {s : List ℕ} (mem : List ℕ) → Bytes mem → Sound s h (begin h vs mem) → Rep (begin h vs mem .state) (replicate stackBytes 0) 0 (stored zeros 0 args) mem
+  pub start-holds : {s : List ℕ} (mem : List ℕ) → Bytes mem → Sound s h (begin h vs mem)
+      → Rep (begin h vs mem .state) (replicate stackBytes 0) 0 (stored zeros 0 args) mem
   start-holds mem b sound =
       record {
         stack-long = length-replicate {A = ℕ} stackBytes 0;

@@ -1,4 +1,5 @@
--- One instruction of a strip that keeps the rules, as the code does it: what is asked of the machine's two functions holds, and what they do is the standard's.
+-- One instruction of a strip that keeps the rules, as the code does it: what is asked of the machine's two functions holds, and what they do is the
+-- standard's.
 use Prim.Native.Nat.{ℕ, zero, suc, _<_}
 use mathlib.Core.Path.{_≡_, refl, ap, sym, _∙_, subst}
 use mathlib.Core.List.{List, [], _∷_}
@@ -21,7 +22,7 @@ use Rattle.machine.specs.Inner.Flat.{flat}
 use Rattle.machine.specs.Inner.Fit.{Fit, Fits, Indexed, Named, Ready, DidBy, boundsOf}
 use Rattle.machine.specs.declared.access.Bounds.{Bounds}
 use Rattle.machine.specs.declared.access.Bounds.the-variants.{Clear}
-use Rattle.machine.specs.Answer.{Told, inReach, outOfReach, toldBounds}
+use Rattle.machine.specs.Answer.{Reach, inReach, outOfReach, toldBounds}
 use Rattle.machine.proofs.Simulates.{simulates}
 use Rattle.machine.proofs.Fits.{slotted, enough, clear, past-end}
 use Rattle.machine.specs.Inner.Rep.{Rep}
@@ -106,4 +107,4 @@ module _ {v : ℕ} {s : List ℕ} {p n : ℕ} {i : Instr} {c : Code} (r : Reads 
     pub is-past : {a k : ℕ} → exec rs c i σ ≡ trap a k → (b : Bounds) → toldBounds b ≡ boundsOf c i st d (length m) → b ≡ Clear → ⊥
     is-past {a} {k} e b f g =
         let past : inReach ≡ outOfReach _ = ap toldBounds (sym g) ∙ f ∙ past-end rs i σ st d ls m rep a k c e .bounds in
-        let z : DONE ≡ TRAP = ap (λ (x : Told). x .code) past in omega (arith, z)
+        let z : DONE ≡ TRAP = ap (λ (x : Reach). x .code) past in omega (arith, z)

@@ -1,5 +1,5 @@
--- What the instruction that is fetched at a place of a sound state does: it is ordinary and goes on or traps, over the whole stack as over what is above the innermost label; or it is one
--- of `end`, blocks and branches.
+-- What the instruction that is fetched at a place of a sound state does: it is ordinary and goes on or traps, over the whole stack as over what is
+-- above the innermost label; or it is one of `end`, blocks and branches.
 use Prim.Native.Nat.{ℕ, _+_, _≤_}
 use mathlib.Core.Path.{_≡_, refl, ap, sym, _∙_, subst}
 use mathlib.Core.Bool.{true, false}

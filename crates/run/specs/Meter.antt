@@ -1,4 +1,5 @@
--- The standard's machine with a budget (01, "Numbers on the inspector's card"): the budget is asked before each instruction, a step is counted when it is done.
+-- The standard's machine with a budget (01, "Numbers on the inspector's card"): the budget is asked before each instruction, a step is counted when
+-- it is done.
 use Prim.Native.Nat.{ℕ, zero, suc}
 use mathlib.Core.List.{List}
 use Rattle.card.specs.Card.{DONE, TRAP, BUDGET}

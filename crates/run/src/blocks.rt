@@ -1,4 +1,5 @@
-// `end`, blocks and branches. Of each block that is open, three numbers are kept: how many values are under it, what a branch to it does, and where its body begins.
+// `end`, blocks and branches. Of each block that is open, three numbers are kept: how many values are under it, what a branch to it does, and where
+// its body begins.
 ghost use mathlib.Core.Path.{_≡_};
 ghost use mathlib.Core.Bool.{cond, true, not};
 ghost use mathlib.Core.List.{List};

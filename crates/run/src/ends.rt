@@ -1,5 +1,5 @@
-// The `end` of a block is looked for at the first branch out of it, and kept for the next one: a word for the place where a body begins and the place after its `end`.
-// A body has one word where it can stand, which another body may take from it.
+// The `end` of a block is looked for at the first branch out of it, and kept for the next one: a word for the place where a body begins and the place
+// after its `end`. A body has one word where it can stand, which another body may take from it.
 ghost use mathlib.Core.Path.{_≡_};
 ghost use mathlib.Core.Option.{some};
 ghost use lib.ListN.{getD};

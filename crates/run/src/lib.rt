@@ -20,7 +20,8 @@ pub(crate) struct Locals {
     pub count: usize,
 }
 
-// The blocks that are open: three numbers for each, the outermost first, and at last how many there are. This is a number of the array so that the loop over the instructions need not hold it.
+// The blocks that are open: three numbers for each, the outermost first, and at last how many there are. This is a number of the array so that the
+// loop over the instructions need not hold it.
 pub(crate) struct Labels {
     pub marks: [usize; MARKS],
 }

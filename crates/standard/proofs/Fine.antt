@@ -1,4 +1,5 @@
--- An instruction that is not stuck: it goes on with these kinds on the stack, or traps past the memory's end. Each pop takes what follows it as a function.
+-- An instruction that is not stuck: it goes on with these kinds on the stack, or traps past the memory's end. Each pop takes what follows it as a
+-- function.
 use Prim.Native.Nat.{ℕ, _+_, _^_, _≤_, _<_}
 use mathlib.Core.Path.{_≡_, refl, ap}
 use mathlib.Core.Bool.{Bool, true, false, cond}

@@ -1,4 +1,5 @@
--- Every place that a strip reaches in live code has a sound state, and where a rule is broken there, one that is stuck: what is said of all sound states there is said of some.
+-- Every place that a strip reaches in live code has a sound state, and where a rule is broken there, one that is stuck: what is said of all sound
+-- states there is said of some.
 use Prim.Native.Nat.{ℕ, _≤_}
 use mathlib.Core.Path.{_≡_, refl, ap}
 use mathlib.Core.Bool.{Bool, false}

@@ -1,4 +1,5 @@
--- ALIGNED ACCESS EARNS NO DIFFERENT ANSWER, of whole strips: two that differ in alignment exponents at most make the standard's machine do the same steps.
+-- ALIGNED ACCESS EARNS NO DIFFERENT ANSWER, of whole strips: two that differ in alignment exponents at most make the standard's machine do the same
+-- steps.
 use Prim.Native.Nat.{ℕ, zero, suc, _+_}
 use mathlib.Core.Path.{_≡_, refl, ap, sym, _∙_, subst}
 use mathlib.Core.Bool.{Bool, true, false, cond}

@@ -1,4 +1,5 @@
--- A strip of version 1 has no blocks: a run comes to every place that the strip reaches, or traps before it; and where the strip breaks 12 to 15 it is stuck there.
+-- A strip of version 1 has no blocks: a run comes to every place that the strip reaches, or traps before it; and where the strip breaks 12 to 15 it
+-- is stuck there.
 use Prim.Native.Nat.{ℕ, suc, _+_, _≤_, _<_}
 use mathlib.Core.Path.{_≡_, refl, ap, sym, _∙_, subst}
 use mathlib.Core.Bool.{false}

@@ -1,5 +1,5 @@
--- WHO MAY TRAP, of the standard's machine: in any state, of any strip, a step traps exactly where the instruction that stands there accesses bytes past the
--- memory's end.
+-- WHO MAY TRAP, of the standard's machine: in any state, of any strip, a step traps exactly where the instruction that stands there accesses bytes
+-- past the memory's end.
 use Prim.Native.Nat.{ℕ, zero, suc, _+_}
 use mathlib.Core.Path.{_≡_, refl, ap, ap₂, sym, _∙_}
 use mathlib.Core.Bool.{Bool, true, false, cond}

@@ -19,9 +19,11 @@ use Rattle.instr.proofs.Refuses.{stands-refuses}
 use Rattle.machine.specs.Value.{kindOf}
 use Rattle.machine.specs.Exec.{stuck, ofKinds, exec}
 use Rattle.rules.specs.Header.{Header, locals}
-use Rattle.rules.specs.Typing.{Frame, branchKinds, allValues, Target, Local, all-known, Types, ordinary, branches, may-branch, opens-block, opens-loop, closes, Names, Opens, block-opens, loop-opens, Branches, br-branches, if-branches, Ends, ends}
+use Rattle.rules.specs.Typing.{Frame, branchKinds, allValues, Target, Local, all-known, Types, ordinary, branches, may-branch, opens-block, opens-loop, closes}
+use Rattle.rules.specs.Typing.{Names, Opens, block-opens, loop-opens, Branches, br-branches, if-branches, Ends, ends}
 use Rattle.rules.specs.Strip.{Reads, Reaches}
-use Rattle.rules.specs.Breach.{Refused, At, Breach, long, stub, unmarked, other-version, parameters, further, results, kind, kinds-short, short, block-type, opcode, float, number, lane, align, local, nest, label, operand, deep, result, trailing}
+use Rattle.rules.specs.Breach.{Refused, At, Breach, long, stub, unmarked, other-version, parameters, further, results, kind, kinds-short, short, block-type}
+use Rattle.rules.specs.Breach.{opcode, float, number, lane, align, local, nest, label, operand, deep, result, trailing}
 use Rattle.rules.proofs.Headers.{declares-once}
 use Rattle.rules.proofs.Typings.{end-untyped, control-untyped}
 use Rattle.rules.proofs.Sorts.{names-control, end-nameless}
@@ -39,12 +41,14 @@ use Rattle.standard.proofs.Sticking.{no-branch, lacking-branch, IfStuck
 
 module _ {s : List ℕ} {h : Header} (c : Config) {f : Frame} {fs : List Frame} (live : Live (f ∷ fs)) (fits : Fits s h f fs c) (n : ℕ) (i : Instr) where
   -- it is stuck by itself
-  by-itself : {k : Code} → Reads (h .version) s (c .place) i k n → (k ≡ plain End → ⊥) → ((x : Control) → k ≡ control x → ⊥) → exec (h .results) k i (c .state) ≡ stuck → StuckHere s h c
+  by-itself : {k : Code} → Reads (h .version) s (c .place) i k n → (k ≡ plain End → ⊥) → ((x : Control) → k ≡ control x → ⊥)
+      → exec (h .results) k i (c .state) ≡ stuck → StuckHere s h c
   by-itself {k} r e x q = stuck-here (step-does h c r ∙ does-ordinary s h c n i k e x ∙ ap (after c n) q)
 
   undeclared : {k : Code} → Reads (h .version) s (c .place) i k n → Names k → ((j : Kind) → Local (locals h) (i .index) j → ⊥) → StuckHere s h c
   undeclared {k} r names never =
-      by-itself r (end-nameless names) (λ x. names-control names) (undeclared-stuck (h .results) i (c .state) (locals h) (fits .held) (f .values) (fits .stacked) k names never)
+      by-itself r (end-nameless names) (λ x. names-control names)
+      (undeclared-stuck (h .results) i (c .state) (locals h) (fits .held) (f .values) (fits .stacked) k names never)
 
   -- ---- blocks
 
@@ -72,13 +76,15 @@ module _ {s : List ℕ} {h : Header} (c : Config) {f : Frame} {fs : List Frame} 
       no-match e = never (ends (all-known e))
 
       by : {gs : List Frame} (ls : List Label) → Nested s h (f ∷ gs) ls → stepPlain h c n i End ls ≡ halted
-      by ls (outermost a b) = ap (after c n) (end-stuck (h .results) i (c .state) (locals h) (fits .held) (f .values) (fits .stacked) (λ e. no-match (e ∙ sym b)))
+      by ls (outermost a b) =
+          ap (after c n) (end-stuck (h .results) i (c .state) (locals h) (fits .held) (f .values) (fits .stacked) (λ e. no-match (e ∙ sym b)))
       by ls (inside {l = l} {ls = ls′} a b k d e w) = test (ofKinds (c .state .stack) (reverse (l .results))) refl
         where
           test : (t : Bool) → ofKinds (c .state .stack) (reverse (l .results)) ≡ t
               → cond t (going (record { place = c .place + n; state = withStack (c .state) (c .state .stack ++ l .under); labels = ls′ })) halted ≡ halted
           test true q =
-              absurd (no-match (sym (reverse-reverse (f .values)) ∙ ap reverse (sym (fits .stacked) ∙ fit-kinds (c .state .stack) (reverse (l .results)) q) ∙ reverse-reverse (l .results) ∙ b))
+              absurd (no-match (sym (reverse-reverse (f .values)) ∙ ap reverse (sym (fits .stacked) ∙ fit-kinds (c .state .stack) (reverse (l .results)) q)
+              ∙ reverse-reverse (l .results) ∙ b))
           test false q = refl
 
   -- ---- branches
@@ -110,20 +116,25 @@ module _ {s : List ℕ} {h : Header} (c : Config) {f : Frame} {fs : List Frame} 
       → (Branches k → (g : Frame) × Target (f ∷ fs) (i .index) g) → Never k → StuckHere s h c
   missing (plain p) r e names labels never =
       by-itself r e (λ x q. let z : _≡_ {A = ℕ} 0 1 = cc (q) in omega arith)
-      (untyped-stuck (h .results) i (c .state) (locals h) (fits .held) (f .values) (fits .stacked) (plain p) e names (λ below ins outs t q. never _ (ordinary {below = below} t (all-known q))))
+      (untyped-stuck (h .results) i (c .state) (locals h) (fits .held) (f .values) (fits .stacked) (plain p) e names
+      (λ below ins outs t q. never _ (ordinary {below = below} t (all-known q))))
   missing (control Block) r e names labels never = absurd (never _ opens-block)
   missing (control Loop) r e names labels never = absurd (never _ opens-loop)
   missing (control Br) r e names labels never =
       let g = labels br-branches in
-      stuck-here (step-does h c r ∙ lacking-branch s h (c .state) (f .values) (fits .stacked) (fits .nested) (g .1) (λ below q. never _ (branches {below = below} (g .1) (all-known q))))
+      stuck-here (step-does h c r
+      ∙ lacking-branch s h (c .state) (f .values) (fits .stacked) (fits .nested) (g .1)
+      (λ below q. never _ (branches {below = below} (g .1) (all-known q))))
   missing (control BrIf) r e names labels never = let g = labels if-branches in lacking-if r (g .0) (g .1) never
   missing (vector o) r e names labels never =
       by-itself r e (λ x q. let z : _≡_ {A = ℕ} 0 1 = cc (q) in omega arith)
-      (untyped-stuck (h .results) i (c .state) (locals h) (fits .held) (f .values) (fits .stacked) (vector o) e names (λ below ins outs t q. never _ (ordinary {below = below} t (all-known q))))
+      (untyped-stuck (h .results) i (c .state) (locals h) (fits .held) (f .values) (fits .stacked) (vector o) e names
+      (λ below ins outs t q. never _ (ordinary {below = below} t (all-known q))))
 
 -- ---- the stack is full
 
-many : {s : List ℕ} {h : Header} (c : Config) {f : Frame} {fs : List Frame} → Fits s h f fs c → length (c .state .stack) + countUnder (c .labels) ≡ length (allValues (f ∷ fs))
+many : {s : List ℕ} {h : Header} (c : Config) {f : Frame} {fs : List Frame} → Fits s h f fs c
+    → length (c .state .stack) + countUnder (c .labels) ≡ length (allValues (f ∷ fs))
 many c {f} {fs} fits =
     omega (
       arith,
@@ -134,7 +145,9 @@ many c {f} {fs} fits =
       length-append (allValues fs) (f .values),
     )
 
-too-deep : {s : List ℕ} {h : Header} (c : Config) {f : Frame} {fs : List Frame} → Live (f ∷ fs) → Fits s h f fs c → (n : ℕ) (i : Instr) {k : Code} {fs′ : List Frame} → Reads (h .version) s (c .place) i k n → length (allValues (f ∷ fs)) ≤ stackLimit → Types (locals h) i k (f ∷ fs) fs′
+too-deep : {s : List ℕ} {h : Header} (c : Config) {f : Frame} {fs : List Frame} → Live (f ∷ fs) → Fits s h f fs c
+    → (n : ℕ) (i : Instr) {k : Code} {fs′ : List Frame} → Reads (h .version) s (c .place) i k n → length (allValues (f ∷ fs)) ≤ stackLimit
+    → Types (locals h) i k (f ∷ fs) fs′
     → stackLimit < length (allValues fs′) → StuckHere s h c
 too-deep {s} {h} c {fs = fs} live fits n i {k} r few (ordinary {ins = ins} {outs} {below} {f = f} t x) g =
     stuck-here
@@ -150,7 +163,8 @@ too-deep {s} {h} c {fs = fs} live fits n i {k} r few (ordinary {ins = ins} {outs
       length-append below ins,
       length-append (allValues fs) (f .values),
     )))
-too-deep c {fs = fs} live fits n i r few (branches {f = f} l x) g = absurd (omega (arith, few, g, length-append (allValues fs) [], length-append (allValues fs) (f .values)))
+too-deep c {fs = fs} live fits n i r few (branches {f = f} l x) g =
+    absurd (omega (arith, few, g, length-append (allValues fs) [], length-append (allValues fs) (f .values)))
 too-deep c {fs = fs} live fits n i r few (may-branch {below = below} {f = f} {g = g′} l x) g =
     absurd (omega (
       arith,
@@ -188,7 +202,9 @@ record Halts (s : List ℕ) (p : ℕ) : Type 0 where
 
 -- in the frames with which the place is reached
 halts : {s : List ℕ} {h : Header} {p : ℕ} {fs : List Frame} {i : Instr} {k : Code} (at : At s h p fs i k)
-    → ((c : Config) (f : Frame) (gs : List Frame) → fs ≡ f ∷ gs → Reads (h .version) s (c .place) i k (at .size) → Live (f ∷ gs) → Fits s h f gs c → StuckHere s h c) → Halts s p
+    → ((c : Config) (f : Frame) (gs : List Frame) → fs ≡ f ∷ gs → Reads (h .version) s (c .place) i k (at .size) → Live (f ∷ gs) → Fits s h f gs c
+    → StuckHere s h c)
+    → Halts s p
 halts {s} {h} {p} {fs} {i} {k} at no-step =
     record {
       header = h;
@@ -218,7 +234,8 @@ breach-halts (number f) lo hi = absurd (omega (arith, lo))
 breach-halts (lane f) lo hi = absurd (omega (arith, lo))
 breach-halts (align f) lo hi = absurd (omega (arith, lo))
 breach-halts (local {i = i} at names never) lo hi = halts at (λ c f gs e r live fits. undeclared c live fits (at .size) i r names never)
-breach-halts (nest {i = i} at o g) lo hi = halts at (λ c f gs e r live fits. too-nested c live fits (at .size) i r o (subst (λ (x : List Frame). nestLimit < length x) e g))
+breach-halts (nest {i = i} at o g) lo hi =
+    halts at (λ c f gs e r live fits. too-nested c live fits (at .size) i r o (subst (λ (x : List Frame). nestLimit < length x) e g))
 breach-halts (label {i = i} at b never) lo hi =
     halts at (λ c f gs e r live fits. no-label c live fits (at .size) i r b (subst (λ (x : List Frame). (g : Frame) → Target x (i .index) g → ⊥) e never))
 breach-halts (operand {h} {i = i} {c = k} at other names labels never) lo hi =
@@ -229,11 +246,13 @@ breach-halts (deep {h} {fs = fs} {fs′ = fs′} {i = i} {c = k} at t g) lo hi =
     halts at (λ c f gs e r live fits.
     too-deep c live fits (at .size) i r (subst (λ (x : List Frame). length (allValues x) ≤ stackLimit) e (reached-within (at .reached) .values))
     (subst (λ (x : List Frame). Types (locals h) i k x fs′) e t) g)
-breach-halts (result {i = i} at never) lo hi = halts at (λ c f gs e r live fits. other-results c live fits (at .size) i r (subst (λ (x : List Frame). Ends x → ⊥) e never))
+breach-halts (result {i = i} at never) lo hi =
+    halts at (λ c f gs e r live fits. other-results c live fits (at .size) i r (subst (λ (x : List Frame). Ends x → ⊥) e never))
 breach-halts (trailing at m g) lo hi = absurd (hi refl)
 
 -- from any sound state at the place
-pub stuck-exact : {s : List ℕ} {h : Header} {code p : ℕ} → Breach s code p → LOCAL ≤ code → (code ≡ TRAILING → ⊥) → (c : Config) → c .place ≡ p → Sound s h c → StuckHere s h c
+pub stuck-exact : {s : List ℕ} {h : Header} {code p : ℕ} → Breach s code p → LOCAL ≤ code → (code ≡ TRAILING → ⊥) → (c : Config) → c .place ≡ p
+    → Sound s h c → StuckHere s h c
 stuck-exact {s} {h} b lo hi c here sound =
     let w = breach-halts b lo hi in
     let same : w .header ≡ h = declares-once s (w .header) h (declared (w .reached)) (declared (sound .reached)) in

@@ -1,4 +1,5 @@
--- Typed by the rules, fine in the standard's machine, which reads no rule: each instruction by its signature, or by the kind of a local or of the top value.
+-- Typed by the rules, fine in the standard's machine, which reads no rule: each instruction by its signature, or by the kind of a local or of the top
+-- value.
 use Prim.Native.Nat.{ℕ, _+_, _^_, _≤_, _<_}
 use mathlib.Core.Path.{_≡_, refl, ap, ap₂, sym, _∙_, subst}
 use mathlib.Core.List.{List, [], _∷_, _++_, map, reverse}

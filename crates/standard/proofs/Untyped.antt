@@ -1,5 +1,5 @@
--- Not typed by the rules, stuck in the standard's machine, which reads no rule: a local that is not declared, an operand that is not there, other values than
--- the results at `end`.
+-- Not typed by the rules, stuck in the standard's machine, which reads no rule: a local that is not declared, an operand that is not there, other
+-- values than the results at `end`.
 use Prim.Native.Nat.{ℕ, _<_}
 use mathlib.Core.Path.{_≡_, refl, ap, sym, _∙_, subst}
 use mathlib.Core.List.{List, [], _∷_, _++_, map, reverse, reverse-append, reverse-reverse}

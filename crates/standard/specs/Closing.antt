@@ -1,5 +1,5 @@
--- The `end` that closes a block, found from the bytes (Core 2.0, 5.4.1: `block` and `loop` stand before an `end` of their own). It is looked for at a branch and not before, so
--- that what stands after a block is not asked until a branch passes over it.
+-- The `end` that closes a block, found from the bytes (Core 2.0, 5.4.1: `block` and `loop` stand before an `end` of their own). It is looked for at a
+-- branch and not before, so that what stands after a block is not asked until a branch passes over it.
 use Prim.Native.Nat.{ℕ, zero, suc, _+_}
 use mathlib.Core.Path.{_≡_}
 use mathlib.Core.Bool.{Bool, true, false, cond}
@@ -42,7 +42,8 @@ role (control Br) = neither
 role (control BrIf) = neither
 role (vector o) = neither
 
--- the block whose body begins at p, or goes on there, is closed by the `end` before q; close, below, finds that and nothing else (proofs/Closings, close-exact, close-none)
+-- the block whose body begins at p, or goes on there, is closed by the `end` before q; close, below, finds that and nothing else (proofs/Closings,
+-- close-exact, close-none)
 pub data Closes (ver : ℕ) (s : List ℕ) : ℕ → ℕ → Type 0 where
   closed : {p n : ℕ} {i : Instr} {c : Code} → Reads ver s p i c n → role c ≡ closer → Closes ver s p (p + n)
   goes-on : {p q n : ℕ} {i : Instr} {c : Code} → Reads ver s p i c n → role c ≡ neither → Closes ver s (p + n) q → Closes ver s p q

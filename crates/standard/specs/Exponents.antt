@@ -10,7 +10,8 @@ use Rattle.rules.specs.Header.{Header, Declares}
 use Rattle.rules.specs.Typing.{Frame}
 use Rattle.rules.specs.Strip.{Reads, Reaches}
 
--- t is as long as s and has its header; where s reaches an instruction, t has the same one with an exponent of its own, which is allowed (Reads, Stands)
+-- t is as long as s and has its header; where s reaches an instruction, t has the same one with an exponent of its own, which is allowed (Reads,
+-- Stands)
 pub record Realigned (s t : List ℕ) (h : Header) : Type 0 where
   pub declares : Declares t h
   pub long : length t ≡ length s

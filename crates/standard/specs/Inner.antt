@@ -1,5 +1,5 @@
--- Inner: what only contracts inside the project cite. A block that is closed with so much room for blocks inside it: what a search that recurses into them needs
--- (01, "matching a block with its end recurses on the remaining bytes, with nesting room that falls").
+-- Inner: what only contracts inside the project cite. A block that is closed with so much room for blocks inside it: what a search that recurses into
+-- them needs (01, "matching a block with its end recurses on the remaining bytes, with nesting room that falls").
 use Prim.Native.Nat.{ℕ, suc, _+_}
 use mathlib.Core.Path.{_≡_}
 use mathlib.Core.List.{List}

@@ -1,4 +1,5 @@
--- What demand 3 says of the standard's machine: a strip that keeps the rules never gets it stuck, and one that breaks 12 to 15, 17 or 18 gets it stuck there.
+-- What demand 3 says of the standard's machine: a strip that keeps the rules never gets it stuck, and one that breaks 12 to 15, 17 or 18 gets it
+-- stuck there.
 use Prim.Native.Nat.{ℕ, _+_, _^_, _<_}
 use mathlib.Core.Path.{_≡_}
 use mathlib.Core.Bool.{false}
@@ -64,9 +65,9 @@ pub record Strays (s : List ℕ) (h : Header) (c : Config) (a n : ℕ) : Type 0 
   pub accesses : Accesses instr code (c .state .stack) a n
   pub past : length (c .state .memory) < a + n
 
--- with so many labels and this stack, its top first, the instruction i of this code is one at which a strip is left with vs, the first of them lowest on the
--- stack: an `end` that closes no block, over vs alone; or a branch to the number after those of all the labels, with vs on top (02, C-13: "at the outermost that
--- is DONE"; Core 2.0, 4.4.8), which br_if takes where the number that it pops is not 0
+-- with so many labels and this stack, its top first, the instruction i of this code is one at which a strip is left with vs, the first of them lowest
+-- on the stack: an `end` that closes no block, over vs alone; or a branch to the number after those of all the labels, with vs on top (02, C-13: "at
+-- the outermost that is DONE"; Core 2.0, 4.4.8), which br_if takes where the number that it pops is not 0
 pub data Exits (i : Instr) : Code → ℕ → List Value → List Value → Type 0 where
   by-end : {vs : List Value} → Exits i (plain End) 0 (reverse vs) vs
   by-br : {vs : List Value} (below : List Value) → Exits i (control Br) (i .index) (reverse vs ++ below) vs
@@ -82,8 +83,8 @@ pub record Finishes (s : List ℕ) (h : Header) (c : Config) (vs : List Value) (
   pub kinds : map kindOf vs ≡ h .results
   pub memory : m ≡ c .state .memory
 
--- from b on: going on in a sound state, ended with results of the declared kinds and in range, where the strip is left, or trapped at an access past the end;
--- these two in a sound state that the machine came to; the memory is as long as it was
+-- from b on: going on in a sound state, ended with results of the declared kinds and in range, where the strip is left, or trapped at an access past
+-- the end; these two in a sound state that the machine came to; the memory is as long as it was
 pub data Safe (s : List ℕ) (h : Header) (b : Config) : Stage → Type 0 where
   safe-going : {c : Config} → Sound s h c → length (c .state .memory) ≡ length (b .state .memory) → Safe s h b (going c)
   safe-ended : (j : ℕ) {c : Config} {vs : List Value} {mem : List ℕ} → runs s h j b ≡ going c → Sound s h c → Finishes s h c vs mem

@@ -1,5 +1,6 @@
--- The standard's machine over a whole strip (Core 2.0, 4.4): it reads an instruction, does it, and goes on after it, or where a branch leads (4.4.8). It reads no rule; what it
--- has of the header is the version, where the instructions start, the kinds of the locals at the beginning and those of the results at the end.
+-- The standard's machine over a whole strip (Core 2.0, 4.4): it reads an instruction, does it, and goes on after it, or where a branch leads (4.4.8).
+-- It reads no rule; what it has of the header is the version, where the instructions start, the kinds of the locals at the beginning and those of the
+-- results at the end.
 use Prim.Native.Nat.{ℕ, zero, suc, _+_}
 use mathlib.Core.List.{List, [], _∷_, _++_, map, reverse}
 use mathlib.Core.Bool.{Bool, true, false, cond}
@@ -49,7 +50,8 @@ countUnder (l ∷ ls) = length (l .under) + countUnder ls
 
 -- ---- what pops and pushes above the innermost label, n bytes long
 
--- where more operands would stand in all than the stack holds, it is full; what `exec` asks of those above the label is no more (proofs/Full, full-once)
+-- where more operands would stand in all than the stack holds, it is full; what `exec` asks of those above the label is no more (proofs/Full,
+-- full-once)
 abbrev pub after : Config → ℕ → Outcome → Stage
 after c n (goes σ) = cond (ltb stackLimit (length (σ .stack) + countUnder (c .labels))) halted (going (record { place = c .place + n; state = σ; labels = c .labels }))
 after c n (done vs) = ended vs (c .state .memory)

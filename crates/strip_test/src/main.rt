@@ -1,7 +1,7 @@
-// Strips checked, run, rewritten and listed, as the lines of data/cases.txt say. One line each: the name, of a run its budget, then code, place and steps (of a rewriting or a
-// listing the length); after them the results and each part of the memory that has changed, or the output; the text of a listing stands in the lines below. stdout was worked
-// out from documents 01, 02 and 002 and Core's table of opcodes by a check, a run, a rewriter and a lister written for that in another language, with no use of this code, before
-// this was first run.
+// Strips checked, run, rewritten and listed, as the lines of data/cases.txt say. One line each: the name, of a run its budget, then code, place and
+// steps (of a rewriting or a listing the length); after them the results and each part of the memory that has changed, or the output; the text of a
+// listing stands in the lines below. stdout was worked out from documents 01, 02 and 002 and Core's table of opcodes by a check, a run, a rewriter
+// and a lister written for that in another language, with no use of this code, before this was first run.
 mod list;
 mod text;
 

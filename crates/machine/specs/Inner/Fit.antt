@@ -1,4 +1,5 @@
--- Inner: what the code asks of an instruction before it does it, and what it answers. Proofs show that the standard's machine going on implies the first.
+-- Inner: what the code asks of an instruction before it does it, and what it answers. Proofs show that the standard's machine going on implies the
+-- first.
 use Prim.Native.Nat.{ℕ, _+_, _-_, _≤_, _<_, max}
 use mathlib.Core.Path.{_≡_}
 use mathlib.Core.Bool.{cond}
@@ -15,7 +16,7 @@ use Rattle.opcode.specs.Number.{rowOf}
 use Rattle.opcode.specs.Immediate.{moved}
 use Rattle.instr.specs.declared.Instr.{Instr}
 use Rattle.machine.specs.Inner.Flat.{Flat, flat, topOf, reach}
-use Rattle.machine.specs.Answer.{Told, inReach, outOfReach}
+use Rattle.machine.specs.Answer.{Reach, inReach, outOfReach}
 
 -- how many values are taken, and left
 abbrev pub takenByPlain : Plain → ℕ
@@ -100,10 +101,10 @@ pub record Fits (id : ℕ) (st : List ℕ) (d : ℕ) : Type 0 where
   pub fit : Fit code st d
 
 -- n bytes from an address on in a memory of this length: in reach, or the first address that is not
-abbrev pub boundsAt : ℕ → ℕ → ℕ → Told
+abbrev pub boundsAt : ℕ → ℕ → ℕ → Reach
 boundsAt at n len = cond (leb (at + n) len) inReach (outOfReach (max at len))
 
-abbrev pub boundsOp : Op → Instr → List ℕ → ℕ → ℕ → Told
+abbrev pub boundsOp : Op → Instr → List ℕ → ℕ → ℕ → Reach
 boundsOp (Load l) i st d len = boundsAt (reach i (topOf st d 1)) (moved (Load l)) len
 boundsOp (LoadLane w) i st d len = boundsAt (reach i (topOf st d 2)) (moved (LoadLane w)) len
 boundsOp Store i st d len = boundsAt (reach i (topOf st d 2)) (moved Store) len
@@ -119,7 +120,7 @@ boundsOp Bitselect i st d len = inReach
 boundsOp (Test o) i st d len = inReach
 boundsOp (Shift o) i st d len = inReach
 
-abbrev pub boundsOf : Code → Instr → List ℕ → ℕ → ℕ → Told
+abbrev pub boundsOf : Code → Instr → List ℕ → ℕ → ℕ → Reach
 boundsOf (plain p) i st d len = inReach
 boundsOf (control k) i st d len = inReach
 boundsOf (vector o) i st d len = boundsOp o i st d len

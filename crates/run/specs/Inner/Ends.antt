@@ -1,4 +1,5 @@
--- Inner: the ends of blocks that are kept for the run. A word holds the place where a body begins, times the file's limit, and the place after its `end`.
+-- Inner: the ends of blocks that are kept for the run. A word holds the place where a body begins, times the file's limit, and the place after its
+-- `end`.
 use Prim.Native.Nat.{ℕ, _/_, _%_, _<_}
 use mathlib.Core.Path.{_≡_}
 use mathlib.Core.List.{List}

@@ -519,10 +519,12 @@ exec-spec = tie.close (
     sub-result-4 (λ c κs. search needs) (λ c. search needs) load-requires (λ c κs. search needs) (λ c. search needs) load-lane-requires
     sub-result-5 store-requires sub-result-6 (λ c κs. search needs) (λ c. search needs) store-lane-requires sub-result-7 put-requires
     add-result-4 shuffle-requires sub-result-8 splat-requires extract-requires replace-requires sub-result-9 unary-requires binary-requires
-    sub-result-10 bitselect-requires sub-result-11 test-requires shift-requires sub-result-12 eqz-requires lt-u-requires sub-result-13 returns (λ c. search needs)
+    sub-result-10 bitselect-requires sub-result-11 test-requires shift-requires sub-result-12 eqz-requires lt-u-requires sub-result-13 returns
+    (λ c. search needs)
     (λ c. search needs) returns-2 (λ c. search needs) (λ c. search needs) returns-3 (λ c. search needs) (λ c. search needs) returns-4
     (λ c. search needs) returns-5 (λ c. search needs) returns-6 (λ c. search needs) returns-7 (λ c. search needs) returns-8
     (λ c. search needs) (λ c. search needs) returns-9 (λ c. search needs) (λ c. search needs) returns-10 (λ c. search needs)
     (λ c. search needs) returns-11 (λ c. search needs) (λ c. search needs) returns-12 (λ c. search needs) returns-13 (λ c. search needs)
     returns-14 (λ c. search needs) returns-15 (λ c. search needs) returns-16 (λ c. search needs) returns-17 (λ c. search needs) returns-18
-    (λ c. search needs) returns-19 (λ c. search needs) returns-20 (λ c. search needs) returns-21 (λ c. search needs) returns-22 (λ c. search needs) returns-23 (λ c. search needs) returns-24 returns-25)
+    (λ c. search needs) returns-19 (λ c. search needs) returns-20 (λ c. search needs) returns-21 (λ c. search needs) returns-22 (λ c. search needs)
+    returns-23 (λ c. search needs) returns-24 returns-25)

@@ -26,7 +26,10 @@ shared-slice-read-used c =
     omega (arith, kind-inside (a .strip .now) (a .args .now) (a .count) (b .pre), c .before .loop-test .taken)
 
 add-zero-between : tie.Need-add-zero-between Inv-loop μ-loop
-add-zero-between c = omega (arith, c .used .ensures, used-most (getD (c .before .before .before .before .before .before .args .strip .now) (8 + c .before .before .before .loop .j) 0), c .before .before .before .loop .inv .0, c .before .before .before .loop .inv .1)
+add-zero-between c =
+    let at-loop = c .before .before .before in
+    let start = at-loop .before .before .before in
+    omega (arith, c .used .ensures, used-most (getD (start .args .strip .now) (8 + at-loop .loop .j) 0), at-loop .loop .inv .0, at-loop .loop .inv .1)
 
 zero-between-requires : tie.Need-zero-between-requires Inv-loop μ-loop
 zero-between-requires c κs =
@@ -35,16 +38,23 @@ zero-between-requires c κs =
 
 returns : tie.Need-returns Inv-loop μ-loop
 returns c =
-    let b = c .before .before .before .before .before .before .before .before in let a = b .args in
-    not-formed (a .strip .now) (a .args .now) (a .count) (b .pre) (c .before .before .before .before .before .loop .j) (c .before .before .before .before .loop-test .taken)
-    (asked-no (a .strip .now) (a .args .now) (c .before .before .before .before .before .loop .j) _ (c .before .before .used .ensures) (c .before .zero-between .ensures) (not-true _ (c .if1 .taken)))
+    let at-loop-test = c .before .before .before .before in
+    let at-loop = at-loop-test .before in
+    let b = at-loop .before .before .before in
+    let a = b .args in
+    not-formed (a .strip .now) (a .args .now) (a .count) (b .pre) (at-loop .loop .j) (at-loop-test .loop-test .taken)
+    (asked-no (a .strip .now) (a .args .now) (at-loop .loop .j) _ (c .before .before .used .ensures) (c .before .zero-between .ensures)
+    (not-true _ (c .if1 .taken)))
 
 loop-again : tie.Need-loop-again Inv-loop μ-loop
 loop-again c =
-    let b = c .before .before .before .before .before .before .before .before in let a = b .args in let l = c .before .before .before .before .before .loop in (
+    let at-loop-test = c .before .before .before .before in
+    let at-loop = at-loop-test .before in
+    let b = at-loop .before .before .before in
+    let a = b .args in let l = at-loop .loop in (
       omega arith,
       l .inv .1,
-      upto-more (a .strip .now) (a .args .now) (a .count) (b .pre) (l .j) (c .before .before .before .before .loop-test .taken) (l .inv .2)
+      upto-more (a .strip .now) (a .args .now) (a .count) (b .pre) (l .j) (at-loop-test .loop-test .taken) (l .inv .2)
           (asked-yes (a .strip .now) (a .args .now) (l .j) _ (c .before .before .used .ensures) (c .before .zero-between .ensures) (not-false _ (c .if1 .left))),
     )
 

@@ -17,7 +17,9 @@ loop-holds : tie.Need-loop-holds Inv-loop μ-loop
 loop-holds c = (omega arith, zeros-none (c .args .bytes .now) (c .args .from))
 
 returns : tie.Need-returns Inv-loop μ-loop
-returns c = no (zeros-not (c .before .before .before .before .args .bytes .now) (c .before .before .before .loop .k) (c .before .before .before .loop .inv .0) (c .before .before .loop-test .taken) (c .if1 .taken))
+returns c =
+    no (zeros-not (c .before .before .before .before .args .bytes .now) (c .before .before .before .loop .k) (c .before .before .before .loop .inv .0)
+    (c .before .before .loop-test .taken) (c .if1 .taken))
 
 loop-again : tie.Need-loop-again Inv-loop μ-loop
 loop-again c = (omega arith, zeros-more (c .before .before .before .before .args .bytes .now) (c .before .before .before .loop .inv .1) (c .if1 .left))

@@ -1,4 +1,5 @@
--- The invariant is one record for each configuration that the arrays may hold (`Driving.Drives`), and that the ends kept are true; each need of the loop cites one law.
+-- The invariant is one record for each configuration that the arrays may hold (`Driving.Drives`), and that the ends kept are true; each need of the
+-- loop cites one law.
 use borrow.Author.Needs.{needs}
 use native.Mathlib.Nat.{pos-of-ne-zero}
 use native.Mathlib.Omega.{arith}
