@@ -11,9 +11,10 @@ use Rattle.rules.specs.Header.{Header, locals}
 use Rattle.rules.specs.Typing.{Frame, opened, holding, branchKinds, Target, innermost, outer}
 use Rattle.rules.specs.Strip.{Reaches, Valid}
 use Rattle.standard.specs.Closing.{close}
-use Rattle.standard.specs.Standard.{Label, Config, Stage, going, ended, halted, withStack, along, resume, jump, branch, runs}
+use Rattle.standard.specs.Standard.{Label, Config, Stage, going, ended, halted, withStack, along, resume, jump, branch}
 use Rattle.standard.specs.Safety.{Live, Nested, outermost, inside, Fits, Sound, Finishes, Safe, safe-going, safe-ended}
 use Rattle.standard.proofs.ValueKinds.{reverse-kinds, reverse-range, kinds-fit}
+use Rattle.standard.proofs.Along.{no-steps}
 use Rattle.standard.proofs.Nestings.{nested-same, no-target}
 use Rattle.standard.proofs.Unwinding.{finds-end}
 use Rattle.standard.proofs.Tops.{kinds-append, range-take, range-append, top-kinds}
@@ -55,12 +56,11 @@ module _ {s : List ℕ} (v : Valid s) (b : Config) (sound : Sound s (v .header) 
   out : map kindOf (take (length (h .results)) (σ .stack)) ≡ reverse (h .results)
       → Finishing s h b (along (h .results) (σ .stack) (λ vs. ended (reverse vs) (σ .memory)))
       → Good (along (h .results) (σ .stack) (λ vs. ended (reverse vs) (σ .memory)))
-  unfolding runs
   out top finishes =
       let vs = take (length (h .results)) (σ .stack) in
       let all = goes-along (h .results) (σ .stack) (λ vs. ended (reverse vs) (σ .memory)) top in
       subst Good (sym all)
-      (safe-ended 0 refl sound (finishes (reverse vs) (σ .memory) all) (reverse-kinds vs ∙ ap reverse top ∙ reverse-reverse (h .results))
+      (safe-ended 0 (no-steps s h b) sound (finishes (reverse vs) (σ .memory) all) (reverse-kinds vs ∙ ap reverse top ∙ reverse-reverse (h .results))
       (reverse-range vs (range-take (length (h .results)) (σ .stack) range)) long)
 
   module _ (f g : Frame) (fs : List Frame) (l : Label) (ls : List Label) (live : Live (g ∷ fs)) (a : l .loop ≡ f .loop) (r : l .results ≡ f .results)

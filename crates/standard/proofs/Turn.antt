@@ -18,11 +18,12 @@ use Rattle.rules.specs.Header.{Header, locals}
 use Rattle.rules.specs.Typing.{Frame, opened, holding, branchKinds, allValues, Target, Typed, Types, ordinary, branches, may-branch, opens-block, opens-loop, closes, Ends, ends}
 use Rattle.rules.specs.Strip.{Reads, Within, Reaches, past, Valid}
 use Rattle.rules.proofs.Typings.{end-untyped, control-untyped}
-use Rattle.standard.specs.Standard.{Label, Config, Stage, going, ended, trapped, halted, withStack, countUnder, after, enter, branch, branchIf, stepPlain, stepCode, step, runs}
+use Rattle.standard.specs.Standard.{Label, Config, Stage, going, ended, trapped, halted, withStack, countUnder, after, enter, branch, branchIf, stepPlain, stepCode, step}
 use Rattle.standard.specs.Safety.{Live, Nested, outermost, inside, Fits, Sound, Strays, Finishes, Safe, safe-going, safe-ended, safe-trapped}
 use Rattle.standard.proofs.ValueKinds.{reverse-kinds, reverse-range, kinds-fit}
 use Rattle.standard.proofs.Fine.{Kept, Fine, on, past as trapped-past}
 use Rattle.standard.proofs.Typeds.{Ranged, typed-fine}
+use Rattle.standard.proofs.Along.{no-steps}
 use Rattle.standard.proofs.Steps.{step-does, does-ordinary, apt}
 use Rattle.standard.proofs.Straying.{strays-there, reads-strays}
 use Rattle.standard.proofs.Nestings.{nested-many, nested-under, nested-same, live-has}
@@ -79,12 +80,11 @@ module _ {s : List ℕ} {h : Header} {f : Frame} {fs : List Frame} (c : Config) 
   pub fine-safe : {ks : List Kind} {n : ℕ} {i : Instr} {k : Code} {o : Outcome} → Reads (h .version) s (c .place) i k n
       → exec (h .results) k i (c .state) ≡ o → Live (f ∷ fs) → Reaches s h (c .place) (f ∷ fs)
       → Within (holding f ks ∷ fs) → Reaches s h (c .place + n) (holding f ks ∷ fs) → Fine (c .state) (reverse ks) o → Safe s h c (after c n o)
-  unfolding runs
   fine-safe {ks} {n} r e live here w reached (on {τ} k) =
       subst (Safe s h c) (sym (goes-after n w k))
       (safe-going (record { frame = holding f ks; outer = fs; reached = reached; live = live; fits = kept-fits (c .place + n) k }) (k .long))
   fine-safe r e live here w reached (trapped-past l) =
-      safe-trapped 0 refl (record { frame = f; outer = fs; reached = here; live = live; fits = fits }) refl (strays-there h c r e)
+      safe-trapped 0 (no-steps s h c) (record { frame = f; outer = fs; reached = here; live = live; fits = fits }) refl (strays-there h c r e)
 
 module _ {s : List ℕ} (v : Valid s) (c : Config) where
   abbrev h : Header
@@ -192,7 +192,6 @@ module _ {s : List ℕ} (v : Valid s) (c : Config) where
   -- the strip's `end`
   ended-safe : (n : ℕ) (i : Instr) {f : Frame} → Fits s h f [] c → Live (f ∷ []) → Reaches s h (c .place) (f ∷ []) → Ends (f ∷ [])
       → Finishing s h c (stepPlain h c n i End (c .labels)) → Good (stepPlain h c n i End (c .labels))
-  unfolding runs
   ended-safe n i {f} fits live reached (ends x) finishes = by (c .labels) (fits .nested) finishes
     where
       by : (ls : List Label) → Nested s h (f ∷ []) ls → Finishing s h c (stepPlain h c n i End ls) → Good (stepPlain h c n i End ls)
@@ -201,7 +200,7 @@ module _ {s : List ℕ} (v : Valid s) (c : Config) where
           let all : after c n (exec (h .results) (plain End) i (c .state)) ≡ ended (reverse (c .state .stack)) (c .state .memory) =
           ap (λ (t : Bool). after c n (cond t (done (reverse (c .state .stack))) stuck)) (kinds-fit (c .state .stack) (reverse (h .results)) kinds) in
           subst Good (sym all)
-          (safe-ended 0 refl (here fits live reached) (q (reverse (c .state .stack)) (c .state .memory) all)
+          (safe-ended 0 (no-steps s h c) (here fits live reached) (q (reverse (c .state .stack)) (c .state .memory) all)
           (reverse-kinds (c .state .stack) ∙ ap reverse kinds ∙ reverse-reverse (h .results)) (reverse-range (c .state .stack) (fits .stack-range)) refl)
 
   next-safe : {f : Frame} {fs : List Frame} → Fits s h f fs c → Live (f ∷ fs) → Reaches s h (c .place) (f ∷ fs) → Next s h (c .place) (f ∷ fs)
