@@ -1,8 +1,8 @@
 // One instruction: what the standard's machine does, over flat bytes.
 mod access;
-mod bytes;
 mod instruction;
 mod slot;
+mod span;
 mod step;
 mod vector;
 

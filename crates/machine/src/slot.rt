@@ -5,7 +5,7 @@ ghost use lib.ListN.{length};
 ghost use Rattle.limits.specs.Limits.{stackLimit, stackBytes};
 ghost use Rattle.operation.specs.Vector.{le};
 ghost use Rattle.machine.specs.Inner.Flat.{HasOperands, slotAt, putSlot, topOf, low32, low64};
-use crate::bytes;
+use crate::span;
 use lane::V128;
 use lane::i32x4;
 use lane::i64x2;
@@ -14,14 +14,14 @@ pub(crate) fn get(s: &[u8], n: usize) -> V128
     requires { ⌜ (n < stackLimit) × (16 * n + 16 ≤ length (now s)) ⌝ }
     ensures { λ r. ⌜ r .bytes ≡ slotAt (now (s .entry)) n ⌝ }
 {
-    bytes::read(s, 16 * n, 16)
+    span::read(s, 16 * n, 16)
 }
 
 pub(crate) fn put(s: &mut [u8], n: usize, v: V128)
     requires { ⌜ (n < stackLimit) × (16 * n + 16 ≤ length (now s)) ⌝ }
     ensures { λ r. ⌜ now (s .exit) ≡ putSlot (now (s .entry)) n (v .bytes) ⌝ }
 {
-    bytes::write(s, 16 * n, v, 16)
+    span::write(s, 16 * n, v, 16)
 }
 
 // Of the values on the stack, the j-th from the top.

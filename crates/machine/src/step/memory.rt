@@ -10,8 +10,8 @@ ghost use Rattle.opcode.specs.Table.{does};
 ghost use Rattle.opcode.specs.Number.{rowOf};
 ghost use Rattle.machine.specs.Memory.{part, padded, stored};
 ghost use Rattle.machine.specs.Inner.Flat.{putSlot, topOf, low32};
-use crate::bytes;
 use crate::slot;
+use crate::span;
 use crate::vector;
 
 // The address in a slot, and the offset.
@@ -27,7 +27,7 @@ pub(crate) fn load(id: u32, offset: u32, n: usize, mem: &[u8], stack: &mut [u8],
     ensures { λ r. ⌜ ((l : Loadop) → rowOf id ≡ does (Load l) → now (stack .exit) ≡ putSlot (now (stack .entry)) (depth - 1) (loaded l (padded (part n (low32 (topOf (now (stack .entry)) depth 1) + offset) (now (mem .entry)))))) ⌝ }
 {
     let at = address(offset, stack, depth, 1);
-    let m = bytes::read(mem, at, n);
+    let m = span::read(mem, at, n);
     slot::put(stack, depth - 1, vector::memory::load(id, m));
 }
 
@@ -44,7 +44,7 @@ pub(crate) fn load_lane(
     ensures { λ r. ⌜ ((w : Width) → rowOf id ≡ does (LoadLane w) → index < lanes w → now (stack .exit) ≡ putSlot (now (stack .entry)) (depth - 2) (laneIn w (padded (part n (low32 (topOf (now (stack .entry)) depth 2) + offset) (now (mem .entry)))) (topOf (now (stack .entry)) depth 1) index)) ⌝ }
 {
     let at = address(offset, stack, depth, 2);
-    let m = bytes::read(mem, at, n);
+    let m = span::read(mem, at, n);
     let a = slot::top(stack, depth, 1);
     slot::put(stack, depth - 2, vector::memory::lane_in(id, m, a, index));
 }
@@ -55,7 +55,7 @@ pub(crate) fn store(offset: u32, mem: &mut [u8], stack: &[u8], depth: usize)
 {
     let at = address(offset, stack, depth, 2);
     let v = slot::top(stack, depth, 1);
-    bytes::write(mem, at, v, 16);
+    span::write(mem, at, v, 16);
 }
 
 pub(crate) fn store_lane(
@@ -72,5 +72,5 @@ pub(crate) fn store_lane(
 {
     let at = address(offset, stack, depth, 2);
     let a = slot::top(stack, depth, 1);
-    bytes::write(mem, at, vector::memory::lane_out(id, a, index), n);
+    span::write(mem, at, vector::memory::lane_out(id, a, index), n);
 }

@@ -7,8 +7,8 @@ use borrow.Author.Needs.{needs}
 use lib.ListN.{length, length-set}
 use lib.Seq.{paste, paste-zero}
 use Rattle.machine.proofs.Laws.Copy.{turn, overwritten}
-use Rattle.machine.proofs.bytes.write.Statement.{statement}
-use Rattle.machine.proofs.bytes.write.Tie as tie
+use Rattle.machine.proofs.span.write.Statement.{statement}
+use Rattle.machine.proofs.span.write.Tie as tie
 
 abbrev Inv-loop : tie.InvT-loop
 Inv-loop s₀ at n b k₀ s k = (k ≤ n) × (length s ≡ length s₀) × (length b ≡ 16) × (s ≡ paste s₀ at b k)

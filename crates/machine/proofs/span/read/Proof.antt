@@ -7,8 +7,8 @@ use borrow.Author.Needs.{needs}
 use lib.ListN.{replicate, length, getD, set, drop, length-set, length-drop}
 use lib.Seq.{paste, paste-zero, getD-drop}
 use Rattle.machine.proofs.Laws.Copy.{turn, copied}
-use Rattle.machine.proofs.bytes.read.Statement.{statement}
-use Rattle.machine.proofs.bytes.read.Tie as tie
+use Rattle.machine.proofs.span.read.Statement.{statement}
+use Rattle.machine.proofs.span.read.Tie as tie
 
 abbrev Inv-loop : tie.InvT-loop
 Inv-loop s at n b₀ k₀ b k = (k ≤ n) × (length b ≡ 16) × (b ≡ paste (replicate 16 0) 0 (drop at s) k)
