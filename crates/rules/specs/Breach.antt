@@ -1,5 +1,5 @@
--- The first rule that a strip breaks: one constructor a line of the card (01, "Numbers on the inspector's card"; 02, C-13), which asks what 01 asks
--- before it.
+-- The first rule that a strip breaks: one constructor or more a line of the card (01, "Numbers on the inspector's card"; 02, C-13), each of which
+-- asks what 01 asks before it.
 use Prim.Native.Nat.{ℕ, _+_, _≤_, _<_}
 use mathlib.Core.Path.{_≡_}
 use mathlib.Core.List.{List, [], _∷_, _++_, map}

@@ -119,7 +119,7 @@ module _ {s args mem out : List ℕ} {budget : ℕ} (m : bytes mem) where
   pub run-told : {x : Left} → Runs s args mem out budget x → Ran s args mem out budget x
   run-told (refused t) = turned-away t
   run-told (metered v vs g a o) =
-      ran v vs a o (metered-tells v (begin (v .header) vs mem) out budget (begin-sound v vs mem (record { kinds = a .kinds; range = a .range; bytes = m })))
+      ran v vs g a o (metered-tells v (begin (v .header) vs mem) out budget (begin-sound v vs mem (record { kinds = a .kinds; range = a .range; bytes = m })))
 
   module _ {x : Left} (r : Runs s args mem out budget x) where
     -- DEMAND 1: an answer from the card
@@ -141,7 +141,7 @@ module _ {s args mem out : List ℕ} {budget : ℕ} (m : bytes mem) where
         by : {x : Left} → Ran s args mem out budget x → (x .answer .code ≡ DONE → ⊥) → x .answer .code ≤ SMALL
             → (x .answer .steps ≡ 0) × (x .memory ≡ mem) × (x .results ≡ out)
         by (turned-away t) ne most = (refl, refl, refl)
-        by (ran v vs a o t) ne most = absurd (let late = told-late t ne in omega arith)
+        by (ran v vs g a o t) ne most = absurd (let late = told-late t ne in omega arith)
 
     -- only DONE writes results
     pub only-done-writes : (x .answer .code ≡ DONE → ⊥) → x .results ≡ out
@@ -149,21 +149,21 @@ module _ {s args mem out : List ℕ} {budget : ℕ} (m : bytes mem) where
       where
         by : {x : Left} → Ran s args mem out budget x → (x .answer .code ≡ DONE → ⊥) → x .results ≡ out
         by (turned-away t) ne = refl
-        by (ran v vs a o t) ne = told-results t ne
+        by (ran v vs g a o t) ne = told-results t ne
 
     pub steps-most : x .answer .steps ≤ budget
     steps-most = by (run-told r)
       where
         by : {x : Left} → Ran s args mem out budget x → x .answer .steps ≤ budget
         by (turned-away t) = omega arith
-        by (ran v vs a o t) = told-steps t
+        by (ran v vs g a o t) = told-steps t
 
     pub same-lengths : (length (x .memory) ≡ length mem) × (length (x .results) ≡ length out)
     same-lengths = by (run-told r)
       where
         by : {x : Left} → Ran s args mem out budget x → (length (x .memory) ≡ length mem) × (length (x .results) ≡ length out)
         by (turned-away t) = (refl, refl)
-        by (ran v vs a o t) = told-long v vs mem out budget (never-stuck-from-begin v vs mem (record { kinds = a .kinds; range = a .range; bytes = m })) o t
+        by (ran v vs g a o t) = told-long v vs mem out budget (never-stuck-from-begin v vs mem (record { kinds = a .kinds; range = a .range; bytes = m })) o t
 
     -- 24 bits hold every place
     pub place-most : bytes s → x .answer .place ≤ fileLimit

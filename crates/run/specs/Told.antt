@@ -5,7 +5,7 @@ use mathlib.Core.List.{List}
 use mathlib.Core.Logic.{_⊎_}
 use lib.ListN.{length}
 use Rattle.card.specs.Card.{DONE, LABEL, ROOM, FORM, TRAP, BUDGET}
-use Rattle.limits.specs.Limits.{slot}
+use Rattle.limits.specs.Limits.{memoryLimit, slot}
 use Rattle.machine.specs.Value.{Value, allBytes}
 use Rattle.rules.specs.Header.{Header}
 use Rattle.rules.specs.Strip.{Valid}
@@ -33,5 +33,5 @@ OnCard c = (c ≤ LABEL) ⊎ ((ROOM ≤ c) × (c ≤ FORM)) ⊎ (c ≡ TRAP) ⊎
 module _ (s args mem out : List ℕ) (budget : ℕ) where
   pub data Ran : Left → Type 0 where
     turned-away : {code place : ℕ} → TurnsAway s args mem out code place → Ran (leaves code place 0 mem out)
-    ran : (v : Valid s) (vs : List Value) {x : Left} → Arguments (v .header .parameters) args vs → Slots (v .header .results) out
+    ran : (v : Valid s) (vs : List Value) {x : Left} → length mem ≤ memoryLimit → Arguments (v .header .parameters) args vs → Slots (v .header .results) out
         → Told s (v .header) (begin (v .header) vs mem) out budget x → Ran x

@@ -1,5 +1,5 @@
--- What demand 3 says of the standard's machine: a strip that keeps the rules never gets it stuck, and one that breaks 12 to 15, 17 or 18 gets it
--- stuck there.
+-- What demand 3 says of the standard's machine: a strip that keeps the rules never gets it stuck, and in a sound state at a place where 12 to 15,
+-- 17 or 18 is broken it is stuck, a br_if over 0 excepted.
 use Prim.Native.Nat.{ℕ, _+_, _^_, _<_}
 use mathlib.Core.Path.{_≡_}
 use mathlib.Core.Bool.{false}
