@@ -41,6 +41,11 @@ abbrev pub allValues : List Frame → List Kind
 allValues [] = []
 allValues (f ∷ fs) = allValues fs ++ f .values
 
+-- no code here is dead
+abbrev pub Live : List Frame → Type 0
+Live [] = Unit {0}
+Live (f ∷ fs) = (f .dead ≡ false) × Live fs
+
 -- a branch of this number goes to g
 pub data Target : List Frame → ℕ → Frame → Type 0 where
   innermost : {g : Frame} {fs : List Frame} → Target (g ∷ fs) zero g

@@ -26,12 +26,12 @@ use Rattle.machine.proofs.Laws.Rep.{low-i32}
 use Rattle.rules.specs.Header.{Header}
 use Rattle.rules.specs.Strip.{Reads, Valid}
 use Rattle.rules.proofs.Onward.{declared}
-use Rattle.standard.specs.Standard.{Label, Config, Stage, going, ended, withStack, countUnder, after, enter, branch, branchIf, stepPlain, stepCode, step}
+use Rattle.standard.specs.Standard.{Label, Config, Stage, going, ended, withStack, countUnder, after, enter, branch, branchIf, stepPlain, stepCode, step, underAll}
 use Rattle.standard.specs.Safety.{Safe}
 use Rattle.standard.proofs.Steps.{step-does}
 use Rattle.standard.proofs.Turn.{safe-step}
 use Rattle.standard.proofs.Never.{safe-unhalted}
-use Rattle.run.specs.Inner.Carried.{underAll, wayOf, LOOP, Marked, Carries, Seen, turnsAt, Leads, Led, leads-on, leads-out, Branching, Branched}
+use Rattle.run.specs.Inner.Carried.{wayOf, LOOP, Marked, Carries, Seen, turnsAt, Leads, Led, leads-on, leads-out, Branching, Branched}
 use Rattle.run.proofs.HeaderBytes.{version-read}
 use Rattle.run.proofs.Marking.{count-under, rep-under, rep-same, part-bytes, marked-more, unhalted, unhalted-if}
 use Rattle.run.proofs.Leading.{sound-of, ended-many}

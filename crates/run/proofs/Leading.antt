@@ -20,14 +20,14 @@ use Rattle.rules.specs.Strip.{Valid}
 use Rattle.rules.proofs.Onward.{declared}
 use Rattle.standard.specs.Closing.{close}
 use Rattle.standard.specs.Inner.{ClosesIn}
-use Rattle.standard.specs.Standard.{Label, Config, going, ended, withStack, along, resume, jump, branch}
+use Rattle.standard.specs.Standard.{Label, Config, going, ended, withStack, along, resume, jump, branch, underAll}
 use Rattle.standard.specs.Safety.{Sound, Safe, safe-going, safe-ended}
 use Rattle.standard.proofs.ValueKinds.{fit-kinds}
 use Rattle.standard.proofs.Finishing.{out-of}
 use Rattle.standard.proofs.Unwinding.{Left, finds-end}
 use Rattle.run.specs.Inner.Ends.{Closable}
 use Rattle.run.proofs.Places.{late, early}
-use Rattle.run.specs.Inner.Carried.{underAll, wayOf, LOOP, Leads, Led, leads-on, leads-out}
+use Rattle.run.specs.Inner.Carried.{wayOf, LOOP, Leads, Led, leads-on, leads-out}
 use Rattle.run.proofs.HeaderBytes.{version-read, result-count, Counts, counts-read}
 use Rattle.run.proofs.Marking.{count-under, rep-under, rep-same, part-bytes, unhalted, unhalted-if, nested-few, targets, Target, target}
 

@@ -16,11 +16,11 @@ use Rattle.rules.specs.Header.{Header}
 use Rattle.rules.specs.Typing.{Frame, opened}
 use Rattle.rules.specs.Strip.{Reaches}
 use Rattle.rules.proofs.Onward.{reached-within}
-use Rattle.standard.specs.Standard.{Label, Config, Stage, halted, withStack, countUnder, jump, branch}
+use Rattle.standard.specs.Standard.{Label, Config, Stage, halted, withStack, countUnder, jump, branch, underAll}
 use Rattle.standard.specs.Safety.{Nested, outermost, inside, Safe}
 use Rattle.standard.proofs.Nestings.{nested-many}
 use Rattle.standard.proofs.Never.{safe-unhalted}
-use Rattle.run.specs.Inner.Carried.{underAll, wayOf, Marked, openIn, Led, leads-on, leads-out}
+use Rattle.run.specs.Inner.Carried.{wayOf, Marked, openIn, Led, leads-on, leads-out}
 use Rattle.run.proofs.Results.{all-append, all-one}
 
 -- ---- values under others

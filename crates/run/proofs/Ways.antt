@@ -17,18 +17,18 @@ use Rattle.instr.specs.Decode.{decodeAt}
 use Rattle.machine.specs.Value.{Value, kindOf}
 use Rattle.machine.specs.Exec.{State, Outcome, goes, trap, exec}
 use Rattle.rules.specs.Header.{Header, locals}
-use Rattle.rules.specs.Typing.{Frame, holding, allValues, Types, ordinary, branches, may-branch, opens-block, opens-loop, closes}
+use Rattle.rules.specs.Typing.{Frame, holding, allValues, Types, ordinary, branches, may-branch, opens-block, opens-loop, closes, Live}
 use Rattle.rules.specs.Strip.{Reads, Within, Valid}
 use Rattle.rules.proofs.Typings.{end-untyped, control-untyped}
-use Rattle.standard.specs.Standard.{Config, going, trapped, withStack, after, step}
-use Rattle.standard.specs.Safety.{Sound, Fits, Live}
+use Rattle.standard.specs.Standard.{Config, going, trapped, withStack, after, step, underAll, wholeStack}
+use Rattle.standard.specs.Safety.{Sound, Fits}
 use Rattle.standard.proofs.Fine.{Kept, Fine, on, past as strayed}
 use Rattle.standard.proofs.Nestings.{nested-under, live-has}
 use Rattle.standard.proofs.Over.{Over, over-stuck, over-trap, over-goes, over}
 use Rattle.standard.proofs.Steps.{reads-decoded, step-does, does-ordinary}
 use Rattle.standard.proofs.Turn.{typed-runs, goes-after}
 use Rattle.standard.proofs.Unwinding.{Next, last, goes-on, what-next}
-use Rattle.run.specs.Inner.Carried.{underAll, wholeStack, turnsAt}
+use Rattle.run.specs.Inner.Carried.{turnsAt}
 use Rattle.run.proofs.Marking.{count-under}
 use Rattle.run.proofs.Latest.{by-latest}
 

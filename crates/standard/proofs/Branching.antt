@@ -8,11 +8,11 @@ use Rattle.opcode.specs.Kind.{Kind}
 use Rattle.machine.specs.Value.{Value, kindOf, AllInRange}
 use Rattle.machine.specs.Exec.{State}
 use Rattle.rules.specs.Header.{Header, locals}
-use Rattle.rules.specs.Typing.{Frame, opened, holding, branchKinds, Target, innermost, outer}
+use Rattle.rules.specs.Typing.{Frame, opened, holding, branchKinds, Target, innermost, outer, Live}
 use Rattle.rules.specs.Strip.{Reaches, Valid}
 use Rattle.standard.specs.Closing.{close}
 use Rattle.standard.specs.Standard.{Label, Config, Stage, going, ended, halted, withStack, along, resume, jump, branch}
-use Rattle.standard.specs.Safety.{Live, Nested, outermost, inside, Fits, Sound, Finishes, Safe, safe-going, safe-ended}
+use Rattle.standard.specs.Safety.{Nested, outermost, inside, Fits, Sound, Finishes, Safe, safe-going, safe-ended}
 use Rattle.standard.proofs.ValueKinds.{reverse-kinds, reverse-range, kinds-fit}
 use Rattle.standard.proofs.Along.{no-steps}
 use Rattle.standard.proofs.Nestings.{nested-same, no-target}

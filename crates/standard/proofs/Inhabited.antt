@@ -14,11 +14,11 @@ use Rattle.opcode.specs.Table.{Code}
 use Rattle.instr.specs.declared.Instr.{Instr}
 use Rattle.machine.specs.Value.{Value, I32, I64, V128, kindOf, InRange, AllInRange}
 use Rattle.rules.specs.Header.{Header, locals}
-use Rattle.rules.specs.Typing.{Frame, opened, Types, ordinary, branches, may-branch, opens-block, opens-loop, closes}
+use Rattle.rules.specs.Typing.{Frame, opened, Types, ordinary, branches, may-branch, opens-block, opens-loop, closes, Live}
 use Rattle.rules.specs.Strip.{Reaches, front, past}
 use Rattle.rules.specs.Breach.{Breach}
 use Rattle.standard.specs.Standard.{Label, Config, halted, step}
-use Rattle.standard.specs.Safety.{Live, Nested, outermost, inside, Fits, Sound, StuckHere, stuck-here, not-taken}
+use Rattle.standard.specs.Safety.{Nested, outermost, inside, Fits, Sound, StuckHere, stuck-here, not-taken}
 use Rattle.standard.proofs.Stuck.{stuck-exact}
 
 -- ---- values, none of them an i32 of 0: a br_if over them takes its branch

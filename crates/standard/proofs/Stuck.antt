@@ -19,7 +19,7 @@ use Rattle.instr.proofs.Refuses.{stands-refuses}
 use Rattle.machine.specs.Value.{kindOf}
 use Rattle.machine.specs.Exec.{stuck, ofKinds, exec}
 use Rattle.rules.specs.Header.{Header, locals}
-use Rattle.rules.specs.Typing.{Frame, branchKinds, allValues, Target, Local, all-known, Types, ordinary, branches, may-branch, opens-block, opens-loop, closes}
+use Rattle.rules.specs.Typing.{Frame, branchKinds, allValues, Target, Local, all-known, Types, ordinary, branches, may-branch, opens-block, opens-loop, closes, Live}
 use Rattle.rules.specs.Typing.{Names, Opens, block-opens, loop-opens, Branches, br-branches, if-branches, Ends, ends}
 use Rattle.rules.specs.Strip.{Reads, Reaches}
 use Rattle.rules.specs.Breach.{Refused, At, Breach, long, stub, unmarked, other-version, parameters, further, results, kind, kinds-short, short, block-type}
@@ -29,7 +29,7 @@ use Rattle.rules.proofs.Typings.{end-untyped, control-untyped}
 use Rattle.rules.proofs.Sorts.{names-control, end-nameless}
 use Rattle.rules.proofs.Onward.{declared, reached-within, reached-once}
 use Rattle.standard.specs.Standard.{Label, Config, going, halted, withStack, countUnder, after, enter, stepPlain, step}
-use Rattle.standard.specs.Safety.{Live, Nested, outermost, inside, Fits, Sound, StuckHere, stuck-here, not-taken}
+use Rattle.standard.specs.Safety.{Nested, outermost, inside, Fits, Sound, StuckHere, stuck-here, not-taken}
 use Rattle.standard.proofs.ValueKinds.{fit-kinds}
 use Rattle.standard.proofs.Steps.{step-does, step-halts, does-ordinary}
 use Rattle.standard.proofs.Nestings.{nested-many, nested-under, live-has}

@@ -15,11 +15,11 @@ use Rattle.instr.specs.declared.Instr.{Instr}
 use Rattle.machine.specs.Value.{Value, I32, I64, V128, kindOf, AllInRange}
 use Rattle.machine.specs.Exec.{State, Outcome, goes, done, stuck, exec}
 use Rattle.rules.specs.Header.{Header, locals}
-use Rattle.rules.specs.Typing.{Frame, opened, holding, branchKinds, allValues, Target, Typed, Types, ordinary, branches, may-branch, opens-block, opens-loop, closes, Ends, ends}
+use Rattle.rules.specs.Typing.{Frame, opened, holding, branchKinds, allValues, Target, Typed, Types, ordinary, branches, may-branch, opens-block, opens-loop, closes, Ends, ends, Live}
 use Rattle.rules.specs.Strip.{Reads, Within, Reaches, past, Valid}
 use Rattle.rules.proofs.Typings.{end-untyped, control-untyped}
 use Rattle.standard.specs.Standard.{Label, Config, Stage, going, ended, trapped, halted, withStack, countUnder, after, enter, branch, branchIf, stepPlain, stepCode, step}
-use Rattle.standard.specs.Safety.{Live, Nested, outermost, inside, Fits, Sound, Strays, Finishes, Safe, safe-going, safe-ended, safe-trapped}
+use Rattle.standard.specs.Safety.{Nested, outermost, inside, Fits, Sound, Strays, Finishes, Safe, safe-going, safe-ended, safe-trapped}
 use Rattle.standard.proofs.ValueKinds.{reverse-kinds, reverse-range, kinds-fit}
 use Rattle.standard.proofs.Fine.{Kept, Fine, on, past as trapped-past}
 use Rattle.standard.proofs.Typeds.{Ranged, typed-fine}

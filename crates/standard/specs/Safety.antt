@@ -11,15 +11,11 @@ use Rattle.instr.specs.declared.Instr.{Instr}
 use Rattle.machine.specs.Value.{Value, I32, kindOf, AllInRange}
 use Rattle.machine.specs.Accesses.{Accesses}
 use Rattle.rules.specs.Header.{Header, locals}
-use Rattle.rules.specs.Typing.{Frame, opened}
+use Rattle.rules.specs.Typing.{Frame, opened, Live}
 use Rattle.rules.specs.Strip.{Reads, Reaches}
+use Rattle.rules.specs.Around.{Around}
 use Rattle.standard.specs.Closing.{close}
 use Rattle.standard.specs.Standard.{Label, Config, Stage, going, ended, trapped, halted, step, runs}
-
--- no code here is dead
-abbrev pub Live : List Frame → Type 0
-Live [] = Unit {0}
-Live (f ∷ fs) = (f .dead ≡ false) × Live fs
 
 -- each label is that of a block, and under it stand the values of the block around it; its body is where the block begins by the rules
 pub data Nested (s : List ℕ) (h : Header) : List Frame → List Label → Type 0 where
@@ -32,6 +28,15 @@ pub data Nested (s : List ℕ) (h : Header) : List Frame → List Label → Type
 abbrev pub AllEnd : List ℕ → Header → List Label → Type 0
 AllEnd s h [] = Unit {0}
 AllEnd s h (l ∷ ls) = ((q : ℕ) × (close (h .version) s (l .body) ≡ some q)) × AllEnd s h ls
+
+-- where the body of each label begins
+abbrev pub bodies : List Label → List ℕ
+bodies [] = []
+bodies (l ∷ ls) = l .body ∷ bodies ls
+
+-- the labels are those of the blocks around the place, by the bytes before it
+abbrev pub Placed : List ℕ → Header → Config → Type 0
+Placed s h c = Around s h (c .place) (bodies (c .labels))
 
 -- kinds on the stack, the last on top, labels, kinds of the locals, and all values in range
 pub record Fits (s : List ℕ) (h : Header) (f : Frame) (fs : List Frame) (c : Config) : Type 0 where

@@ -48,6 +48,15 @@ abbrev pub countUnder : List Label → ℕ
 countUnder [] = 0
 countUnder (l ∷ ls) = length (l .under) + countUnder ls
 
+-- those operands, the top first
+abbrev pub underAll : List Label → List Value
+underAll [] = []
+underAll (l ∷ ls) = l .under ++ underAll ls
+
+-- the whole stack, the top first
+abbrev pub wholeStack : Config → List Value
+wholeStack c = c .state .stack ++ underAll (c .labels)
+
 -- ---- what pops and pushes above the innermost label, n bytes long
 
 -- where more operands would stand in all than the stack holds, it is full; what `exec` asks of those above the label is no more (proofs/Full,

@@ -16,16 +16,11 @@ use Rattle.machine.specs.Inner.Rep.{Rep}
 use Rattle.rules.specs.Header.{Header}
 use Rattle.rules.specs.Strip.{Reads, Valid}
 use Rattle.rules.specs.Typing.{Frame}
-use Rattle.standard.specs.Standard.{Label, Config, Stage, going, ended, withStack, countUnder, branch}
+use Rattle.standard.specs.Standard.{Label, Config, Stage, going, ended, withStack, countUnder, underAll, wholeStack, branch}
 use Rattle.standard.specs.Safety.{Nested, Sound, Safe}
 use Rattle.run.specs.Run.{Slots}
 
 -- ---- labels
-
--- all values under the labels
-abbrev pub underAll : List Label → List Value
-underAll [] = []
-underAll (l ∷ ls) = l .under ++ underAll ls
 
 -- a loop, or how many values a branch to a block takes along
 abbrev pub LOOP : ℕ
@@ -45,9 +40,6 @@ abbrev pub openIn : List ℕ → ℕ
 openIn ms = getD ms (3 * nestLimit) 0
 
 -- ---- a configuration
-
-abbrev pub wholeStack : Config → List Value
-wholeStack c = c .state .stack ++ underAll (c .labels)
 
 pub record Carries (s : List ℕ) (h : Header) (c : Config) (at depth nest : ℕ) (stack marks locals mem : List ℕ) : Type 0 where
   pub place : c .place ≡ at
