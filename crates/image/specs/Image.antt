@@ -60,3 +60,6 @@ pub record Shows (locals stack : List Kind) (buffer : List ℕ) (place : ℕ) (l
   pub stack-range : AllInRange vs
   pub rest : List ℕ
   pub begins : buffer ≡ imageOf place ls vs ++ rest
+
+abbrev pub IMAGE : ℕ
+IMAGE = 25

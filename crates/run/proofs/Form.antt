@@ -15,7 +15,8 @@ use Rattle.limits.specs.Limits.{slot}
 use Rattle.opcode.specs.Kind.{Kind, i32, i64, v128, bytesUsed}
 use Rattle.machine.specs.Value.{Value, I32, I64, V128, kindOf, InRange, AllInRange, bytesOf, allBytes}
 use Rattle.machine.proofs.Laws.Rep.{sixteen-bytes}
-use Rattle.run.specs.Run.{Arguments, Slots}
+use Rattle.image.specs.Slots.{InSlots}
+use Rattle.run.specs.Run.{Slots}
 use Rattle.run.specs.Inner.Steps.{Zeros}
 
 -- ---- zeros, one after the other
@@ -101,7 +102,7 @@ kind-of i32 bs = refl
 kind-of i64 bs = refl
 kind-of v128 bs = refl
 
-pub formed-given : (ks : List Kind) (args : List ℕ) → Slots ks args → Bytes args → ((j : ℕ) → j < length ks → Formed ks args j) → (vs : List Value) × Arguments ks args vs
+pub formed-given : (ks : List Kind) (args : List ℕ) → Slots ks args → Bytes args → ((j : ℕ) → j < length ks → Formed ks args j) → (vs : List Value) × InSlots ks args vs
 unfolding allBytes
 formed-given [] [] long b f = ([], record { kinds = refl; range = tt; bytes = refl })
 formed-given [] (x ∷ args) long b f = absurd (let z : ⊥ = omega arith in z)
@@ -128,7 +129,7 @@ all-formed (v ∷ vs) r (suc j) h k l m =
     ap (λ (n : ℕ). getD (bytesOf v ++ allBytes vs) n 0) (sym at) ∙ getD-append-add (bytesOf v) (allBytes vs) (k - slot) 0
     ∙ all-formed vs (r .1) j (omega arith) (k - slot) (omega arith) (omega arith)
 
-pub given-formed : {ks : List Kind} {args : List ℕ} {vs : List Value} → Arguments ks args vs → (j : ℕ) → j < length ks → Formed ks args j
+pub given-formed : {ks : List Kind} {args : List ℕ} {vs : List Value} → InSlots ks args vs → (j : ℕ) → j < length ks → Formed ks args j
 given-formed {ks} {args} {vs} g j h =
     subst (λ (xs : List Kind). Formed xs args j) (g .kinds)
     (subst (λ (bs : List ℕ). Formed (map kindOf vs) bs j) (sym (g .bytes)) (all-formed vs (g .range) j (omega (arith, sym (length-map vs kindOf) ∙ ap length (g .kinds)))))

@@ -15,11 +15,11 @@ use Rattle.checker.proofs.Exact.{done-exact}
 use Rattle.standard.specs.Standard.{halted, runs, begin}
 use Rattle.standard.specs.Safety.{Safe}
 use Rattle.standard.proofs.Never.{never-stuck-from-begin, safe-unhalted}
-use Rattle.run.specs.Run.{Arguments}
+use Rattle.image.specs.Slots.{InSlots}
 
 -- the check answered 0; the strip declares this header, the arguments are of the form that it declares, and the memory is bytes, few or many
 module _ {s : List ℕ} {r : Answer} (checked : Checked s r) (passed : r .code ≡ DONE) {h : Header} (declares : Declares s h) {args : List ℕ} {vs : List Value}
-    (given : Arguments (h .parameters) args vs) (mem : List ℕ) (m : bytes mem) where
+    (given : InSlots (h .parameters) args vs) (mem : List ℕ) (m : bytes mem) where
   -- after any number of steps: going on in a sound state, ended with results of the declared kinds and in range, or trapped at an access past the
   -- memory's end
   pub checked-never-stuck : (k : ℕ) → Safe s h (begin h vs mem) (runs s h k (begin h vs mem))
@@ -32,7 +32,7 @@ module _ {s : List ℕ} {r : Answer} (checked : Checked s r) (passed : r .code �
       same = declares-once s (v .header) h (declared (v .reached)) declares
 
       Reached : Header → Type 0
-      Reached x = Arguments (x .parameters) args vs → Safe s x (begin x vs mem) (runs s x k (begin x vs mem))
+      Reached x = InSlots (x .parameters) args vs → Safe s x (begin x vs mem) (runs s x k (begin x vs mem))
 
   pub checked-never-halted : (k : ℕ) → runs s h k (begin h vs mem) ≡ halted → ⊥
   checked-never-halted k = safe-unhalted (checked-never-stuck k)

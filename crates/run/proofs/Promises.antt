@@ -1,11 +1,13 @@
--- What 01 promises of every run, whatever comes in. That a memory is bytes is what every lent one is.
+-- What 01 and 02 promise of every run and of every resume, whatever comes in. That a memory is bytes is what every lent one is.
 use Prim.Native.Nat.{ℕ, suc, _≤_, _<_}
-use mathlib.Core.Path.{_≡_, refl, sym, _∙_, subst}
+use mathlib.Core.Path.{_≡_, refl, ap, sym, _∙_, subst}
 use mathlib.Core.List.{List}
 use mathlib.Core.Logic.{inl, inr}
+use mathlib.Core.Option.{Option, none, some}
 use native.Mathlib.Omega.{arith}
 use lib.ListN.{length}
-use Rattle.card.specs.Card.{DONE, LONG, LABEL, SMALL}
+use Rattle.card.specs.Card.{DONE, LONG, LABEL, ROOM, SMALL, TRAP, BUDGET}
+use Rattle.image.specs.Image.{IMAGE}
 use Rattle.limits.specs.Limits.{fileLimit}
 use Rattle.leb128.specs.Bytes.{bytes}
 use Rattle.machine.specs.Value.{Value}
@@ -17,13 +19,15 @@ use Rattle.rules.proofs.Onward.{declared}
 use Rattle.rules.specs.Breach.{Breach, long, stub, unmarked, other-version, parameters, further, results, kind, kinds-short, short, block-type, opcode, float, number, lane, align, local, nest, label, operand, deep, result, trailing, breach}
 use Rattle.checker.proofs.Exact as Exact
 use Rattle.standard.specs.Standard.{Config, going, ended, step, runs, begin}
-use Rattle.standard.specs.Safety.{Given, Sound, Safe, safe-going, safe-ended}
+use Rattle.standard.specs.Safety.{Sound, Safe, safe-going, safe-ended}
 use Rattle.standard.proofs.Begin.{begin-sound}
-use Rattle.standard.proofs.Never.{never-stuck-from-begin}
+use Rattle.standard.proofs.Never.{never-stuck}
 use Rattle.standard.proofs.Along.{one-more}
-use Rattle.run.specs.Meter.{Left}
-use Rattle.run.specs.Run.{Slots, breaks, room, arguments, outsized, malformed, Runs, refused, metered}
-use Rattle.run.specs.Told.{Told, told-done, told-trap, told-budget, OnCard, Ran, turned-away, ran}
+use Rattle.run.specs.Meter.{Left, paused}
+use Rattle.run.specs.Call.{Fails, AllWell, Asks, breaks, fails, Calls, refused, metered}
+use Rattle.run.specs.Run.{Slots, runAsks, Begins, Runs}
+use Rattle.run.specs.Resume.{Pictures, resumeAsks, Resumes}
+use Rattle.run.specs.Told.{Told, told-done, told-trap, told-budget, OnCard, Called, turned-away, told}
 use Rattle.run.proofs.HeaderBytes.{inside}
 use Rattle.run.proofs.Metered.{metered-tells}
 
@@ -57,124 +61,154 @@ reached-inside : {s : List ℕ} {h : Header} {p : ℕ} {fs : List Frame} → Rea
 reached-inside (front d) = omega (arith, inside d, d .sized)
 reached-inside (past r q t l) = omega (arith, stands-inside (q .stands), declared r .sized)
 
--- ---- what is told of the standard's machine from its beginning
+-- ---- what is told of the standard's machine from a sound state
 
-module _ {s : List ℕ} (v : Valid s) (vs : List Value) (mem out : List ℕ) (budget : ℕ)
-    (safe : (k : ℕ) → Safe s (v .header) (begin (v .header) vs mem) (runs s (v .header) k (begin (v .header) vs mem))) where
+module _ {s : List ℕ} (v : Valid s) (b : Config) (sound : Sound s (v .header) b) (out : List ℕ) (img : Option (List ℕ)) (budget : ℕ) where
   abbrev h : Header
   h = v .header
 
-  abbrev b : Config
-  b = begin h vs mem
-
-  sound-at : (k : ℕ) {c : Config} → runs s h k (begin h vs mem) ≡ going c → Sound s h c × (length (c .state .memory) ≡ length mem)
-  sound-at k {c} e = by (subst (Safe s h b) e (safe k))
+  sound-at : (k : ℕ) {c : Config} → runs s h k b ≡ going c → Sound s h c × (length (c .state .memory) ≡ length (b .state .memory))
+  sound-at k {c} e = by (subst (Safe s h b) e (never-stuck v b sound k))
     where
-      by : Safe s h b (going c) → Sound s h c × (length (c .state .memory) ≡ length mem)
+      by : Safe s h b (going c) → Sound s h c × (length (c .state .memory) ≡ length (b .state .memory))
       by (safe-going d l) = (d, l)
 
-  ended-long : (k : ℕ) {c : Config} {ws : List Value} {m : List ℕ} → runs s h k (begin h vs mem) ≡ going c → step s h c ≡ ended ws m → length m ≡ length mem
-  ended-long k {c} {ws} {m} e f = by (subst (Safe s h b) (one-more s h k b c e ∙ f) (safe (suc k)))
+  ended-long : (k : ℕ) {c : Config} {ws : List Value} {m : List ℕ} → runs s h k b ≡ going c → step s h c ≡ ended ws m → length m ≡ length (b .state .memory)
+  ended-long k {c} {ws} {m} e f = by (subst (Safe s h b) (one-more s h k b c e ∙ f) (never-stuck v b sound (suc k)))
     where
-      by : Safe s h b (ended ws m) → length m ≡ length mem
+      by : Safe s h b (ended ws m) → length m ≡ length (b .state .memory)
       by (safe-ended j e sound t kinds range l) = l
 
-  told-place : {x : Left} → Told s h (begin h vs mem) out budget x → x .answer .place ≤ fileLimit
+  told-place : {x : Left} → Told s h b out img budget x → x .answer .place ≤ fileLimit
   told-place (told-done k l e f g w) = omega arith
   told-place (told-trap k l e f g) = reached-inside (sound-at k e .0 .reached)
   told-place (told-budget e) = reached-inside (sound-at budget e .0 .reached)
 
-  told-long : {x : Left} → Slots (h .results) out → Told s h (begin h vs mem) out budget x
-      → (length (x .memory) ≡ length mem) × (length (x .results) ≡ length out)
+  told-long : {x : Left} → Slots (h .results) out → Told s h b out img budget x
+      → (length (x .memory) ≡ length (b .state .memory)) × (length (x .results) ≡ length out)
   told-long o (told-done k l e f g w) = (ended-long k e f, w ∙ sym o)
   told-long o (told-trap k l e f g) = (sound-at k e .1, refl)
   told-long o (told-budget e) = (sound-at budget e .1, refl)
 
-told-steps : {s : List ℕ} {h : Header} {b : Config} {out : List ℕ} {budget : ℕ} {x : Left} → Told s h b out budget x → x .answer .steps ≤ budget
-told-steps (told-done k l e f g w) = l
-told-steps (told-trap k l e f g) = omega arith
-told-steps (told-budget e) = omega arith
+module _ {s : List ℕ} {h : Header} {b : Config} {out : List ℕ} {img : Option (List ℕ)} {budget : ℕ} where
+  told-steps : {x : Left} → Told s h b out img budget x → x .answer .steps ≤ budget
+  told-steps (told-done k l e f g w) = l
+  told-steps (told-trap k l e f g) = omega arith
+  told-steps (told-budget e) = omega arith
 
-told-code : {s : List ℕ} {h : Header} {b : Config} {out : List ℕ} {budget : ℕ} {x : Left} → Told s h b out budget x → OnCard (x .answer .code)
-told-code (told-done k l e f g w) = inl (omega arith)
-told-code (told-trap k l e f g) = inr (inr (inl refl))
-told-code (told-budget e) = inr (inr (inr refl))
+  told-code : {last : ℕ} {x : Left} → Told s h b out img budget x → OnCard last (x .answer .code)
+  told-code (told-done k l e f g w) = inl (omega arith)
+  told-code (told-trap k l e f g) = inr (inr (inl refl))
+  told-code (told-budget e) = inr (inr (inr refl))
 
-told-results : {s : List ℕ} {h : Header} {b : Config} {out : List ℕ} {budget : ℕ} {x : Left} → Told s h b out budget x → (x .answer .code ≡ DONE → ⊥)
-    → x .results ≡ out
-told-results (told-done k l e f g w) ne = absurd (ne refl)
-told-results (told-trap k l e f g) ne = refl
-told-results (told-budget e) ne = refl
+  told-results : {x : Left} → Told s h b out img budget x → (x .answer .code ≡ DONE → ⊥) → x .results ≡ out
+  told-results (told-done k l e f g w) ne = absurd (ne refl)
+  told-results (told-trap k l e f g) ne = refl
+  told-results (told-budget e) ne = refl
 
-told-late : {s : List ℕ} {h : Header} {b : Config} {out : List ℕ} {budget : ℕ} {x : Left} → Told s h b out budget x → (x .answer .code ≡ DONE → ⊥)
-    → SMALL < x .answer .code
-told-late (told-done k l e f g w) ne = absurd (ne refl)
-told-late (told-trap k l e f g) ne = omega arith
-told-late (told-budget e) ne = omega arith
+  told-late : {x : Left} → Told s h b out img budget x → (x .answer .code ≡ DONE → ⊥) → TRAP ≤ x .answer .code
+  told-late (told-done k l e f g w) ne = absurd (ne refl)
+  told-late (told-trap k l e f g) ne = omega arith
+  told-late (told-budget e) ne = omega arith
 
--- ---- of every run
+  told-image : {x : Left} → Told s h b out img budget x → (x .answer .code ≡ BUDGET → ⊥) → x .image ≡ img
+  told-image (told-done k l e f g w) ne = refl
+  told-image (told-trap k l e f g) ne = refl
+  told-image (told-budget e) ne = absurd (ne refl)
 
-module _ {s args mem out : List ℕ} {budget : ℕ} (m : bytes mem) where
+-- ---- of every call
+
+-- what is so of where a call's machine starts, and of its questions
+pub record Kind-of-call (s mem out : List ℕ) (asks : Asks) (Starts : Header → Config → Type 0) (last : ℕ) : Type 0 where
+  pub sound : (v : Valid s) (c : Config) → Starts (v .header) c → Sound s (v .header) c × (c .state .memory ≡ mem)
+  pub slots : (v : Valid s) → AllWell (asks (v .header)) → Slots (v .header .results) out
+  pub coded : (v : Valid s) (c : ℕ) → Fails (asks (v .header)) c → (ROOM ≤ c) × (c ≤ last)
+
+module _ {s mem out : List ℕ} {img : Option (List ℕ)} {budget : ℕ} {asks : Asks} {Starts : Header → Config → Type 0} {last : ℕ}
+    (call : Kind-of-call s mem out asks Starts last) where
   -- turned away with everything as it was, or the standard's machine
-  pub run-told : {x : Left} → Runs s args mem out budget x → Ran s args mem out budget x
-  run-told (refused t) = turned-away t
-  run-told (metered v vs g a o) =
-      ran v vs g a o (metered-tells v (begin (v .header) vs mem) out budget (begin-sound v vs mem (record { kinds = a .kinds; range = a .range; bytes = m })))
+  pub call-told : {x : Left} → Calls s mem out img budget asks Starts x → Called s mem out img budget asks Starts x
+  call-told (refused t) = turned-away t
+  call-told (metered v c well e) = told v c well e (metered-tells v c out img budget (call .sound v c e .0))
 
-  module _ {x : Left} (r : Runs s args mem out budget x) where
+  module _ {x : Left} (r : Calls s mem out img budget asks Starts x) where
     -- DEMAND 1: an answer from the card
-    pub on-card : OnCard (x .answer .code)
-    on-card = by r
+    pub on-card : OnCard last (x .answer .code)
+    on-card = by (call-told r)
       where
-        by : {x : Left} → Runs s args mem out budget x → OnCard (x .answer .code)
-        by (refused (breaks b)) = inl (breach-range b .1)
-        by (refused (room v g)) = inr (inl (omega arith, omega arith))
-        by (refused (arguments v g f)) = inr (inl (omega arith, omega arith))
-        by (refused (outsized v g a f)) = inr (inl (omega arith, omega arith))
-        by (refused (malformed v g a o f)) = inr (inl (omega arith, omega arith))
-        by (metered v vs g a o) = told-code (metered-tells v (begin (v .header) vs mem) out budget (begin-sound v vs mem (record { kinds = a .kinds; range = a .range; bytes = m })))
+        by : {x : Left} → Called s mem out img budget asks Starts x → OnCard last (x .answer .code)
+        by (turned-away (breaks b)) = inl (breach-range b .1)
+        by (turned-away (fails {c} v f)) = inr (inl (call .coded v c f))
+        by (told v c well e t) = told-code t
 
-    -- DEMAND 1: 1 to 24 have steps 0 and change nothing
-    pub refusal-changes-nothing : (x .answer .code ≡ DONE → ⊥) → x .answer .code ≤ SMALL → (x .answer .steps ≡ 0) × (x .memory ≡ mem) × (x .results ≡ out)
-    refusal-changes-nothing ne most = by (run-told r) ne most
+    -- DEMAND 1: all below 30 have steps 0 and change nothing
+    pub refusal-changes-nothing : (x .answer .code ≡ DONE → ⊥) → x .answer .code < TRAP
+        → (x .answer .steps ≡ 0) × (x .memory ≡ mem) × (x .results ≡ out) × (x .image ≡ img)
+    refusal-changes-nothing ne most = by (call-told r) ne most
       where
-        by : {x : Left} → Ran s args mem out budget x → (x .answer .code ≡ DONE → ⊥) → x .answer .code ≤ SMALL
-            → (x .answer .steps ≡ 0) × (x .memory ≡ mem) × (x .results ≡ out)
-        by (turned-away t) ne most = (refl, refl, refl)
-        by (ran v vs g a o t) ne most = absurd (let late = told-late t ne in omega arith)
+        by : {x : Left} → Called s mem out img budget asks Starts x → (x .answer .code ≡ DONE → ⊥) → x .answer .code < TRAP
+            → (x .answer .steps ≡ 0) × (x .memory ≡ mem) × (x .results ≡ out) × (x .image ≡ img)
+        by (turned-away t) ne most = (refl, refl, refl, refl)
+        by (told v c well e t) ne most = absurd (let late = told-late t ne in omega arith)
 
     -- only DONE writes results
     pub only-done-writes : (x .answer .code ≡ DONE → ⊥) → x .results ≡ out
-    only-done-writes ne = by (run-told r) ne
+    only-done-writes ne = by (call-told r) ne
       where
-        by : {x : Left} → Ran s args mem out budget x → (x .answer .code ≡ DONE → ⊥) → x .results ≡ out
+        by : {x : Left} → Called s mem out img budget asks Starts x → (x .answer .code ≡ DONE → ⊥) → x .results ≡ out
         by (turned-away t) ne = refl
-        by (ran v vs g a o t) ne = told-results t ne
+        by (told v c well e t) ne = told-results t ne
+
+    -- only BUDGET writes an image
+    pub only-budget-pictures : (x .answer .code ≡ BUDGET → ⊥) → x .image ≡ img
+    only-budget-pictures ne = by (call-told r) ne
+      where
+        by : {x : Left} → Called s mem out img budget asks Starts x → (x .answer .code ≡ BUDGET → ⊥) → x .image ≡ img
+        by (turned-away t) ne = refl
+        by (told v c well e t) ne = told-image t ne
 
     pub steps-most : x .answer .steps ≤ budget
-    steps-most = by (run-told r)
+    steps-most = by (call-told r)
       where
-        by : {x : Left} → Ran s args mem out budget x → x .answer .steps ≤ budget
+        by : {x : Left} → Called s mem out img budget asks Starts x → x .answer .steps ≤ budget
         by (turned-away t) = omega arith
-        by (ran v vs g a o t) = told-steps t
+        by (told v c well e t) = told-steps t
 
     pub same-lengths : (length (x .memory) ≡ length mem) × (length (x .results) ≡ length out)
-    same-lengths = by (run-told r)
+    same-lengths = by (call-told r)
       where
-        by : {x : Left} → Ran s args mem out budget x → (length (x .memory) ≡ length mem) × (length (x .results) ≡ length out)
+        by : {x : Left} → Called s mem out img budget asks Starts x → (length (x .memory) ≡ length mem) × (length (x .results) ≡ length out)
         by (turned-away t) = (refl, refl)
-        by (ran v vs g a o t) = told-long v vs mem out budget (never-stuck-from-begin v vs mem (record { kinds = a .kinds; range = a .range; bytes = m })) o t
+        by (told v c well e t) =
+            let long = told-long v c (call .sound v c e .0) out img budget (call .slots v well) t in
+            (long .0 ∙ ap length (call .sound v c e .1), long .1)
 
     -- 24 bits hold every place
     pub place-most : bytes s → x .answer .place ≤ fileLimit
-    place-most b = by r
+    place-most b = by (call-told r)
       where
-        by : {x : Left} → Runs s args mem out budget x → x .answer .place ≤ fileLimit
-        by (refused (breaks {c} {p} f)) = Exact.place-most b {r = record { code = c; place = p; steps = 0 }} (record { says = breach f; steps = refl })
-        by (refused (room v g)) = omega arith
-        by (refused (arguments v g f)) = omega arith
-        by (refused (outsized v g a f)) = omega arith
-        by (refused (malformed v g a o f)) = omega arith
-        by (metered v vs g a o) =
-            let given : Given (v .header) vs mem = record { kinds = a .kinds; range = a .range; bytes = m } in
-            told-place v vs mem out budget (never-stuck-from-begin v vs mem given) (metered-tells v (begin (v .header) vs mem) out budget (begin-sound v vs mem given))
+        by : {x : Left} → Called s mem out img budget asks Starts x → x .answer .place ≤ fileLimit
+        by (turned-away (breaks {c} {p} f)) = Exact.place-most b {r = record { code = c; place = p; steps = 0 }} (record { says = breach f; steps = refl })
+        by (turned-away (fails v f)) = omega arith
+        by (told v c well e t) = told-place v c (call .sound v c e .0) out img budget t
+
+-- ---- a run is one, and a resume
+
+pub run-call : {s args mem out : List ℕ} (img : Option (List ℕ)) → bytes mem → Kind-of-call s mem out (runAsks args mem out img) (Begins args mem) SMALL
+run-call {s} {args} {mem} {out} img m =
+    record {
+      sound = λ v c b. (
+        subst (Sound s (v .header)) (sym (b .begins)) (begin-sound v (b .values) mem (record { kinds = b .given .kinds; range = b .given .range; bytes = m })),
+        ap (λ (x : Config). x .state .memory) (b .begins),
+      );
+      slots = λ v well. well .1 .1 .0;
+      coded = λ v c. by;
+    }
+  where
+    by : {h : Header} {c : ℕ} → Fails (runAsks args mem out img h) c → (ROOM ≤ c) × (c ≤ SMALL)
+    by (inl f) = (omega (arith, f .1), omega (arith, f .1))
+    by (inr (_, inl f)) = (omega (arith, f .1), omega (arith, f .1))
+    by (inr (_, inr (_, inl f))) = (omega (arith, f .1), omega (arith, f .1))
+    by (inr (_, inr (_, inr (_, inl f)))) = (omega (arith, f .1), omega (arith, f .1))
+    by (inr (_, inr (_, inr (_, inr (_, inl f))))) = (omega (arith, f .1), omega (arith, f .1))
+    by (inr (_, inr (_, inr (_, inr (_, inr f))))) = absurd (f .1)

@@ -21,7 +21,7 @@ use Rattle.machine.proofs.Laws.Rep.{sixteen-bytes}
 use Rattle.rules.specs.Header.{Header}
 use Rattle.standard.specs.Standard.{begin, zeroOf}
 use Rattle.standard.specs.Safety.{Sound}
-use Rattle.run.specs.Run.{Arguments}
+use Rattle.image.specs.Slots.{InSlots}
 
 -- ---- slots
 
@@ -70,7 +70,7 @@ zeros = replicate localBytes 0
 zeros-long : length zeros ≡ localBytes
 zeros-long = length-replicate {A = ℕ} localBytes 0
 
-module _ (h : Header) (args : List ℕ) (vs : List Value) (g : Arguments (h .parameters) args vs)
+module _ (h : Header) (args : List ℕ) (vs : List Value) (g : InSlots (h .parameters) args vs)
     (few : length (h .parameters) + length (h .further) ≤ localCount) where
   pub counted : length vs ≡ length (h .parameters)
   counted = sym (length-map vs kindOf) ∙ ap length (g .kinds)

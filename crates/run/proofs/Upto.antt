@@ -1,4 +1,4 @@
--- Arguments judged one after the other by the kind bytes of the header.
+-- InSlots judged one after the other by the kind bytes of the header.
 use Prim.Native.Nat.{ℕ, _+_, _*_, _≤_, _<_}
 use mathlib.Core.Path.{_≡_, refl, ap, sym, _∙_, subst}
 use mathlib.Core.Bool.{Bool, true, false, cond}
@@ -13,7 +13,7 @@ use Rattle.operation.proofs.Laws.Number.{Bytes}
 use Rattle.opcode.specs.Kind.{Kind, i32, i64, v128, kindByte, bytesUsed}
 use Rattle.machine.specs.Value.{Value}
 use Rattle.rules.specs.Header.{Header, Declares}
-use Rattle.run.specs.Run.{Arguments}
+use Rattle.image.specs.Slots.{InSlots}
 use Rattle.run.specs.Inner.Steps.{Zeros, Sized, Tells, yes, no, usedBy}
 use Rattle.run.proofs.HeaderBytes.{parameter-count, parameter-kind, start, inside}
 use Rattle.run.proofs.Form.{Formed, formed-given, given-formed}
@@ -86,12 +86,12 @@ module _ (s args : List ℕ) (count : ℕ) (sized : Sized s args count) where
           let here : k ≡ j = le-antisymm (omega arith) (ltb-false k j q) in
           subst (λ (n : ℕ). Formed (h .parameters) args n) (sym here) (subst (λ (n : ℕ). Zeros n (slot * j + slot) args) (same j l h d) a)
 
-  pub upto-all : (j : ℕ) → count ≤ j → Bytes args → Upto s args j → (h : Header) → Declares s h → Tells ((vs : List Value) × Arguments (h .parameters) args vs) true
+  pub upto-all : (j : ℕ) → count ≤ j → Bytes args → Upto s args j → (h : Header) → Declares s h → Tells ((vs : List Value) × InSlots (h .parameters) args vs) true
   upto-all j l b u h d =
       yes
       (formed-given (h .parameters) args (sized .slots ∙ ap (λ (n : ℕ). slot * n) (sym (sized .counted) ∙ counted h d)) b
       (λ k m. u h d k (omega (arith, counted h d))))
 
-  pub not-formed : (j : ℕ) → j < count → (Asked s args j → ⊥) → (h : Header) → Declares s h → Tells ((vs : List Value) × Arguments (h .parameters) args vs) false
+  pub not-formed : (j : ℕ) → j < count → (Asked s args j → ⊥) → (h : Header) → Declares s h → Tells ((vs : List Value) × InSlots (h .parameters) args vs) false
   not-formed j l never h d =
       no (λ g. never (subst (λ (n : ℕ). Zeros n (slot * j + slot) args) (sym (same j l h d)) (given-formed (g .1) j (omega (arith, counted h d)))))

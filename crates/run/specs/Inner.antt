@@ -1,4 +1,4 @@
 -- What only contracts inside this crate cite; no promise to a caller does.
-pub mod Steps
 pub mod Carried
+pub mod Steps
 pub mod Ends

@@ -1,37 +1,39 @@
--- What a run's answer tells (01, "Numbers on the inspector's card"): the steps are the standard machine's, and what is left is what it has left.
-use Prim.Native.Nat.{ℕ, suc, _+_, _*_, _≤_, _<_}
+-- What the answer of a run or of a resume tells (01, "Numbers on the inspector's card"; 02, C-14): the steps are the standard machine's, and what is
+-- left is what it has left.
+use Prim.Native.Nat.{ℕ, suc, _*_, _≤_, _<_}
 use mathlib.Core.Path.{_≡_}
 use mathlib.Core.List.{List}
 use mathlib.Core.Logic.{_⊎_}
+use mathlib.Core.Option.{Option}
 use lib.ListN.{length}
-use Rattle.card.specs.Card.{DONE, LABEL, ROOM, FORM, TRAP, BUDGET}
-use Rattle.limits.specs.Limits.{memoryLimit, slot}
+use Rattle.card.specs.Card.{DONE, LABEL, ROOM, TRAP, BUDGET}
+use Rattle.limits.specs.Limits.{slot}
 use Rattle.machine.specs.Value.{Value, allBytes}
 use Rattle.rules.specs.Header.{Header}
 use Rattle.rules.specs.Strip.{Valid}
-use Rattle.standard.specs.Standard.{Config, going, ended, trapped, step, runs, begin}
+use Rattle.standard.specs.Standard.{Config, going, ended, trapped, step, runs}
 use Rattle.standard.specs.Safety.{Strays, Finishes}
-use Rattle.run.specs.Meter.{Left, leaves}
-use Rattle.run.specs.Run.{Arguments, Slots, TurnsAway}
+use Rattle.run.specs.Meter.{Left, leaves, paused}
+use Rattle.run.specs.Call.{AllWell, Asks, TurnsAway}
 
--- the machine starts from b; the results' buffer was out
-module _ (s : List ℕ) (h : Header) (b : Config) (out : List ℕ) (budget : ℕ) where
+-- the machine starts from b; the results' buffer was out, the image's img
+module _ (s : List ℕ) (h : Header) (b : Config) (out : List ℕ) (img : Option (List ℕ)) (budget : ℕ) where
   pub data Told : Left → Type 0 where
     -- the strip's `end`, or a branch out of it, is the last of k + 1 steps, and writes sixteen bytes for each result
     told-done : (k : ℕ) {c : Config} {vs : List Value} {m : List ℕ} → suc k ≤ budget → runs s h k b ≡ going c → step s h c ≡ ended vs m
-        → Finishes s h c vs m → length (allBytes vs) ≡ slot * length (h .results) → Told (leaves DONE 0 (suc k) m (allBytes vs))
+        → Finishes s h c vs m → length (allBytes vs) ≡ slot * length (h .results) → Told (leaves DONE 0 (suc k) m (allBytes vs) img)
     -- at an access past the memory's end; the step after k does not count
     told-trap : (k : ℕ) {c : Config} {a n : ℕ} → k < budget → runs s h k b ≡ going c → step s h c ≡ trapped a n → Strays s h c a n
-        → Told (leaves TRAP (c .place) k (c .state .memory) out)
-    told-budget : {c : Config} → runs s h budget b ≡ going c → Told (leaves BUDGET (c .place) budget (c .state .memory) out)
+        → Told (leaves TRAP (c .place) k (c .state .memory) out img)
+    -- with the image of where it is
+    told-budget : {c : Config} → runs s h budget b ≡ going c → Told (leaves BUDGET (c .place) budget (c .state .memory) out (paused c img))
 
--- a code of the card that a run answers
-abbrev pub OnCard : ℕ → Type 0
-OnCard c = (c ≤ LABEL) ⊎ ((ROOM ≤ c) × (c ≤ FORM)) ⊎ (c ≡ TRAP) ⊎ (c ≡ BUDGET)
+-- a code of the card that a call answers, whose questions have codes from ROOM up to this one
+abbrev pub OnCard : ℕ → ℕ → Type 0
+OnCard last c = (c ≤ LABEL) ⊎ ((ROOM ≤ c) × (c ≤ last)) ⊎ (c ≡ TRAP) ⊎ (c ≡ BUDGET)
 
 -- turned away, for its breach or by what is asked then, with everything as it was; or all was in order, and this is told of the machine
-module _ (s args mem out : List ℕ) (budget : ℕ) where
-  pub data Ran : Left → Type 0 where
-    turned-away : {code place : ℕ} → TurnsAway s args mem out code place → Ran (leaves code place 0 mem out)
-    ran : (v : Valid s) (vs : List Value) {x : Left} → length mem ≤ memoryLimit → Arguments (v .header .parameters) args vs → Slots (v .header .results) out
-        → Told s (v .header) (begin (v .header) vs mem) out budget x → Ran x
+module _ (s mem out : List ℕ) (img : Option (List ℕ)) (budget : ℕ) (asks : Asks) (Starts : Header → Config → Type 0) where
+  pub data Called : Left → Type 0 where
+    turned-away : {code place : ℕ} → TurnsAway s asks code place → Called (leaves code place 0 mem out img)
+    told : (v : Valid s) (c : Config) {x : Left} → AllWell (asks (v .header)) → Starts (v .header) c → Told s (v .header) c out img budget x → Called x

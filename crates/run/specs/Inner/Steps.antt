@@ -1,46 +1,52 @@
 -- Inner: what the parts of a run are asked, and leave.
-use Prim.Native.Nat.{ℕ, _≤_, _<_}
+use Prim.Native.Nat.{ℕ, _≤_}
 use mathlib.Core.Path.{_≡_}
-use mathlib.Core.Bool.{Bool, true, false, cond}
+use mathlib.Core.Bool.{cond}
 use mathlib.Core.List.{List}
-use lib.Dec.{eqb}
-use lib.ListN.{length, getD}
-use Rattle.opcode.specs.Kind.{i32, i64, v128, kindByte, bytesUsed}
+use mathlib.Core.Option.{Option, none, some}
+use lib.Dec.{ltb}
+use lib.ListN.{length}
+use Rattle.card.specs.Card.{DONE, BUDGET}
+use Rattle.card.specs.declared.Answer.{Answer}
+use Rattle.limits.specs.Limits.{memoryLimit}
 use Rattle.machine.specs.Value.{Value}
-use Rattle.rules.specs.Header.{Header, Declares}
+use Rattle.image.specs.Slots.{InSlots}
+use Rattle.image.specs.Image.{imageBytes}
+use Rattle.rules.specs.Header.{Header}
 use Rattle.rules.specs.Strip.{Valid}
-use Rattle.standard.specs.Standard.{begin}
-use Rattle.run.specs.Meter.{Left, meter}
-use Rattle.run.specs.Run.{Arguments, Slots}
+use Rattle.standard.specs.Standard.{Config, begin}
+use Rattle.run.specs.Meter.{Left, leaves, meter, paused}
+use Rattle.run.specs.Call.{TurnsAway}
+use Rattle.run.specs.Run.{Slots, runAsks}
+use Rattle.run.specs.Inner.Carried.{openIn, Carries}
 
--- the answer to whether P
-pub data Tells (P : Type 0) : Bool → Type 0 where
-  yes : P → Tells P true
-  no : (P → ⊥) → Tells P false
-
--- the bytes that a value of this kind byte uses
-abbrev pub usedBy : ℕ → ℕ
-usedBy b = cond (eqb b (kindByte i32)) (bytesUsed i32) (cond (eqb b (kindByte i64)) (bytesUsed i64) (bytesUsed v128))
-
--- from one place up to another there are zeros
-abbrev pub Zeros : ℕ → ℕ → List ℕ → Type 0
-Zeros from to bs = (k : ℕ) → from ≤ k → k < to → getD bs k 0 ≡ 0
-
--- so many parameters are declared, and there are sixteen bytes for each
-pub record Sized (s args : List ℕ) (count : ℕ) : Type 0 where
-  pub header : Header
-  pub declares : Declares s header
-  pub counted : count ≡ length (header .parameters)
-  pub slots : Slots (header .parameters) args
-
--- all that is asked before the first instruction is in order
-pub record Prepared (s args out : List ℕ) : Type 0 where
+-- all that is asked before the first instruction is in order, but for the image's buffer
+pub record Prepared (s args mem out : List ℕ) : Type 0 where
   pub valid : Valid s
   pub values : List Value
-  pub given : Arguments (valid .header .parameters) args values
+  pub given : InSlots (valid .header .parameters) args values
   pub slots : Slots (valid .header .results) out
+  pub room : length mem ≤ memoryLimit
 
--- then this is left
-pub record Drove (s args mem out : List ℕ) (budget : ℕ) (l : Left) : Type 0 where
-  pub ready : Prepared s args out
-  pub same : l ≡ meter s (ready .valid .header) budget 0 (begin (ready .valid .header) (ready .values) mem) out
+-- what is asked of it, whether an image's buffer is lent or not
+pub data Asked (s args mem out : List ℕ) (r : Answer) : Type 0 where
+  turned : r .steps ≡ 0 → (r .code ≡ DONE → ⊥) → ((img : Option (List ℕ)) → TurnsAway s (runAsks args mem out img) (r .code) (r .place)) → Asked s args mem out r
+  well : r .code ≡ DONE → Prepared s args mem out → Asked s args mem out r
+
+-- a buffer that is too short for an image is none
+abbrev pub lent : List ℕ → Option (List ℕ)
+lent buffer = cond (ltb (length buffer) imageBytes) none (some buffer)
+
+-- from the configuration c on: where the budget is spent, the arrays hold where it is
+pub data Went (s : List ℕ) (h : Header) (budget : ℕ) (c : Config) (out : List ℕ) (code place steps depth : ℕ) (mem results stack marks locals : List ℕ) : Type 0 where
+  ended : (code ≡ BUDGET → ⊥) → ((img : Option (List ℕ)) → leaves code place steps mem results img ≡ meter s h budget 0 c out img)
+      → Went s h budget c out code place steps depth mem results stack marks locals
+  spent : code ≡ BUDGET → (d : Config) → Carries s h d place depth (openIn marks) stack marks locals mem
+      → ((img : Option (List ℕ)) → leaves code place steps mem results (paused d img) ≡ meter s h budget 0 c out img)
+      → Went s h budget c out code place steps depth mem results stack marks locals
+
+-- and then this is left of what is lent
+pub record Drove (s args mem out buffer : List ℕ) (budget code place steps : ℕ) (mem′ out′ buffer′ : List ℕ) : Type 0 where
+  pub ready : Prepared s args mem out
+  pub same : leaves code place steps mem′ out′ (lent buffer′)
+      ≡ meter s (ready .valid .header) budget 0 (begin (ready .valid .header) (ready .values) mem) out (lent buffer)
