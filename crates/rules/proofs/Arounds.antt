@@ -12,7 +12,7 @@ use Rattle.opcode.specs.BlockType.{blockResults}
 use Rattle.opcode.specs.Table.{End, Code, plain}
 use Rattle.instr.specs.declared.Instr.{Instr}
 use Rattle.instr.proofs.Ranges.{stands-some}
-use Rattle.rules.specs.Header.{Header, Declares, headerBytes, locals}
+use Rattle.rules.specs.Header.{Header, headerBytes, locals}
 use Rattle.rules.specs.Typing.{Frame, opened, branchKinds, Types, ordinary, branches, may-branch, opens-block, opens-loop, closes, Opens}
 use Rattle.rules.specs.Typing.{block-opens, loop-opens, br-branches, if-branches}
 use Rattle.rules.specs.Strip.{Reads, Reaches, front, past}
