@@ -19,6 +19,7 @@ pub mod Turn
 pub mod Begin
 pub mod Never
 pub mod Placed
+pub mod Rebuilding
 pub mod Realigning
 pub mod Full
 pub mod Sticking

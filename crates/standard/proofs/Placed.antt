@@ -19,7 +19,8 @@ use Rattle.rules.proofs.Typings.{end-untyped, control-untyped}
 use Rattle.rules.proofs.Sorts.{opens-control, branches-plain, opens-branches}
 use Rattle.rules.proofs.Arounds.{Bodies, around-bodies}
 use Rattle.standard.specs.Closing.{Closes, closed, goes-on as on-with, over-block, close}
-use Rattle.standard.specs.Standard.{Label, Config, Stage, going, ended, trapped, halted, withStack, countUnder, after, enter, along, resume, branch, branchIf, stepPlain, stepCode, step, onward, runs, begin}
+use Rattle.standard.specs.Standard.{Label, Config, Stage, going, ended, trapped, halted, withStack, countUnder, after, enter, along, resume}
+use Rattle.standard.specs.Standard.{branch, branchIf, stepPlain, stepCode, step, onward, runs, begin}
 use Rattle.standard.specs.Safety.{Nested, outermost, inside, Sound, Safe, safe-going, bodies, Placed}
 use Rattle.standard.proofs.Steps.{step-does, does-ordinary}
 use Rattle.standard.proofs.Roles.{closer-ends, opener-opens, neither-opens, neither-ends}
@@ -69,8 +70,10 @@ module _ {s : List ℕ} (v : Valid s) where
       (λ vs. subst Good (ap (resume σ l ls vs) (sym (to .found))) (closes-around (at .0) (to .closes-there))))
   branch-placed σ (suc n) (inside a b c d e w) at = branch-placed σ n w (at .1)
 
+  -- ---- one instruction
+
   module _ (c : Config) (placed : Placed s h c) where
-    -- an instruction that opens no block and closes none
+    -- it opens no block and closes none
     goes-past : {n : ℕ} {i : Instr} {k : Code} → Reads (h .version) s (c .place) i k n → (Opens k → ⊥) → (k ≡ plain End → ⊥) → (σ : State)
         → Good (going (record { place = c .place + n; state = σ; labels = c .labels }))
     goes-past r f g σ = same placed r f g
@@ -93,6 +96,7 @@ module _ {s : List ℕ} (v : Valid s) where
     enter-placed : (b : Bool) {n : ℕ} {i : Instr} {k : Code} → Reads (h .version) s (c .place) i k n → Opens k → Good (enter b i n c)
     enter-placed b r o = either (ltb (length (c .labels)) nestLimit) _ halted (begun placed r o) tt
 
+    -- `end` closes the innermost block, or ends the strip
     end-placed : {n : ℕ} {i : Instr} → Reads (h .version) s (c .place) i (plain End) n → (ls : List Label) → Around s h (c .place) (bodies ls)
         → Good (stepPlain h c n i End ls)
     end-placed {n} r [] a = out (ofKinds (c .state .stack) (reverse (h .results)))
@@ -102,8 +106,8 @@ module _ {s : List ℕ} (v : Valid s) where
         out false = tt
     end-placed r (l ∷ ls) a = either (ofKinds (c .state .stack) (reverse (l .results))) _ halted (left a r) tt
 
-    code-placed : {n : ℕ} {i : Instr} {k : Code} {fs fs′ : List Frame} → Reads (h .version) s (c .place) i k n → Types (locals h) i k fs fs′ → Nested s h fs (c .labels)
-        → Good (stepCode s h c n i k)
+    code-placed : {n : ℕ} {i : Instr} {k : Code} {fs fs′ : List Frame} → Reads (h .version) s (c .place) i k n → Types (locals h) i k fs fs′
+        → Nested s h fs (c .labels) → Good (stepCode s h c n i k)
     code-placed {n} {i} {k} r (ordinary t x) w =
         subst Good (sym (does-ordinary s h c n i k (end-untyped t) (λ y. control-untyped t)))
         (after-placed r (λ o. control-untyped t (opens-control o .1)) (end-untyped t) (exec (h .results) k i (c .state)))
