@@ -1,6 +1,4 @@
 pub mod HeaderBytes
-pub mod Form
-pub mod Upto
 pub mod Turning
 pub mod Results
 pub mod Start
@@ -15,6 +13,7 @@ pub mod Driving
 pub mod Beginning
 pub mod Asking
 pub mod Metered
+pub mod Parting
 pub mod Promises
 pub mod NeverStuck
 pub mod Unique

@@ -4,14 +4,14 @@ use mathlib.Core.Path.{_≡_}
 use mathlib.Core.Bool.{cond}
 use mathlib.Core.List.{List}
 use mathlib.Core.Option.{Option, none, some}
-use lib.Dec.{ltb}
+use lib.Dec.{eqb, ltb}
 use lib.ListN.{length}
 use Rattle.card.specs.Card.{DONE, BUDGET}
 use Rattle.card.specs.declared.Answer.{Answer}
 use Rattle.limits.specs.Limits.{memoryLimit}
 use Rattle.machine.specs.Value.{Value}
 use Rattle.image.specs.Slots.{InSlots}
-use Rattle.image.specs.Image.{imageBytes}
+use Rattle.image.specs.Image.{imageBytes, painted}
 use Rattle.rules.specs.Header.{Header}
 use Rattle.rules.specs.Strip.{Valid}
 use Rattle.standard.specs.Standard.{Config, begin}
@@ -44,6 +44,10 @@ pub data Went (s : List ℕ) (h : Header) (budget : ℕ) (c : Config) (out : Lis
   spent : code ≡ BUDGET → (d : Config) → Carries s h d place depth (openIn marks) stack marks locals mem
       → ((img : Option (List ℕ)) → leaves code place steps mem results (paused d img) ≡ meter s h budget 0 c out img)
       → Went s h budget c out code place steps depth mem results stack marks locals
+
+-- what a stop leaves of an image's buffer: only where the budget is spent it is written
+abbrev pub pictured : ℕ → ℕ → ℕ → List ℕ → List ℕ → List ℕ → List ℕ
+pictured code place depth locals stack buffer = cond (eqb code BUDGET) (painted place depth locals stack buffer) buffer
 
 -- and then this is left of what is lent
 pub record Drove (s args mem out buffer : List ℕ) (budget code place steps : ℕ) (mem′ out′ buffer′ : List ℕ) : Type 0 where
