@@ -14,7 +14,10 @@ pub mod Beginning
 pub mod Asking
 pub mod Metered
 pub mod Parting
+pub mod TempLaws
+pub mod Picturing
 pub mod Promises
 pub mod NeverStuck
 pub mod Unique
 pub mod Exponents
+pub mod Slicing

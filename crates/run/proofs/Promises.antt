@@ -11,11 +11,8 @@ use Rattle.image.specs.Image.{IMAGE}
 use Rattle.limits.specs.Limits.{fileLimit}
 use Rattle.leb128.specs.Bytes.{bytes}
 use Rattle.machine.specs.Value.{Value}
-use Rattle.instr.proofs.Ranges.{stands-inside}
 use Rattle.rules.specs.Header.{Header}
-use Rattle.rules.specs.Typing.{Frame}
-use Rattle.rules.specs.Strip.{Reaches, front, past, Valid}
-use Rattle.rules.proofs.Onward.{declared}
+use Rattle.rules.specs.Strip.{Valid}
 use Rattle.rules.specs.Breach.{Breach, long, stub, unmarked, other-version, parameters, further, results, kind, kinds-short, short, block-type, opcode, float, number, lane, align, local, nest, label, operand, deep, result, trailing, breach}
 use Rattle.checker.proofs.Exact as Exact
 use Rattle.standard.specs.Standard.{Config, going, ended, step, runs, begin}
@@ -28,10 +25,10 @@ use Rattle.run.specs.Call.{Fails, AllWell, Asks, breaks, fails, Calls, r
 use Rattle.run.specs.Run.{Slots, runAsks, Begins, Runs}
 use Rattle.run.specs.Resume.{Pictures, resumeAsks, Resumes}
 use Rattle.run.specs.Told.{Told, told-done, told-trap, told-budget, OnCard, Called, turned-away, told}
-use Rattle.run.proofs.HeaderBytes.{inside}
+use Rattle.run.proofs.Places.{reached-inside}
 use Rattle.run.proofs.Metered.{metered-tells}
 
-breach-range : {s : List ℕ} {c p : ℕ} → Breach s c p → (LONG ≤ c) × (c ≤ LABEL)
+pub breach-range : {s : List ℕ} {c p : ℕ} → Breach s c p → (LONG ≤ c) × (c ≤ LABEL)
 breach-range (long g) = (omega arith, omega arith)
 breach-range (stub g) = (omega arith, omega arith)
 breach-range (unmarked z f) = (omega arith, omega arith)
@@ -55,11 +52,6 @@ breach-range (operand a o d l f) = (omega arith, omega arith)
 breach-range (deep a t g) = (omega arith, omega arith)
 breach-range (result a f) = (omega arith, omega arith)
 breach-range (trailing a e g) = (omega arith, omega arith)
-
--- a place that is reached is one of the file
-reached-inside : {s : List ℕ} {h : Header} {p : ℕ} {fs : List Frame} → Reaches s h p fs → p ≤ fileLimit
-reached-inside (front d) = omega (arith, inside d, d .sized)
-reached-inside (past r q t l) = omega (arith, stands-inside (q .stands), declared r .sized)
 
 -- ---- what is told of the standard's machine from a sound state
 

@@ -23,6 +23,8 @@ use Rattle.standard.specs.Standard.{Config, begin}
 use Rattle.run.specs.Meter.{Left, leaves, meter}
 use Rattle.run.specs.Call.{Question, _or_, Fails, AllWell, Asks, TurnsAway, breaks, fails, Calls, refused, metered}
 use Rattle.run.specs.Run.{runAsks, Begins, Runs}
+use Rattle.run.specs.Resume.{resumeAsks, Resumes}
+use Rattle.run.proofs.Picturing.{pictures-once}
 
 -- ---- arguments hold one list of values
 
@@ -105,5 +107,12 @@ module _ {s : List ℕ} (asks : Asks) where
 begins-once : {args mem : List ℕ} {h : Header} (c d : Config) → Begins args mem h c → Begins args mem h d → c ≡ d
 begins-once {mem = mem} {h} c d a b = a .begins ∙ ap (λ (vs : List Value). begin h vs mem) (in-slots-once (a .given) (b .given)) ∙ sym (b .begins)
 
-pub runs-once : {s args mem out : List ℕ} {img : Option (List ℕ)} {budget : ℕ} {x y : Left} → Runs s args mem out img budget x → Runs s args mem out img budget y → x ≡ y
-runs-once {args = args} {mem} {out} {img} = calls-once (runAsks args mem out img) (λ v. begins-once)
+module _ (s args mem out : List ℕ) (img : Option (List ℕ)) (budget : ℕ) where
+  pub runs-once : {x y : Left} → Runs s args mem out img budget x → Runs s args mem out img budget y → x ≡ y
+  runs-once = calls-once (runAsks args mem out img) (λ v. begins-once)
+
+-- ---- the resume
+
+module _ (s mem out buffer : List ℕ) (budget : ℕ) where
+  pub resumes-once : {x y : Left} → Resumes s mem out buffer budget x → Resumes s mem out buffer budget y → x ≡ y
+  resumes-once = calls-once (resumeAsks s mem out buffer) (λ v c d p q. pictures-once p d q)
