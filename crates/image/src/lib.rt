@@ -13,4 +13,4 @@ pub(crate) const FRONT: usize = 3 + 2 + 4 + 2;
 // An image's bytes.
 pub const BYTES: usize = FRONT + limits::LOCAL_BYTES + limits::STACK_BYTES;
 
-pub const VERSION: u16 = 1;
+pub const VERSION: usize = 1;

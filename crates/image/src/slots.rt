@@ -1,9 +1,12 @@
 // Values in slots: sixteen bytes for each, of which those that its kind does not use are zero.
 ghost use mathlib.Core.Path.{_≡_};
 ghost use mathlib.Core.List.{List, map};
+ghost use Prim.Native.Nat.{_≤_};
+ghost use lib.ListN.{length};
 ghost use Rattle.opcode.specs.Kind.{Kind, kindByte};
 ghost use Rattle.machine.specs.Value.{Value};
 ghost use Rattle.image.specs.Slots.{InSlots, Tells};
+ghost use Rattle.image.specs.Inner.Parts.{Zeros, usedBy};
 
 // Whether the bytes are values of these kinds, a byte each.
 pub fn formed(kinds: &[u8], bytes: &[u8]) -> bool
@@ -27,6 +30,7 @@ pub fn formed(kinds: &[u8], bytes: &[u8]) -> bool
 }
 
 fn used(kind: u8) -> usize
+    ensures { λ r. ⌜ r ≡ usedBy kind ⌝ }
 {
     match kind {
         opcode::kind::I32 => 4,
@@ -36,6 +40,8 @@ fn used(kind: u8) -> usize
 }
 
 pub(crate) fn zero_between(bytes: &[u8], from: usize, to: usize) -> bool
+    requires { ⌜ to ≤ length (now bytes) ⌝ }
+    ensures { λ r. ⌜ Tells (Zeros from to (now (bytes .entry))) r ⌝ }
 {
     let mut k = from;
     while k < to {
