@@ -5,3 +5,5 @@ pub mod Parts
 pub mod Laying
 pub mod Showing
 pub mod Painting
+pub mod Laws
+pub mod Unique

@@ -42,9 +42,9 @@ fill-all out bs at room to e₁ e e₂ =
 -- ---- the whole
 
 module _ (place depth : ℕ) (locals stack buffer : List ℕ) where
-  pub painted-short : length buffer < imageBytes → painted place depth locals stack buffer ≡ buffer
+  pub painted-none : length buffer < imageBytes → painted place depth locals stack buffer ≡ buffer
   unfolding painted
-  painted-short h = rw (lt-ltb (length buffer) imageBytes h)
+  painted-none h = rw (lt-ltb (length buffer) imageBytes h)
 
   module _ (long : imageBytes ≤ length buffer) where
     pub painted-many : localBytes < length locals → painted place depth locals stack buffer ≡ buffer

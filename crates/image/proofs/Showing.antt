@@ -96,10 +96,10 @@ module _ (b kinds : List ℕ) (at room : ℕ) (inside : at + room ≤ length b) 
 
 -- ---- all of it
 
-local-fit : (us : List Value) → AllInRange us → length us ≤ localCount → length (allBytes us) ≤ localBytes
+pub local-fit : (us : List Value) → AllInRange us → length us ≤ localCount → length (allBytes us) ≤ localBytes
 local-fit us r l = omega (arith, all-long us r)
 
-stack-fit : (ws : List Value) → AllInRange ws → length ws ≤ stackLimit → length (allBytes ws) ≤ stackBytes
+pub stack-fit : (ws : List Value) → AllInRange ws → length ws ≤ stackLimit → length (allBytes ws) ≤ stackBytes
 stack-fit ws r l = omega (arith, all-long ws r)
 
 module _ {ls vs : List Kind} {b : List ℕ} {place : ℕ} {us ws : List Value} (s : Shows ls vs b place us ws) where

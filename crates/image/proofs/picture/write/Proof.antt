@@ -1,14 +1,14 @@
 -- Nothing without room; else the parts one after the other.
 use mathlib.Core.Path.{sym}
 use borrow.Author.Needs.{needs}
-use Rattle.image.proofs.Painting.{painted-short, painted-many, painted-high, painted-parts}
+use Rattle.image.proofs.Painting.{painted-none, painted-many, painted-high, painted-parts}
 use Rattle.image.proofs.picture.write.Statement.{statement}
 use Rattle.image.proofs.picture.write.Tie as tie
 
 returns : tie.Need-returns
 returns c =
     let a = c .before .before .before .before .args in
-    sym (painted-short (a .place) (a .depth) (a .locals .now) (a .stack .now) (a .image .now) (c .if1 .taken))
+    sym (painted-none (a .place) (a .depth) (a .locals .now) (a .stack .now) (a .image .now) (c .if1 .taken))
 
 returns-2 : tie.Need-returns-2
 returns-2 c =
