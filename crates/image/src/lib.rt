@@ -8,7 +8,7 @@ pub use picture::write;
 pub use slots::formed;
 
 // Mark, version, place and depth.
-pub(crate) const FRONT: usize = 3 + 2 + 4 + 2;
+pub const FRONT: usize = 3 + 2 + 4 + 2;
 
 // An image's bytes.
 pub const BYTES: usize = FRONT + limits::LOCAL_BYTES + limits::STACK_BYTES;

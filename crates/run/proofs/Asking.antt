@@ -1,15 +1,16 @@
 -- The questions that a run and a resume ask before the first instruction, in the card's order.
-use Prim.Native.Nat.{ℕ, _*_, _≤_, _<_}
+use Prim.Native.Nat.{ℕ, _+_, _*_, _-_, _≤_, _<_}
 use mathlib.Core.Path.{_≡_, refl, ap, sym, _∙_, subst}
 use mathlib.Core.Bool.{Bool, true, false}
-use mathlib.Core.List.{List}
+use mathlib.Core.List.{List, map}
 use mathlib.Core.Logic.{inl, inr}
 use mathlib.Core.Option.{Option}
 use native.Mathlib.Omega.{arith}
-use lib.ListN.{length, getD}
+use lib.ListN.{length, getD, take, drop}
 use Rattle.card.specs.Card.{DONE, ROOM, ARGS, OUT, FORM}
 use Rattle.card.specs.declared.Answer.{Answer}
 use Rattle.limits.specs.Limits.{slot, memoryLimit}
+use Rattle.opcode.specs.Kind.{Kind, kindByte}
 use Rattle.machine.specs.Value.{Value}
 use Rattle.image.specs.Slots.{InSlots, Tells, yes, no}
 use Rattle.rules.specs.Header.{Header, Declares}
@@ -20,7 +21,7 @@ use Rattle.checker.proofs.Exact.{done-exact, breach-exact}
 use Rattle.run.specs.Call.{Fails, TurnsAway, breaks, fails}
 use Rattle.run.specs.Run.{Slots, runAsks}
 use Rattle.run.specs.Inner.Steps.{Prepared, Asked, turned, well}
-use Rattle.run.proofs.HeaderBytes.{Counts, counts-read, parameter-count, result-count}
+use Rattle.run.proofs.HeaderBytes.{inside, Counts, counts-read, parameter-count, parameter-kinds, result-count}
 
 -- of what is told, one half
 pub told-yes : {P : Type 0} {r : Bool} → Tells P r → r ≡ true → P
@@ -45,6 +46,10 @@ module _ {s : List ℕ} {w : Answer} (checked : Checked s w) where
 
   pub counts-of : (done : w .code ≡ DONE) → Counts (declared (passed done .reached))
   counts-of done = counts-read (declared (passed done .reached))
+
+  -- the kind bytes stand in the strip
+  pub kinds-inside : w .code ≡ DONE → 8 + (getD s 5 0 + getD s 6 0) ≤ length s
+  kinds-inside done = omega (arith, counts-of done .body, inside (declared (passed done .reached)))
 
   module _ (args mem out : List ℕ) where
     pub checked-first : (w .code ≡ DONE → ⊥) → Asked s args mem out w
@@ -75,7 +80,12 @@ module _ {s : List ℕ} {w : Answer} (checked : Checked s w) where
           pub other-out : {r : Answer} → (r .code ≡ OUT) × (r .place ≡ 0) × (r .steps ≡ 0) → (length out ≡ slot * getD s 7 0 → ⊥) → Asked s args mem out r
           other-out e ne = early e (λ z. omega (arith, z)) (λ img. inr (l, inr (sized, inl (λ q. ne (q ∙ sym (results-told (passed done))), refl))))
 
-          module _ (o : length out ≡ slot * getD s 7 0) {t : Bool} (told : Tells ((vs : List Value) × InSlots (h .parameters) args vs) t) where
+          -- what is told of the bytes from 8 on, up to the last parameter's
+          module _ (o : length out ≡ slot * getD s 7 0) {t : Bool}
+              (formed : (ks : List Kind) → take (8 + getD s 5 0 - 8) (drop 8 s) ≡ map kindByte ks → Tells ((vs : List Value) × InSlots ks args vs) t) where
+            told : Tells ((vs : List Value) × InSlots (h .parameters) args vs) t
+            told = formed (h .parameters) (parameter-kinds (declared (passed done .reached)) (8 + getD s 5 0 - 8) (omega arith))
+
             pub other-form : {r : Answer} → (r .code ≡ FORM) × (r .place ≡ 0) × (r .steps ≡ 0) → t ≡ false → Asked s args mem out r
             other-form e f =
                 early e (λ z. omega (arith, z)) (λ img. inr (l, inr (sized, inr (o ∙ results-told (passed done), inl (told-no told f, refl)))))

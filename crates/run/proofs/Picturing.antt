@@ -64,12 +64,14 @@ module _ {s : List ℕ} {h : Header} {c : Config} (sound : Sound s h c) where
         stack-kinds = value-kinds;
         local-range = sound .fits .local-range;
         stack-range = in-range;
+        local-room = few-locals;
+        stack-room = few-values;
         rest = rest;
         begins = e;
       }
 
   pub place-in : (buffer rest : List ℕ) → buffer ≡ pictureOf c ++ rest → placeIn buffer ≡ c .place
-  place-in buffer rest e = shown-place (sound-shows buffer rest e) few-locals few-values place-small
+  place-in buffer rest e = shown-place (sound-shows buffer rest e) place-small
 
 -- ---- one to one
 

@@ -39,9 +39,9 @@ lent buffer = cond (ltb (length buffer) imageBytes) none (some buffer)
 
 -- from the configuration c on: where the budget is spent, the arrays hold where it is
 pub data Went (s : List ℕ) (h : Header) (budget : ℕ) (c : Config) (out : List ℕ) (code place steps depth : ℕ) (mem results stack marks locals : List ℕ) : Type 0 where
-  ended : (code ≡ BUDGET → ⊥) → ((img : Option (List ℕ)) → leaves code place steps mem results img ≡ meter s h budget 0 c out img)
+  stops : (code ≡ BUDGET → ⊥) → ((img : Option (List ℕ)) → leaves code place steps mem results img ≡ meter s h budget 0 c out img)
       → Went s h budget c out code place steps depth mem results stack marks locals
-  spent : code ≡ BUDGET → (d : Config) → Carries s h d place depth (openIn marks) stack marks locals mem
+  pauses : code ≡ BUDGET → (d : Config) → Carries s h d place depth (openIn marks) stack marks locals mem
       → ((img : Option (List ℕ)) → leaves code place steps mem results (paused d img) ≡ meter s h budget 0 c out img)
       → Went s h budget c out code place steps depth mem results stack marks locals
 
