@@ -69,7 +69,8 @@ fn fronts(image: &[u8], depth: usize) -> bool
     if word(image, 3) != VERSION {
         return false;
     }
-    word(image, 9) == depth
+    let deep = word(image, 9);
+    deep == depth
 }
 
 // Whether the room from `at` on begins with values of these kinds, and the rest of it is zero.
@@ -78,10 +79,11 @@ fn rooms(image: &[u8], at: usize, room: usize, kinds: &[u8]) -> bool
     ensures { λ r. ⌜ ((ks : List Kind) → now (kinds .entry) ≡ map kindByte ks → Tells ((vs : List Value) × Rooms ks room (part room at (now (image .entry))) vs) r) ⌝ }
 {
     let end = at + limits::SLOT * kinds.len();
+    let past = at + room;
     if !slots::formed(kinds, &image[at..end]) {
         return false;
     }
-    slots::zero_between(image, end, at + room)
+    slots::zero_between(image, end, past)
 }
 
 // Two bytes, little-endian.
@@ -151,8 +153,9 @@ fn fill(image: &mut [u8], at: usize, room: usize, slots: &[u8])
     requires { ⌜ (at + room ≤ length (now image)) × (length (now slots) ≤ room) ⌝ }
     ensures { λ r. ⌜ now (image .exit) ≡ sets (now (image .entry)) at (filled room (now (slots .entry))) ⌝ }
 {
+    let past = at + room;
     let next = at + bytes::copy(slots, &mut image[at..]);
-    clear(image, next, at + room);
+    clear(image, next, past);
 }
 
 fn clear(image: &mut [u8], from: usize, to: usize)
