@@ -12,10 +12,11 @@ ghost use Rattle.machine.specs.Memory.{part};
 ghost use Rattle.image.specs.Slots.{Tells};
 ghost use Rattle.image.specs.Image.{frontBytes, frontOf, filled, painted, placeIn, Shows};
 ghost use Rattle.image.specs.Inner.Parts.{Fronts, Rooms};
-use crate::slots;
 use crate::BYTES;
 use crate::FRONT;
+use crate::STACK_AT;
 use crate::VERSION;
+use crate::slots;
 
 // ---- reading
 
@@ -49,7 +50,7 @@ pub fn shows(image: &[u8], locals: &[u8], stack: &[u8]) -> bool
     if !rooms(image, FRONT, limits::LOCAL_BYTES, locals) {
         return false;
     }
-    rooms(image, FRONT + limits::LOCAL_BYTES, limits::STACK_BYTES, stack)
+    rooms(image, STACK_AT, limits::STACK_BYTES, stack)
 }
 
 // Whether the mark, the version and the depth are right.
@@ -118,7 +119,7 @@ pub fn write(image: &mut [u8], place: usize, depth: usize, locals: &[u8], stack:
     let front = front(place, depth);
     bytes::copy(&front, image);
     fill(image, FRONT, limits::LOCAL_BYTES, locals);
-    fill(image, FRONT + limits::LOCAL_BYTES, limits::STACK_BYTES, stack);
+    fill(image, STACK_AT, limits::STACK_BYTES, stack);
 }
 
 // Mark, version, place and depth.

@@ -6,7 +6,7 @@ use borrow.Author.Needs.{needs}
 use borrow.Author.Tests.{not-true, not-false}
 use lib.ListN.{length}
 use Rattle.limits.specs.Limits.{slot}
-use Rattle.image.proofs.Showing.{not-in-slots, room-told}
+use Rattle.image.proofs.Pieces.{not-in-slots, room-told}
 use Rattle.image.proofs.picture.rooms.Statement.{statement}
 use Rattle.image.proofs.picture.rooms.Tie as tie
 
