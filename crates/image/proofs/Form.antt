@@ -49,7 +49,8 @@ small u bs h b zs =
     let front = length-take-le u bs h in
     let none = number-zero (drop u bs) (λ k l m. getD-drop u bs k 0 ∙ zs (u + k) (omega arith) (omega (arith, length-drop u bs))) in
     let low = number-lt (take u bs) (bytes-take u bs b) in
-    let all = sym (ap number (take-append-drop u bs)) ∙ number-append (take u bs) (drop u bs) ∙ ap (λ (n : ℕ). n * 2 ^ (8 * length (take u bs)) + number (take u bs)) none in
+    let all =
+    sym (ap number (take-append-drop u bs)) ∙ number-append (take u bs) (drop u bs) ∙ ap (λ (n : ℕ). n * 2 ^ (8 * length (take u bs)) + number (take u bs)) none in
     subst (λ (n : ℕ). number bs < 2 ^ (8 * n)) front (omega (arith, all, low))
 
 -- the value of a kind whose sixteen bytes these are
@@ -132,4 +133,5 @@ all-formed (v ∷ vs) r (suc j) h k l m =
 pub given-formed : {ks : List Kind} {bs : List ℕ} {vs : List Value} → InSlots ks bs vs → (j : ℕ) → j < length ks → Formed ks bs j
 given-formed {ks} {bs} {vs} g j h =
     subst (λ (xs : List Kind). Formed xs bs j) (g .kinds)
-    (subst (λ (xs : List ℕ). Formed (map kindOf vs) xs j) (sym (g .bytes)) (all-formed vs (g .range) j (omega (arith, sym (length-map vs kindOf) ∙ ap length (g .kinds)))))
+    (subst (λ (xs : List ℕ). Formed (map kindOf vs) xs j) (sym (g .bytes))
+    (all-formed vs (g .range) j (omega (arith, sym (length-map vs kindOf) ∙ ap length (g .kinds)))))

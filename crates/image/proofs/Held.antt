@@ -15,9 +15,9 @@ use Rattle.image.specs.Slots.{InSlots}
 -- two ways to part one list, the first part as long in both
 pub parts-once : (xs xs′ ys ys′ : List ℕ) → length xs ≡ length xs′ → xs ++ ys ≡ xs′ ++ ys′ → (xs ≡ xs′) × (ys ≡ ys′)
 parts-once xs xs′ ys ys′ l e = (
-      sym (take-at xs ys (length xs′) l) ∙ ap (take (length xs′)) e ∙ take-at xs′ ys′ (length xs′) refl,
-      sym (drop-at xs ys (length xs′) l) ∙ ap (drop (length xs′)) e ∙ drop-at xs′ ys′ (length xs′) refl,
-    )
+  sym (take-at xs ys (length xs′) l) ∙ ap (take (length xs′)) e ∙ take-at xs′ ys′ (length xs′) refl,
+  sym (drop-at xs ys (length xs′) l) ∙ ap (drop (length xs′)) e ∙ drop-at xs′ ys′ (length xs′) refl,
+)
 
 -- ---- how many bytes
 

@@ -14,7 +14,7 @@ use Rattle.opcode.specs.Kind.{Kind, i32, i64, v128, kindByte, bytesUsed}
 use Rattle.machine.specs.Value.{Value}
 use Rattle.image.specs.Slots.{InSlots, Tells, yes, no}
 use Rattle.image.specs.Inner.Parts.{Zeros, usedBy}
-use Rattle.image.proofs.Form.{Formed, formed-given, given-formed}
+use Rattle.image.proofs.Form.{formed-given, given-formed}
 use Rattle.image.proofs.Held.{slots-long}
 
 -- ---- answers

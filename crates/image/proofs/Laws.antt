@@ -6,7 +6,7 @@ use native.Mathlib.Nat.{mod-eq-of-lt}
 use native.Mathlib.Omega.{arith}
 use lib.ListN.{length, drop, replicate, length-map}
 use Rattle.limits.specs.Limits.{localCount, stackLimit, localBytes, stackBytes}
-use Rattle.operation.specs.Vector.{le, number}
+use Rattle.operation.specs.Vector.{number}
 use Rattle.operation.proofs.Laws.Number.{number-le}
 use Rattle.opcode.specs.Kind.{Kind}
 use Rattle.machine.specs.Value.{Value, kindOf, AllInRange, allBytes}
@@ -66,7 +66,8 @@ room-once : (n : ℕ) (us ws : List Value) → map kindOf us ≡ map kindOf ws �
 room-once n us ws k p q e =
     let many : length us ≡ length ws = sym (length-map us kindOf) ∙ ap length k ∙ length-map ws kindOf in
     values-once us ws k p q
-    (parts-once (allBytes us) (allBytes ws) (replicate (n - length (allBytes us)) 0) (replicate (n - length (allBytes ws)) 0) (omega (arith, all-long us p, all-long ws q)) e .0)
+    (parts-once (allBytes us) (allBytes ws) (replicate (n - length (allBytes us)) 0) (replicate (n - length (allBytes ws)) 0)
+    (omega (arith, all-long us p, all-long ws q)) e .0)
 
 pub shows-once : {ls vs : List Kind} {buffer : List ℕ} {p q : ℕ} {us ws us′ ws′ : List Value} → Shows ls vs buffer p us ws → Shows ls vs buffer q us′ ws′
     → p < 2 ^ 32 → q < 2 ^ 32 → (p ≡ q) × (us ≡ us′) × (ws ≡ ws′)

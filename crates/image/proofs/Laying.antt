@@ -1,14 +1,14 @@
 -- An image by its parts: what a buffer that begins with one has at each, and that these make it begin with one.
-use Prim.Native.Nat.{ℕ, _+_, _*_, _≤_}
+use Prim.Native.Nat.{ℕ, _+_, _≤_}
 use mathlib.Core.Path.{_≡_, refl, ap, ap₂, sym, _∙_}
-use mathlib.Core.List.{List, [], _∷_, _++_, append-assoc}
+use mathlib.Core.List.{List, _++_, append-assoc}
 use native.Mathlib.Omega.{arith}
 use lib.ListN.{length, take, drop, length-append, take-append-drop}
 use lib.Seq.{drop-drop, take-add, take-at, drop-at}
 use Rattle.limits.specs.Limits.{localBytes, stackBytes}
 use Rattle.operation.specs.Vector.{le}
 use Rattle.machine.specs.Memory.{part}
-use Rattle.image.specs.Image.{imageMark, imageVersion, frontBytes, imageBytes, frontOf, filled, laid}
+use Rattle.image.specs.Image.{frontBytes, imageBytes, frontOf, filled, laid}
 use Rattle.image.specs.Inner.Parts.{Fronts}
 use Rattle.image.proofs.Parts.{length-filled}
 

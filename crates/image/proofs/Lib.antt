@@ -3,6 +3,7 @@ pub mod Held
 pub mod Judging
 pub mod Parts
 pub mod Laying
+pub mod Pieces
 pub mod Showing
 pub mod Painting
 pub mod Laws

@@ -4,7 +4,7 @@ use mathlib.Core.Path.{_≡_, refl, ap, ap₂, sym, _∙_}
 use mathlib.Core.List.{List, [], _∷_, _++_}
 use native.Mathlib.Numerals.{add-one}
 use native.Mathlib.Omega.{arith}
-use lib.ListN.{length, getD, take, drop, replicate, length-append, length-replicate, getD-replicate, List·getD-append}
+use lib.ListN.{length, getD, take, drop, replicate, length-append, length-replicate, getD-replicate}
 use lib.Seq.{drop-cons, drop-drop, take-add, take-take, take-at, getD-take, getD-drop, getD-append-add, ext-getD}
 use Rattle.operation.specs.Vector.{le, number}
 use Rattle.operation.proofs.Laws.Number.{Bytes, number-append, number-lt, le-number}

@@ -10,7 +10,10 @@ pub use slots::formed;
 // Mark, version, place and depth.
 pub const FRONT: usize = 3 + 2 + 4 + 2;
 
+// Where the stack begins.
+pub(crate) const STACK_AT: usize = FRONT + limits::LOCAL_BYTES;
+
 // An image's bytes.
-pub const BYTES: usize = FRONT + limits::LOCAL_BYTES + limits::STACK_BYTES;
+pub const BYTES: usize = STACK_AT + limits::STACK_BYTES;
 
 pub const VERSION: usize = 1;

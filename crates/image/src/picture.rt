@@ -12,10 +12,11 @@ ghost use Rattle.machine.specs.Memory.{part};
 ghost use Rattle.image.specs.Slots.{Tells};
 ghost use Rattle.image.specs.Image.{frontBytes, frontOf, filled, painted, placeIn, Shows};
 ghost use Rattle.image.specs.Inner.Parts.{Fronts, Rooms};
-use crate::slots;
 use crate::BYTES;
 use crate::FRONT;
+use crate::STACK_AT;
 use crate::VERSION;
+use crate::slots;
 
 // ---- reading
 
@@ -49,7 +50,7 @@ pub fn shows(image: &[u8], locals: &[u8], stack: &[u8]) -> bool
     if !rooms(image, FRONT, limits::LOCAL_BYTES, locals) {
         return false;
     }
-    rooms(image, FRONT + limits::LOCAL_BYTES, limits::STACK_BYTES, stack)
+    rooms(image, STACK_AT, limits::STACK_BYTES, stack)
 }
 
 // Whether the mark, the version and the depth are right.
@@ -69,7 +70,8 @@ fn fronts(image: &[u8], depth: usize) -> bool
     if word(image, 3) != VERSION {
         return false;
     }
-    word(image, 9) == depth
+    let deep = word(image, 9);
+    deep == depth
 }
 
 // Whether the room from `at` on begins with values of these kinds, and the rest of it is zero.
@@ -78,10 +80,11 @@ fn rooms(image: &[u8], at: usize, room: usize, kinds: &[u8]) -> bool
     ensures { λ r. ⌜ ((ks : List Kind) → now (kinds .entry) ≡ map kindByte ks → Tells ((vs : List Value) × Rooms ks room (part room at (now (image .entry))) vs) r) ⌝ }
 {
     let end = at + limits::SLOT * kinds.len();
+    let past = at + room;
     if !slots::formed(kinds, &image[at..end]) {
         return false;
     }
-    slots::zero_between(image, end, at + room)
+    slots::zero_between(image, end, past)
 }
 
 // Two bytes, little-endian.
@@ -116,7 +119,7 @@ pub fn write(image: &mut [u8], place: usize, depth: usize, locals: &[u8], stack:
     let front = front(place, depth);
     bytes::copy(&front, image);
     fill(image, FRONT, limits::LOCAL_BYTES, locals);
-    fill(image, FRONT + limits::LOCAL_BYTES, limits::STACK_BYTES, stack);
+    fill(image, STACK_AT, limits::STACK_BYTES, stack);
 }
 
 // Mark, version, place and depth.
@@ -151,8 +154,9 @@ fn fill(image: &mut [u8], at: usize, room: usize, slots: &[u8])
     requires { ⌜ (at + room ≤ length (now image)) × (length (now slots) ≤ room) ⌝ }
     ensures { λ r. ⌜ now (image .exit) ≡ sets (now (image .entry)) at (filled room (now (slots .entry))) ⌝ }
 {
+    let past = at + room;
     let next = at + bytes::copy(slots, &mut image[at..]);
-    clear(image, next, at + room);
+    clear(image, next, past);
 }
 
 fn clear(image: &mut [u8], from: usize, to: usize)

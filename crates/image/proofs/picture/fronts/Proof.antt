@@ -3,7 +3,7 @@ use native.Mathlib.Omega.{arith}
 use borrow.Author.Needs.{needs}
 use mathlib.Core.Path.{_∙_}
 use Rattle.image.specs.Slots.{no}
-use Rattle.image.proofs.Showing.{mark-read, version-read, fronts-told}
+use Rattle.image.proofs.Pieces.{mark-read, version-read, fronts-told}
 use Rattle.image.proofs.picture.fronts.Statement.{statement}
 use Rattle.image.proofs.picture.fronts.Tie as tie
 

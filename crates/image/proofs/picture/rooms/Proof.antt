@@ -6,7 +6,7 @@ use borrow.Author.Needs.{needs}
 use borrow.Author.Tests.{not-true, not-false}
 use lib.ListN.{length}
 use Rattle.limits.specs.Limits.{slot}
-use Rattle.image.proofs.Showing.{not-in-slots, room-told}
+use Rattle.image.proofs.Pieces.{not-in-slots, room-told}
 use Rattle.image.proofs.picture.rooms.Statement.{statement}
 use Rattle.image.proofs.picture.rooms.Tie as tie
 
@@ -27,5 +27,5 @@ returns-2 c =
 pub rooms-spec : {M : Type 1} → statement M
 rooms-spec =
     tie.close
-    (tie.spec (λ c. search needs) (λ c. search needs) (λ c. search needs) (λ c. search needs) (λ c. search needs) (λ c κs. search needs) returns
-    (λ c. search needs) (λ c κs. search needs) returns-2)
+    (tie.spec (λ c. search needs) (λ c. search needs) (λ c. search needs) (λ c. search needs) (λ c. search needs) (λ c. search needs) (λ c κs. search needs)
+    returns (λ c κs. search needs) returns-2)

@@ -1,6 +1,4 @@
 -- One question after the other; the stack's answer is the whole's.
-use mathlib.Core.Path.{_≡_, ap, sym, _∙_, subst}
-use native.Mathlib.Omega.{arith}
 use borrow.Author.Needs.{needs}
 use borrow.Author.Tests.{not-true, not-false}
 use Rattle.image.proofs.Showing.{not-long, not-few, not-deep, not-fronts, not-locals, shown-told}
@@ -40,5 +38,4 @@ returns-6 c =
 pub shows-spec : {M : Type 1} → statement M
 shows-spec =
     tie.close
-    (tie.spec returns (λ c. search needs) returns-2 returns-3 (λ c κs. search needs) returns-4 (λ c κs. search needs) returns-5 (λ c. search needs)
-    (λ c κs. search needs) returns-6)
+    (tie.spec returns (λ c. search needs) returns-2 returns-3 (λ c κs. search needs) returns-4 (λ c κs. search needs) returns-5 (λ c κs. search needs) returns-6)

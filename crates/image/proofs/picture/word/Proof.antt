@@ -1,6 +1,5 @@
 -- Each of the two is a byte.
 use Prim.Native.Nat.{_+_}
-use mathlib.Core.Path.{sym, _∙_}
 use native.Mathlib.Omega.{arith}
 use borrow.Author.Needs.{needs}
 use Rattle.image.proofs.Parts.{two-number}
