@@ -66,6 +66,3 @@ pub record Shows (locals stack : List Kind) (buffer : List ℕ) (place : ℕ) (l
   pub stack-room : length vs ≤ stackLimit
   pub rest : List ℕ
   pub begins : buffer ≡ imageOf place ls vs ++ rest
-
-abbrev pub IMAGE : ℕ
-IMAGE = 25

@@ -12,7 +12,8 @@ use Rattle.card.specs.declared.Answer.{Answer}
 use Rattle.limits.specs.Limits.{slot, memoryLimit}
 use Rattle.opcode.specs.Kind.{Kind, kindByte}
 use Rattle.machine.specs.Value.{Value}
-use Rattle.image.specs.Slots.{InSlots, Tells, yes, no}
+use Rattle.image.specs.Slots.{InSlots, Tells}
+use Rattle.image.proofs.Judging.{told-yes, told-no}
 use Rattle.rules.specs.Header.{Header, Declares}
 use Rattle.rules.specs.Strip.{Valid}
 use Rattle.rules.proofs.Onward.{declared}
@@ -22,15 +23,6 @@ use Rattle.run.specs.Call.{Fails, TurnsAway, breaks, fails}
 use Rattle.run.specs.Run.{Slots, runAsks}
 use Rattle.run.specs.Inner.Steps.{Prepared, Asked, turned, well}
 use Rattle.run.proofs.HeaderBytes.{inside, Counts, counts-read, parameter-count, parameter-kinds, result-count}
-
--- of what is told, one half
-pub told-yes : {P : Type 0} {r : Bool} → Tells P r → r ≡ true → P
-told-yes (yes p) e = p
-told-yes (no n) e = absurd (let z : _≡_ {A = ℕ} 0 1 = cc in omega arith)
-
-pub told-no : {P : Type 0} {r : Bool} → Tells P r → r ≡ false → P → ⊥
-told-no (yes p) e q = let z : _≡_ {A = ℕ} 0 1 = cc in omega arith
-told-no (no n) e q = n q
 
 -- the counts of a strip that keeps the rules are those of its header
 module _ {s : List ℕ} (v : Valid s) where

@@ -22,6 +22,9 @@ module _ {s : List ℕ} {h : Header} (d : Declares s h) where
   pub result-count : getD s 7 0 ≡ length (h .results)
   result-count = ap (λ (x : List ℕ). getD x 7 0) (d .bytes)
 
+  pub local-count : getD s 5 0 + getD s 6 0 ≡ length (locals h)
+  local-count = omega (arith, parameter-count, further-count, length-append (h .parameters) (h .further))
+
   all-kinds : length (kinds h) ≡ length (h .parameters) + length (h .further) + length (h .results)
   all-kinds = length-append (locals h) (h .results) ∙ omega (arith, length-append (h .parameters) (h .further))
 

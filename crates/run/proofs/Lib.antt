@@ -14,10 +14,11 @@ pub mod Beginning
 pub mod Asking
 pub mod Metered
 pub mod Parting
-pub mod TempLaws
 pub mod Picturing
+pub mod Pausing
 pub mod Promises
 pub mod NeverStuck
 pub mod Unique
 pub mod Exponents
 pub mod Slicing
+pub mod Answering

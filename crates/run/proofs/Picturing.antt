@@ -9,7 +9,7 @@ use Rattle.limits.specs.Limits.{fileLimit, stackLimit, localCount}
 use Rattle.opcode.specs.Kind.{Kind}
 use Rattle.machine.specs.Value.{Value, kindOf, AllInRange}
 use Rattle.image.specs.Image.{imageBytes, placeIn, Shows}
-use Rattle.run.proofs.TempLaws.{image-long, shown-place, image-once}
+use Rattle.image.proofs.Laws.{image-long, shown-parts, shows-once}
 use Rattle.rules.specs.Header.{Header, locals}
 use Rattle.rules.specs.Typing.{Frame, allValues}
 use Rattle.rules.specs.Strip.{Reaches}
@@ -30,7 +30,7 @@ module _ {s : List ℕ} {h : Header} {c : Config} (sound : Sound s h c) where
   abbrev pub lowest-first : List Value
   lowest-first = reverse (wholeStack c)
 
-  few-locals : length (c .state .locals) ≤ localCount
+  pub few-locals : length (c .state .locals) ≤ localCount
   few-locals =
       omega (
         arith,
@@ -40,13 +40,13 @@ module _ {s : List ℕ} {h : Header} {c : Config} (sound : Sound s h c) where
         declared (sound .reached) .few .further,
       )
 
-  few-values : length lowest-first ≤ stackLimit
+  pub few-values : length lowest-first ≤ stackLimit
   few-values = omega (arith, length-reverse (wholeStack c), whole-many sound, reached-within (sound .reached) .values)
 
-  value-kinds : map kindOf lowest-first ≡ allValues frames
+  pub value-kinds : map kindOf lowest-first ≡ allValues frames
   value-kinds = reverse-kinds (wholeStack c) ∙ ap reverse (whole-kinds sound) ∙ reverse-reverse (allValues frames)
 
-  in-range : AllInRange lowest-first
+  pub in-range : AllInRange lowest-first
   in-range = reverse-range (wholeStack c) (whole-range sound)
 
   pub picture-long : length (pictureOf c) ≡ imageBytes
@@ -71,7 +71,7 @@ module _ {s : List ℕ} {h : Header} {c : Config} (sound : Sound s h c) where
       }
 
   pub place-in : (buffer rest : List ℕ) → buffer ≡ pictureOf c ++ rest → placeIn buffer ≡ c .place
-  place-in buffer rest e = shown-place (sound-shows buffer rest e) place-small
+  place-in buffer rest e = shown-parts (sound-shows buffer rest e) .place-told place-small
 
 -- ---- one to one
 
@@ -90,9 +90,8 @@ module _ {s : List ℕ} {h : Header} {mem a : List ℕ} {c : Config} (p : Pictur
   pictures-once d q =
       let here : c .place ≡ d .place = sym (place-in (p .sound) a (p .rest) (p .bytes)) ∙ place-in (q .sound) a (q .rest) (q .bytes) in
       let same : frames (p .sound) ≡ frames (q .sound) = reached-once (subst (λ (x : ℕ). Reaches s h x (frames (p .sound))) here (p .sound .reached)) (q .sound .reached) in
-      let values = image-once (c .place) (d .place) (c .state .locals) (d .state .locals) (reverse (wholeStack c)) (reverse (wholeStack d)) (p .rest) (q .rest)
-      (sym (p .bytes) ∙ q .bytes) (place-small (p .sound)) (place-small (q .sound))
-      (p .sound .fits .held ∙ sym (q .sound .fits .held)) (value-kinds (p .sound) ∙ ap allValues same ∙ sym (value-kinds (q .sound)))
-      (p .sound .fits .local-range) (q .sound .fits .local-range) (in-range (p .sound)) (in-range (q .sound)) (few-locals (p .sound)) (few-values (p .sound)) in
+      let values = shows-once (sound-shows (p .sound) a (p .rest) (p .bytes))
+      (subst (λ (fs : List Frame). Shows (locals h) (allValues fs) a (d .place) (d .state .locals) (lowest-first (q .sound))) (sym same) (sound-shows (q .sound) a (q .rest) (q .bytes)))
+      (place-small (p .sound)) (place-small (q .sound)) in
       sound-once c d (p .sound) (p .placed) (q .sound) (q .placed) here
       (sym (reverse-reverse (wholeStack c)) ∙ ap reverse (values .2) ∙ reverse-reverse (wholeStack d)) (values .1) (p .memory ∙ sym (q .memory))

@@ -6,8 +6,7 @@ use mathlib.Core.Logic.{inl, inr}
 use mathlib.Core.Option.{Option, none, some}
 use native.Mathlib.Omega.{arith}
 use lib.ListN.{length}
-use Rattle.card.specs.Card.{DONE, LONG, LABEL, ROOM, SMALL, TRAP, BUDGET}
-use Rattle.image.specs.Image.{IMAGE}
+use Rattle.card.specs.Card.{DONE, LONG, LABEL, ROOM, SMALL, TRAP, BUDGET, IMAGE}
 use Rattle.limits.specs.Limits.{fileLimit}
 use Rattle.leb128.specs.Bytes.{bytes}
 use Rattle.machine.specs.Value.{Value}

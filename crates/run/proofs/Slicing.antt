@@ -6,10 +6,10 @@ use mathlib.Core.Option.{Option, none, some}
 use native.Mathlib.Nat.{add-zero, zero-add}
 use native.Mathlib.Omega.{arith}
 use lib.ListN.{length, drop}
-use Rattle.card.specs.Card.{BUDGET}
+use Rattle.card.specs.Card.{BUDGET, IMAGE}
 use Rattle.limits.specs.Limits.{memoryLimit}
 use Rattle.leb128.specs.Bytes.{bytes}
-use Rattle.image.specs.Image.{imageBytes, IMAGE}
+use Rattle.image.specs.Image.{imageBytes}
 use Rattle.rules.specs.Header.{Header}
 use Rattle.rules.specs.Strip.{Valid}
 use Rattle.standard.specs.Standard.{Config, going, runs}

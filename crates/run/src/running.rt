@@ -6,7 +6,7 @@ ghost use Rattle.card.specs.Card.{BUDGET};
 ghost use Rattle.run.specs.Inner.Steps.{Prepared, Drove, Went, pictured};
 ghost use Rattle.run.specs.Inner.Carried.{openIn, Carries, Going};
 ghost use Rattle.run.specs.Inner.Ends.{Kept};
-ghost use Rattle.limits.specs.Limits.{slot, stackLimit, stackBytes};
+ghost use Rattle.limits.specs.Limits.{slot, localCount, stackLimit, stackBytes, localBytes};
 ghost use Rattle.opcode.specs.Number.{rowOf};
 ghost use Rattle.opcode.specs.Entry.{entryOf};
 ghost use Rattle.machine.specs.Memory.{part};
@@ -79,7 +79,7 @@ pub(crate) fn pause(
     stack: &[u8],
     locals: &[u8],
 ) -> Answer
-    requires { ⌜ (slot * count ≤ length (now locals)) × (stop .code ≡ BUDGET → slot * stop .depth ≤ length (now stack)) ⌝ }
+    requires { ⌜ (count ≤ localCount) × (length (now locals) ≡ localBytes) × (length (now stack) ≡ stackBytes) × (stop .code ≡ BUDGET → stop .depth ≤ stackLimit) ⌝ }
     ensures { λ r. ⌜ (r .code ≡ stop .code) × (r .place ≡ stop .place) × (r .steps ≡ stop .steps) × (now (image .exit) ≡ pictured (stop .code) (stop .place) (stop .depth) (take (slot * count) (now (locals .entry))) (take (slot * stop .depth) (now (stack .entry))) (now (image .entry))) ⌝ }
 {
     if stop.code == card::BUDGET {
