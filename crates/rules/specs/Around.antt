@@ -13,7 +13,7 @@ use Rattle.rules.specs.Strip.{Reads}
 pub data Around (s : List ℕ) (h : Header) : ℕ → List ℕ → Type 0 where
   around-none : Declares s h → Around s h (length (headerBytes h)) []
   -- after `block` or `loop` its body begins
-  begun : {p n : ℕ} {i : Instr} {c : Code} {bs : List ℕ} → Around s h p bs → Reads (h .version) s p i c n → Opens c → Around s h (p + n) (p + n ∷ bs)
+  begun : {p n : ℕ} {i : Instr} {c : Code} {bs : List ℕ} → Around s h p bs → Reads (h .version) s p i c n → Opens c → Around s h (p + n) ((p + n) ∷ bs)
   -- `end` closes the innermost
   ended : {p n b : ℕ} {i : Instr} {bs : List ℕ} → Around s h p (b ∷ bs) → Reads (h .version) s p i (plain End) n → Around s h (p + n) bs
   -- no other opens or closes one
