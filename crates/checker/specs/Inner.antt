@@ -4,3 +4,4 @@ pub mod Stack
 pub mod Blocks
 pub mod Judging
 pub mod Parts
+pub mod Going
