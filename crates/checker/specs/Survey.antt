@@ -11,7 +11,7 @@ use Rattle.rules.specs.Typing.{Frame, allValues, Live}
 use Rattle.rules.specs.Strip.{Reaches, Valid}
 use Rattle.rules.specs.Around.{Around}
 use Rattle.rules.specs.Breach.{Breach}
-use Rattle.checker.specs.declared.survey.Survey.{Survey}
+use Rattle.checker.specs.declared.place.Surveyed.{Surveyed}
 
 -- what a branch does: a loop, or how many values a branch to a block takes along
 abbrev pub LOOP : ℕ
@@ -31,12 +31,12 @@ marksOf (f ∷ fs) (b ∷ bs) = marksOf fs bs ++ (length (allValues fs) ∷ way 
 abbrev pub fronted : List ℕ → List ℕ → List ℕ
 fronted xs old = xs ++ drop (length xs) old
 
-abbrev pub missed : ℕ → ℕ → Survey
+abbrev pub missed : ℕ → ℕ → Surveyed
 missed c p = record { code = c; place = p; found = false; depth = 0; nest = 0 }
 
 -- a strip that breaks a rule; or that keeps them all: an instruction of it stands at the place, in no dead code, with what is known there; or none does
 module _ (s : List ℕ) (at : ℕ) (kinds marks : List ℕ) where
-  pub data Surveys : Survey → List ℕ → List ℕ → Type 0 where
+  pub data Surveys : Surveyed → List ℕ → List ℕ → Type 0 where
     breaks : {c p : ℕ} → Breach s c p → Surveys (missed c p) kinds marks
     misses : (v : Valid s) → ((fs : List Frame) → Reaches s (v .header) at fs → Live fs → ⊥) → Surveys (missed DONE 0) kinds marks
     finds : (v : Valid s) {fs : List Frame} {bs : List ℕ} → Reaches s (v .header) at fs → Live fs → Around s (v .header) at bs

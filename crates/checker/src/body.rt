@@ -62,7 +62,7 @@ pub(crate) fn is_last(entry: u64, nest: usize) -> bool
 }
 
 // After this `end` was read: the stack is exactly the results, and nothing follows.
-fn ending(
+pub(crate) fn ending(
     strip: &[u8],
     version: u16,
     at: usize,

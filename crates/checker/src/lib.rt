@@ -3,11 +3,16 @@ mod blocks;
 mod body;
 mod header;
 mod numbers;
+mod place;
+mod reach;
 mod stack;
 mod turns;
 mod typing;
 mod walk;
 
+pub use place::MARKS;
+pub use place::Surveyed;
+pub use place::survey;
 pub use turns::State;
 pub use walk::follow;
 pub use walk::outset;
