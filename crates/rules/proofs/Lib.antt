@@ -6,6 +6,7 @@ pub mod Sorts
 pub mod Filling
 pub mod Dead
 pub mod Onward
+pub mod Arounds
 pub mod Events
 pub mod Ends
 pub mod Heads

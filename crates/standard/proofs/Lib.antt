@@ -6,6 +6,7 @@ pub mod Operands
 pub mod Untyped
 pub mod Along
 pub mod Steps
+pub mod Roles
 pub mod Straying
 pub mod Closings
 pub mod Nestings
@@ -17,6 +18,8 @@ pub mod Finishing
 pub mod Turn
 pub mod Begin
 pub mod Never
+pub mod Placed
+pub mod Rebuilding
 pub mod Realigning
 pub mod Full
 pub mod Sticking
