@@ -48,11 +48,10 @@ use Rattle.checker.proofs.Indices.{row-carried, index-named, index-type
 
 -- ---- before the first
 
-pub starts : {s : List ℕ} {v n takes start : ℕ} (kinds blocks : List ℕ) → length kinds ≡ stackLimit → length blocks ≡ nestLimit → Begins s v n takes start
-    → {o : State} → o ≡ outset → Going s v n takes kinds blocks (o .depth) (o .nest) (o .floor) (o .dead) start
-starts {s} {v} {n} {takes} {start} kinds blocks lk lb b e =
-    subst (λ (x : State). Going s v n takes kinds blocks (x .depth) (x .nest) (x .floor) (x .dead) start) (sym e)
-    (record {
+abbrev pub first-going : {s : List ℕ} {v n takes start : ℕ} (kinds blocks : List ℕ) → length kinds ≡ stackLimit → length blocks ≡ nestLimit → Begins s v n takes start
+    → Going s v n takes kinds blocks 0 0 0 false start
+first-going {s} kinds blocks lk lb b =
+    record {
       header = b .header;
       setting = b .setting;
       frames = opened false (b .header .results) ∷ [];
@@ -64,7 +63,12 @@ starts {s} {v} {n} {takes} {start} kinds blocks lk lb b e =
       reached = subst (λ (x : ℕ). Reaches s (b .header) x (opened false (b .header .results) ∷ [])) (b .start-is) (front (b .setting .declares));
       kinds-long = lk;
       blocks-long = lb;
-    })
+    }
+
+pub starts : {s : List ℕ} {v n takes start : ℕ} (kinds blocks : List ℕ) → length kinds ≡ stackLimit → length blocks ≡ nestLimit → Begins s v n takes start
+    → {o : State} → o ≡ outset → Going s v n takes kinds blocks (o .depth) (o .nest) (o .floor) (o .dead) start
+starts {s} {v} {n} {takes} {start} kinds blocks lk lb b e =
+    subst (λ (x : State). Going s v n takes kinds blocks (x .depth) (x .nest) (x .floor) (x .dead) start) (sym e) (first-going kinds blocks lk lb b)
 
 -- ---- the strip itself
 
@@ -110,6 +114,22 @@ goes-of (untyped e names labels f) z = absurd (let never : ⊥ = omega arith in 
 goes-of (no-results e f) z = absurd (let never : ⊥ = omega arith in never)
 goes-of (too-deep t big) z = absurd (let never : ⊥ = omega arith in never)
 goes-of (typed {fs′} t g) z = (fs′, t, g)
+
+-- past it
+abbrev pub gone-on : {s : List ℕ} {v n takes : ℕ} {kinds blocks kinds′ blocks′ : List ℕ} {depth nest floor depth′ nest′ floor′ : ℕ} {dead dead′ : Bool} {at len : ℕ}
+    {i : Instr} {c : Code} {fs′ : List Frame} (w : Going s v n takes kinds blocks depth nest floor dead at) → Reads (w .header .version) s at i c len
+    → Types (locals (w .header)) i c (w .frames) fs′ → Framed (w .header .results) kinds′ blocks′ depth′ nest′ floor′ dead′ fs′ → length kinds′ ≡ stackLimit
+    → length blocks′ ≡ nestLimit → Going s v n takes kinds′ blocks′ depth′ nest′ floor′ dead′ (at + len)
+gone-on {fs′ = fs′} w r t f lk lb =
+    record {
+      header = w .header;
+      setting = w .setting;
+      frames = fs′;
+      framed = f;
+      reached = past (w .reached) r t (f .within);
+      kinds-long = lk;
+      blocks-long = lb;
+    }
 
 module _ {s : List ℕ} {v n takes : ℕ} {kinds blocks : List ℕ} {depth nest floor : ℕ} {dead : Bool} {at : ℕ}
     (w : Going s v n takes kinds blocks depth nest floor dead at) (d : Scanned) (is : d ≡ scanOf (decodeIn v s at)) where
@@ -230,15 +250,10 @@ module _ {s : List ℕ} {v n takes : ℕ} {kinds blocks : List ℕ} {depth nest 
         pub breaks : (code ≡ DONE → ⊥) → Breach s code at
         breaks f = breaks-of here judgement f
 
+        pub stepped : code ≡ DONE
+            → (fs′ : List Frame) × Types (locals (w .header)) (decodeAt (w .header .version) s at .instr) (coded .0) (w .frames) fs′
+            × Framed (w .header .results) kinds′ blocks′ depth′ nest′ floor′ dead′ fs′
+        stepped e = goes-of judgement e
+
         pub goes : code ≡ DONE → length kinds′ ≡ stackLimit → length blocks′ ≡ nestLimit → Going s v n takes kinds′ blocks′ depth′ nest′ floor′ dead′ (at + d .len)
-        goes e lk lb =
-            let g = goes-of judgement e in
-            record {
-              header = w .header;
-              setting = w .setting;
-              frames = g .0;
-              framed = g .2;
-              reached = past (w .reached) (coded .1) (g .1) (g .2 .within);
-              kinds-long = lk;
-              blocks-long = lb;
-            }
+        goes e lk lb = let g = stepped e in gone-on w (coded .1) (g .1) (g .2) lk lb

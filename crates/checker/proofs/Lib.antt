@@ -27,3 +27,5 @@ pub mod Endings
 pub mod Ahead
 pub mod Walking
 pub mod Known
+pub mod Marks
+pub mod Comings

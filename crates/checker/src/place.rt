@@ -113,10 +113,10 @@ fn put_kinds(from: &[u8], n: usize, kinds: &mut [u8])
     requires { ⌜ (n ≤ length (now from)) × (n ≤ length (now kinds)) ⌝ }
     ensures { λ r. ⌜ now (kinds .exit) ≡ fronted (take n (now (from .entry))) (now (kinds .entry)) ⌝ }
 {
-    let mut k = 0;
-    while k < n {
+    let mut k = n;
+    while k != 0 {
+        k -= 1;
         kinds[k] = from[k];
-        k += 1;
     }
 }
 
@@ -130,9 +130,9 @@ fn put_marks(words: &[u32], bodies: &[usize], nest: usize, floor: usize, marks: 
     while k != 0 {
         k -= 1;
         let w = words[k];
-        marks[3 * k] = height;
-        marks[3 * k + 1] = blocks::way_in(w);
         marks[3 * k + 2] = bodies[k];
+        marks[3 * k + 1] = blocks::way_in(w);
+        marks[3 * k] = height;
         height = blocks::floor_in(w);
     }
 }

@@ -39,9 +39,9 @@ pub(crate) fn reach(
     takes: u64,
     start: usize,
     place: usize,
-    kinds: &mut [u8],
-    blocks: &mut [u32],
-    bodies: &mut [usize],
+    kinds: &mut [u8; limits::STACK],
+    blocks: &mut [u32; limits::NEST],
+    bodies: &mut [usize; limits::NEST],
 ) -> Stop
     requires { ⌜ Begins (now strip) version locals takes start × (length (now kinds) ≡ stackLimit) × (length (now blocks) ≡ nestLimit) × (length (now bodies) ≡ nestLimit) ⌝ }
     ensures { λ r. ⌜ Reached (now (strip .entry)) version locals takes place (now (kinds .exit)) (now (blocks .exit)) (now (bodies .exit)) r ⌝ }
