@@ -34,11 +34,12 @@ use Rattle.checker.specs.declared.turns.State.{State}
 use Rattle.checker.specs.declared.reach.Stop.{Stop}
 use Rattle.checker.specs.Check.{Checked}
 use Rattle.checker.specs.Walk.{Framed, outset}
+use Rattle.checker.specs.Inner.Judging.{Judges, Faces}
 use Rattle.checker.specs.Inner.Going.{Begins, Going}
 use Rattle.checker.specs.Inner.Reach.{Noted, Coming, Reached}
 use Rattle.checker.proofs.Nests.{nested-many}
 use Rattle.checker.proofs.Counted.{checked}
-use Rattle.checker.proofs.Goings.{first-going, gone-on, coded, is-end}
+use Rattle.checker.proofs.Goings.{first-going, gone-on, coded, is-end, stepped}
 use Rattle.checker.proofs.Ahead.{Ahead, stops, goes, ahead, reached-inside}
 
 -- ---- one instruction
@@ -75,7 +76,7 @@ module _ {s : List ℕ} {v n takes : ℕ} {kinds blocks bodies : List ℕ} {dept
     next = around-next (w .around) (nested-many (w .going .framed .nested) ∙ ap suc (sym (w .many))) r t
 
     -- into a block
-    pub comes-in : nest < nest′ → Coming s v n takes kinds′ blocks′ (set bodies nest (at + len)) depth′ nest′ floor′ dead′ (at + len)
+    comes-in : nest < nest′ → Coming s v n takes kinds′ blocks′ (set bodies nest (at + len)) depth′ nest′ floor′ dead′ (at + len)
     comes-in more = by next
       where
         by : After s h (at + len) (w .begun) fs′ → Coming s v n takes kinds′ blocks′ (set bodies nest (at + len)) depth′ nest′ floor′ dead′ (at + len)
@@ -94,11 +95,8 @@ module _ {s : List ℕ} {v n takes : ℕ} {kinds blocks bodies : List ℕ} {dept
             }
         by (outside a l less d) = absurd (let z : ⊥ = omega (arith, l, less, more, w .many, nested-many (f .nested)) in z)
 
-    pub room-in : nest < nest′ → nest < nestLimit
-    room-in more = omega (arith, nested-many (f .nested), f .within .blocks, more)
-
     -- into none
-    pub comes-on : nest′ ≤ nest → Coming s v n takes kinds′ blocks′ bodies depth′ nest′ floor′ dead′ (at + len)
+    comes-on : nest′ ≤ nest → Coming s v n takes kinds′ blocks′ bodies depth′ nest′ floor′ dead′ (at + len)
     comes-on most = by next
       where
         by : After s h (at + len) (w .begun) fs′ → Coming s v n takes kinds′ blocks′ bodies depth′ nest′ floor′ dead′ (at + len)
@@ -150,7 +148,7 @@ module _ {s : List ℕ} {v n takes place : ℕ} {kinds blocks bodies : List ℕ}
   going = w .coming .going
 
   -- an instruction that is read before the place ends before it
-  pub passes-by : {i : Instr} {c : Code} {len : ℕ} → Reads (going .header .version) s at i c len → (h : Header) (fs : List Frame) → Reaches s h place fs → at + len ≤ place
+  passes-by : {i : Instr} {c : Code} {len : ℕ} → Reads (going .header .version) s at i c len → (h : Header) (fs : List Frame) → Reaches s h place fs → at + len ≤ place
   passes-by r h fs there =
       let one : h ≡ going .header = declares-once s h (going .header) (declared there) (going .setting .declares) in
       reached-beyond (going .reached) r (subst (λ (x : Header). Reaches s x place fs) one there)
@@ -183,22 +181,45 @@ module _ {s : List ℕ} {v n takes place : ℕ} {kinds blocks bodies : List ℕ}
         let past : at + d .len ≤ place = passes-by (coded going d is b z .1) (k .header) fs there in
         omega (arith, ends-file k)
 
+  -- and another is passed
+  module _ (d : Scanned) (is : d ≡ scanOf (decodeIn v s at)) (b : bytes s) (z : d .code ≡ DONE) (other : (eqb nest 0 && eqb (groupIn (d .entry)) 0) ≡ false)
+      {kinds′ blocks′ : List ℕ} {depth′ nest′ floor′ code : ℕ} {dead′ : Bool}
+      (j : (c : Code) (i : Instr) (ls rs : List Kind) (fs : List Frame) → Faces s n takes (d .entry) (d .immediate) kinds blocks depth nest floor dead c i ls rs fs
+      → Judges ls rs i c fs kinds′ blocks′ depth′ nest′ floor′ dead′ code) (e : code ≡ DONE) where
+    pub room-in : nest < nest′ → nest < nestLimit
+    room-in more = let g = stepped going d is b z other j e in omega (arith, nested-many (g .2 .nested), g .2 .within .blocks, more)
+
+    module _ (lk : length kinds′ ≡ stackLimit) (lb : length blocks′ ≡ nestLimit) where
+      pub toward-in : nest < nest′ → Toward s v n takes place kinds′ blocks′ (set bodies nest (at + d .len)) depth′ nest′ floor′ dead′ (at + d .len)
+      toward-in more =
+          let r = coded going d is b z .1 in
+          let g = stepped going d is b z other j e in
+          record { coming = comes-in (w .coming) r (g .1) (g .2) lk lb more; not-before = passes-by r }
+
+      pub toward-on : nest′ ≤ nest → Toward s v n takes place kinds′ blocks′ bodies depth′ nest′ floor′ dead′ (at + d .len)
+      toward-on most =
+          let r = coded going d is b z .1 in
+          let g = stepped going d is b z other j e in
+          record { coming = comes-on (w .coming) r (g .1) (g .2) lk lb most; not-before = passes-by r }
+
 -- ---- where the walk stops
 
 module _ {s : List ℕ} {v n takes place : ℕ} {kinds blocks bodies : List ℕ} {r : Stop} where
-  pub reached-there : {state : State} → Coming s v n takes kinds blocks bodies (state .depth) (state .nest) (state .floor) (state .dead) place → r .there ≡ true → r .state ≡ state
-      → Reached s v n takes place kinds blocks bodies r
-  reached-there c e it =
+  pub reached-there : {at : ℕ} {state : State} → at ≡ place → Coming s v n takes kinds blocks bodies (state .depth) (state .nest) (state .floor) (state .dead) at
+      → r .there ≡ true → r .state ≡ state → Reached s v n takes place kinds blocks bodies r
+  reached-there {state = state} here c e it =
       record {
-        at-place = λ x. subst (λ (y : State). Coming s v n takes kinds blocks bodies (y .depth) (y .nest) (y .floor) (y .dead) place) (sym it) c;
+        at-place = λ x.
+            subst (λ (y : State). Coming s v n takes kinds blocks bodies (y .depth) (y .nest) (y .floor) (y .dead) place) (sym it)
+            (subst (Coming s v n takes kinds blocks bodies (state .depth) (state .nest) (state .floor) (state .dead)) here c);
         says = λ x. absurd (let z : _≡_ {A = ℕ} 0 1 = cc (e, x) in omega arith);
         nowhere = λ x. absurd (let z : _≡_ {A = ℕ} 0 1 = cc (e, x) in omega arith);
       }
 
   module _ {a : Answer} (told : (r .there ≡ false) × (r .code ≡ a .code) × (r .place ≡ a .place)) where
     -- at an answer of the check
-    pub stopped : Checked s a → ((k : Valid s) (fs : List Frame) → Reaches s (k .header) place fs → ⊥) → Reached s v n takes place kinds blocks bodies r
-    stopped c none =
+    pub stopped-checked : Checked s a → ((k : Valid s) (fs : List Frame) → Reaches s (k .header) place fs → ⊥) → Reached s v n takes place kinds blocks bodies r
+    stopped-checked c none =
         record {
           at-place = λ x. absurd (let z : _≡_ {A = ℕ} 0 1 = cc (told .0, x) in omega arith);
           says = λ x. subst (λ (y : ℕ). Says s y (r .place)) (sym (told .1)) (subst (Says s (a .code)) (sym (told .2)) (c .says));
@@ -207,4 +228,4 @@ module _ {s : List ℕ} {v n takes place : ℕ} {kinds blocks bodies : List ℕ}
 
     -- at a breach
     pub broken-off : {code at : ℕ} → (a .code ≡ code) × (a .place ≡ at) × (a .steps ≡ 0) → Breach s code at → Reached s v n takes place kinds blocks bodies r
-    broken-off e b = stopped (checked e (breach b)) (λ k fs there. valid-no-breach k b)
+    broken-off e b = stopped-checked (checked e (breach b)) (λ k fs there. valid-no-breach k b)

@@ -20,7 +20,7 @@ pub(crate) struct Stop {
     pub state: State,
 }
 
-fn before(a: Answer) -> Stop
+fn stopped(a: Answer) -> Stop
     ensures { λ r. ⌜ (r .there ≡ false) × (r .code ≡ a .code) × (r .place ≡ a .place) ⌝ }
 {
     let state = walk::outset();
@@ -51,10 +51,10 @@ pub(crate) fn reach(
     while at != place {
         let d = instr::scan(version, strip, at);
         if d.code != card::DONE {
-            return before(answer(d.code, d.place));
+            return stopped(answer(d.code, d.place));
         }
         if body::is_last(d.entry, state.nest) {
-            return before(body::ending(
+            return stopped(body::ending(
                 strip,
                 version,
                 at,
@@ -76,7 +76,7 @@ pub(crate) fn reach(
             state,
         );
         if state.code != card::DONE {
-            return before(answer(state.code, at));
+            return stopped(answer(state.code, at));
         }
         at += d.len;
         if nest < state.nest {
