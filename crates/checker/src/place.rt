@@ -91,8 +91,8 @@ fn missed(code: u8, place: usize) -> Surveyed
 }
 
 // Whether no code is dead: neither in the innermost block nor around an open one.
-fn is_live(words: &[u32], nest: usize, dead: bool) -> bool
-    requires { ⌜ nest ≤ length (now words) ⌝ }
+fn is_live(words: &[u32; limits::NEST], nest: usize, dead: bool) -> bool
+    requires { ⌜ (nest ≤ nestLimit) × (length (now words) ≡ nestLimit) ⌝ }
     ensures { λ r. ⌜ ((rs : List Kind) (fs : List Frame) (floor : ℕ) → OpenBlocks rs (now (words .entry)) nest floor dead fs → length (allValues fs) ≤ stackLimit → Lives fs r) ⌝ }
 {
     if dead {
@@ -109,8 +109,8 @@ fn is_live(words: &[u32], nest: usize, dead: bool) -> bool
 }
 
 // The first n of some kinds.
-fn put_kinds(from: &[u8], n: usize, kinds: &mut [u8])
-    requires { ⌜ (n ≤ length (now from)) × (n ≤ length (now kinds)) ⌝ }
+fn put_kinds(from: &[u8; limits::STACK], n: usize, kinds: &mut [u8; limits::STACK])
+    requires { ⌜ (n ≤ stackLimit) × (length (now from) ≡ stackLimit) × (length (now kinds) ≡ stackLimit) ⌝ }
     ensures { λ r. ⌜ now (kinds .exit) ≡ fronted (take n (now (from .entry))) (now (kinds .entry)) ⌝ }
 {
     let mut k = n;
@@ -121,7 +121,13 @@ fn put_kinds(from: &[u8], n: usize, kinds: &mut [u8])
 }
 
 // The marks of the open blocks, the innermost first; what is under a block is the floor in the word of the next.
-fn put_marks(words: &[u32], bodies: &[usize], nest: usize, floor: usize, marks: &mut [usize])
+fn put_marks(
+    words: &[u32; limits::NEST],
+    bodies: &[usize; limits::NEST],
+    nest: usize,
+    floor: usize,
+    marks: &mut [usize; MARKS],
+)
     requires { ⌜ (nest ≤ nestLimit) × (length (now words) ≡ nestLimit) × (length (now bodies) ≡ nestLimit) × (length (now marks) ≡ 3 * nestLimit + 1) ⌝ }
     ensures { λ r. ⌜ ((rs : List Kind) (fs : List Frame) (bs : List ℕ) (dead : Bool) → OpenBlocks rs (now (words .entry)) nest floor dead fs → length (allValues fs) ≤ stackLimit → length bs ≡ nest → Noted (now (bodies .entry)) bs → now (marks .exit) ≡ fronted (marksOf fs bs) (now (marks .entry))) ⌝ }
 {
