@@ -109,7 +109,7 @@ fn is_live(words: &[u32; limits::NEST], nest: usize, dead: bool) -> bool
 }
 
 // The first n of some kinds.
-fn put_kinds(from: &[u8; limits::STACK], n: usize, kinds: &mut [u8; limits::STACK])
+fn put_kinds(from: &[u8; limits::STACK], n: usize, kinds: &mut [u8])
     requires { ⌜ (n ≤ stackLimit) × (length (now from) ≡ stackLimit) × (length (now kinds) ≡ stackLimit) ⌝ }
     ensures { λ r. ⌜ now (kinds .exit) ≡ fronted (take n (now (from .entry))) (now (kinds .entry)) ⌝ }
 {
@@ -126,7 +126,7 @@ fn put_marks(
     bodies: &[usize; limits::NEST],
     nest: usize,
     floor: usize,
-    marks: &mut [usize; MARKS],
+    marks: &mut [usize],
 )
     requires { ⌜ (nest ≤ nestLimit) × (length (now words) ≡ nestLimit) × (length (now bodies) ≡ nestLimit) × (length (now marks) ≡ 3 * nestLimit + 1) ⌝ }
     ensures { λ r. ⌜ ((rs : List Kind) (fs : List Frame) (bs : List ℕ) (dead : Bool) → OpenBlocks rs (now (words .entry)) nest floor dead fs → length (allValues fs) ≤ stackLimit → length bs ≡ nest → Noted (now (bodies .entry)) bs → now (marks .exit) ≡ fronted (marksOf fs bs) (now (marks .entry))) ⌝ }

@@ -31,8 +31,8 @@ element-copy-out-kinds : tie.Need-element-copy-out-kinds Inv-loop μ-loop
 element-copy-out-kinds c = omega (arith, pos-of-ne-zero (c .loop-test .taken))
 
 -- src/place.rt:119:9
-element-write-kinds : tie.Need-element-write-kinds Inv-loop μ-loop
-element-write-kinds c = omega (arith, pos-of-ne-zero (c .before .loop-test .taken))
+slice-write-kinds : tie.Need-slice-write-kinds Inv-loop μ-loop
+slice-write-kinds c = omega (arith, pos-of-ne-zero (c .before .loop-test .taken))
 
 -- src/place.rt:117:5
 loop-less : tie.Need-loop-less Inv-loop μ-loop
@@ -41,6 +41,10 @@ loop-less c = omega (arith, pos-of-ne-zero (c .before .loop-test .taken))
 -- src/place.rt:117:5
 loop-again : tie.Need-loop-again Inv-loop μ-loop
 loop-again c = (omega arith, simp length-set (c .before .before .loop .inv .1), one-more-kind _ _ _ (pos-of-ne-zero (c .before .loop-test .taken)) (omega arith) (omega arith) ∙ c .before .before .loop .inv .2)
+
+-- src/place.rt:112:1
+same-length : tie.Need-same-length Inv-loop μ-loop
+same-length c = search needs
 
 -- src/place.rt:112:1
 returns : tie.Need-returns Inv-loop μ-loop
@@ -55,7 +59,8 @@ put-kinds-spec =
     loop-holds
     sub-k
     element-copy-out-kinds
-    element-write-kinds
+    slice-write-kinds
     loop-less
     loop-again
+    same-length
     returns)

@@ -28,7 +28,7 @@ abbrev μ-loop : tie.MeasureT-loop
 
 -- src/place.rt:136:5
 loop-holds : tie.Need-loop-holds Inv-loop μ-loop
-loop-holds c = (search needs, c .pre .3, λ rs fs bs dead n l m d. unmarked bs _ n l m d)
+loop-holds c = (search needs, c .before .pre .3, λ rs fs bs dead n l m d. unmarked bs _ n l m d)
 
 -- src/place.rt:137:9
 sub-k : tie.Need-sub-k Inv-loop μ-loop
@@ -63,8 +63,8 @@ mul-marks-3 : tie.Need-mul-marks-3 Inv-loop μ-loop
 mul-marks-3 c = omega (arith, pos-of-ne-zero (c .before .before .loop-test .taken))
 
 -- src/place.rt:139:9
-element-write-marks : tie.Need-element-write-marks Inv-loop μ-loop
-element-write-marks c = omega (arith, pos-of-ne-zero (c .before .before .loop-test .taken))
+slice-write-marks : tie.Need-slice-write-marks Inv-loop μ-loop
+slice-write-marks c = omega (arith, pos-of-ne-zero (c .before .before .loop-test .taken))
 
 -- src/place.rt:140:28
 way-in-requires : tie.Need-way-in-requires Inv-loop μ-loop
@@ -83,8 +83,8 @@ mul-marks-5 : tie.Need-mul-marks-5 Inv-loop μ-loop
 mul-marks-5 c = omega (arith, pos-of-ne-zero (c .before .before .before .loop-test .taken))
 
 -- src/place.rt:140:9
-element-write-marks-2 : tie.Need-element-write-marks-2 Inv-loop μ-loop
-element-write-marks-2 c = omega (arith, pos-of-ne-zero (c .before .before .before .loop-test .taken))
+slice-write-marks-2 : tie.Need-slice-write-marks-2 Inv-loop μ-loop
+slice-write-marks-2 c = simp length-set (omega (arith, pos-of-ne-zero (c .before .before .before .loop-test .taken)))
 
 -- src/place.rt:141:15
 mul-marks-6 : tie.Need-mul-marks-6 Inv-loop μ-loop
@@ -95,8 +95,8 @@ mul-marks-7 : tie.Need-mul-marks-7 Inv-loop μ-loop
 mul-marks-7 c = omega (arith, pos-of-ne-zero (c .before .before .before .loop-test .taken))
 
 -- src/place.rt:141:9
-element-write-marks-3 : tie.Need-element-write-marks-3 Inv-loop μ-loop
-element-write-marks-3 c = omega (arith, pos-of-ne-zero (c .before .before .before .loop-test .taken))
+slice-write-marks-3 : tie.Need-slice-write-marks-3 Inv-loop μ-loop
+slice-write-marks-3 c = simp length-set (omega (arith, pos-of-ne-zero (c .before .before .before .loop-test .taken)))
 
 -- src/place.rt:142:9
 floor-in-requires : tie.Need-floor-in-requires Inv-loop μ-loop
@@ -109,6 +109,10 @@ loop-less c = omega (arith, pos-of-ne-zero (c .before .before .before .before .l
 -- src/place.rt:136:5
 loop-again : tie.Need-loop-again Inv-loop μ-loop
 loop-again c = (omega arith, simp length-set (omega arith), λ rs fs bs dead n l m d. one-marked (c .before .before .before .before .before .loop .inv .2 rs fs bs dead n l m d) (pos-of-ne-zero (c .before .before .before .before .loop-test .taken)) (omega arith) (omega arith) (c .before .way-in .ensures) (c .floor-in .ensures))
+
+-- src/place.rt:124:1
+same-length : tie.Need-same-length Inv-loop μ-loop
+same-length c = search needs
 
 -- src/place.rt:124:1
 returns : tie.Need-returns Inv-loop μ-loop
@@ -129,16 +133,17 @@ put-marks-spec =
     mul-marks-2
     add-marks
     mul-marks-3
-    element-write-marks
+    slice-write-marks
     way-in-requires
     mul-marks-4
     add-marks-2
     mul-marks-5
-    element-write-marks-2
+    slice-write-marks-2
     mul-marks-6
     mul-marks-7
-    element-write-marks-3
+    slice-write-marks-3
     floor-in-requires
     loop-less
     loop-again
+    same-length
     returns)
