@@ -206,7 +206,7 @@ module _ {s : List ℕ} {v n takes place : ℕ} {kinds blocks bodies : List ℕ}
 
 module _ {s : List ℕ} {v n takes place : ℕ} {kinds blocks bodies : List ℕ} {r : Stop} where
   pub reached-there : {at : ℕ} {state : State} → at ≡ place → Coming s v n takes kinds blocks bodies (state .depth) (state .nest) (state .floor) (state .dead) at
-      → r .there ≡ true → r .state ≡ state → Reached s v n takes place kinds blocks bodies r
+      → r .short ≡ false → r .state ≡ state → Reached s v n takes place kinds blocks bodies r
   reached-there {state = state} here c e it =
       record {
         at-place = λ x.
@@ -216,7 +216,7 @@ module _ {s : List ℕ} {v n takes place : ℕ} {kinds blocks bodies : List ℕ}
         nowhere = λ x. absurd (let z : _≡_ {A = ℕ} 0 1 = cc (e, x) in omega arith);
       }
 
-  module _ {a : Answer} (told : (r .there ≡ false) × (r .code ≡ a .code) × (r .place ≡ a .place)) where
+  module _ {a : Answer} (told : (r .short ≡ true) × (r .code ≡ a .code) × (r .place ≡ a .place)) where
     -- at an answer of the check
     pub stopped-checked : Checked s a → ((k : Valid s) (fs : List Frame) → Reaches s (k .header) place fs → ⊥) → Reached s v n takes place kinds blocks bodies r
     stopped-checked c none =

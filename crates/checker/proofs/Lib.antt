@@ -29,3 +29,4 @@ pub mod Walking
 pub mod Known
 pub mod Marks
 pub mod Comings
+pub mod Surveys

@@ -15,9 +15,9 @@ use Rattle.rules.specs.Typing.{Frame, allValues, Live}
 use Rattle.checker.specs.Walk.{word, OpenBlocks, strip, block}
 use Rattle.checker.specs.Survey.{LOOP, way, marksOf, fronted}
 use Rattle.checker.specs.Inner.Blocks.{topFirst}
-use Rattle.checker.specs.Inner.Reach.{Noted, Lives}
+use Rattle.checker.specs.Inner.Reach.{Noted, TellsDead}
 use Rattle.checker.proofs.Words.{type-small, type-many}
-use Rattle.checker.proofs.Nests.{nested-dead, nested-floor, Closing, closing}
+use Rattle.checker.proofs.Nests.{nested-many, nested-floor, Closing, closing}
 
 -- ---- one block
 
@@ -113,11 +113,11 @@ module _ {rs : List Kind} {blocks : List ℕ} {k : ℕ} {fs : List Frame} (o : O
           needs = λ x. as-live (o .needs x) .1;
         }
 
-pub living : {fs : List Frame} {r : Bool} → r ≡ true → Live fs → Lives fs r
-living e x = record { live = λ z. x; not-live = λ z. absurd (let n : _≡_ {A = ℕ} 0 1 = cc (e, z) in omega arith) }
+pub tells-live : {fs : List Frame} {r : Bool} → r ≡ false → Live fs → TellsDead fs r
+tells-live e x = record { dead = λ z. absurd (let n : _≡_ {A = ℕ} 0 1 = cc (e, z) in omega arith); live = λ z. x }
 
-pub unliving : {fs : List Frame} {r : Bool} → r ≡ false → (Live fs → ⊥) → Lives fs r
-unliving e f = record { live = λ z. absurd (let n : _≡_ {A = ℕ} 0 1 = cc (e, z) in omega arith); not-live = λ z. f }
+pub tells-dead : {fs : List Frame} {r : Bool} → r ≡ true → (Live fs → ⊥) → TellsDead fs r
+tells-dead e f = record { dead = λ z. f; live = λ z. absurd (let n : _≡_ {A = ℕ} 0 1 = cc (e, z) in omega arith) }
 
 -- ---- what is written
 
@@ -175,17 +175,11 @@ pub unmarked : {rs : List Kind} {blocks bodies : List ℕ} {nest floor : ℕ} {d
     → Unmarked rs blocks bodies nest floor marks (fronted (marksOf fs bs) marks)
 unmarked {dead = dead} {fs} bs marks n l m d = record { dead = dead; frames = fs; begun = bs; nested = n; small = l; many = m; noted = d; same = refl }
 
-marks-many : {rs : List Kind} {blocks : List ℕ} {nest floor : ℕ} {dead : Bool} {fs : List Frame} → OpenBlocks rs blocks nest floor dead fs → (bs : List ℕ) → length bs ≡ nest
-    → length (marksOf fs bs) ≡ 3 * nest
-marks-many (strip l r) [] e = refl
-marks-many (strip l r) (b ∷ bs) e = absurd (let z : ⊥ = omega arith in z)
-marks-many (block t n w y r) [] e = absurd (let z : ⊥ = omega arith in z)
-marks-many (block t {f = f} {g} {fs} n w y r) (b ∷ bs) e =
-    omega (
-      arith,
-      marks-many n bs (omega arith),
-      length-append (marksOf (g ∷ fs) bs) (length (allValues (g ∷ fs)) ∷ way (f .loop) (f .results) ∷ b ∷ []),
-    )
+pub marks-many : (fs : List Frame) (bs : List ℕ) → length fs ≡ suc (length bs) → length (marksOf fs bs) ≡ 3 * length bs
+marks-many [] bs e = absurd (let z : ⊥ = omega arith in z)
+marks-many (f ∷ fs) [] e = refl
+marks-many (f ∷ fs) (b ∷ bs) e =
+    omega (arith, marks-many fs bs (omega arith), length-append (marksOf fs bs) (length (allValues fs) ∷ way (f .loop) (f .results) ∷ b ∷ []))
 
 -- what a word says of them
 abbrev FloorIn : ℕ → ℕ → Type 0
@@ -241,7 +235,7 @@ module _ {rs : List Kind} {blocks bodies : List ℕ} {k height : ℕ} {marks who
               many = many;
               noted = d .1;
               same =
-                  sym (fronted-three (marksOf (c .next ∷ c .rest) bs) height x (getD bodies (k - 1) 0) marks (3 * (k - 1)) (marks-many (c .around) bs many)
+                  sym (fronted-three (marksOf (c .next ∷ c .rest) bs) height x (getD bodies (k - 1) 0) marks (3 * (k - 1)) (marks-many (c .next ∷ c .rest) bs (nested-many (c .around) ∙ ap suc (sym many)) ∙ ap (λ (j : ℕ). 3 * j) many)
                   (omega (arith, some, most, long)))
                   ∙ ap (λ (l : List ℕ). fronted (marksOf (c .next ∷ c .rest) bs ++ l) marks) three ∙ e;
             }

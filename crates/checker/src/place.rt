@@ -9,7 +9,7 @@ ghost use Rattle.opcode.specs.Kind.{Kind};
 ghost use Rattle.rules.specs.Typing.{Frame, allValues};
 ghost use Rattle.checker.specs.Walk.{OpenBlocks};
 ghost use Rattle.checker.specs.Survey.{fronted, marksOf, missed as Survey·missed, Surveys};
-ghost use Rattle.checker.specs.Inner.Reach.{Noted, Lives};
+ghost use Rattle.checker.specs.Inner.Reach.{Noted, TellsDead};
 use crate::blocks;
 use crate::body;
 use crate::header;
@@ -56,7 +56,7 @@ pub fn survey(
         &mut words,
         &mut bodies,
     );
-    if !stop.there {
+    if stop.short {
         return missed(stop.code, stop.place);
     }
     let state = stop.state;
@@ -64,7 +64,7 @@ pub fn survey(
     if rest.code != card::DONE {
         return missed(rest.code, rest.place);
     }
-    if !is_live(&words, state.nest, state.dead) {
+    if is_dead(&words, state.nest, state.dead) {
         return missed(card::DONE, 0);
     }
     put_kinds(&stack, state.depth, kinds);
@@ -90,22 +90,22 @@ fn missed(code: u8, place: usize) -> Surveyed
     }
 }
 
-// Whether no code is dead: neither in the innermost block nor around an open one.
-fn is_live(words: &[u32; limits::NEST], nest: usize, dead: bool) -> bool
+// Whether code is dead: in the innermost block, or around an open one.
+fn is_dead(words: &[u32; limits::NEST], nest: usize, dead: bool) -> bool
     requires { ⌜ (nest ≤ nestLimit) × (length (now words) ≡ nestLimit) ⌝ }
-    ensures { λ r. ⌜ ((rs : List Kind) (fs : List Frame) (floor : ℕ) → OpenBlocks rs (now (words .entry)) nest floor dead fs → length (allValues fs) ≤ stackLimit → Lives fs r) ⌝ }
+    ensures { λ r. ⌜ ((rs : List Kind) (fs : List Frame) (floor : ℕ) → OpenBlocks rs (now (words .entry)) nest floor dead fs → length (allValues fs) ≤ stackLimit → TellsDead fs r) ⌝ }
 {
     if dead {
-        return false;
+        return true;
     }
     let mut k = nest;
     while k != 0 {
         k -= 1;
         if blocks::dead_in(words[k]) {
-            return false;
+            return true;
         }
     }
-    true
+    false
 }
 
 // The first n of some kinds.

@@ -1,6 +1,6 @@
 // The check's walk up to a place, with where the body of each open block begins.
 ghost use mathlib.Core.Path.{_≡_};
-ghost use mathlib.Core.Bool.{false};
+ghost use mathlib.Core.Bool.{true};
 ghost use lib.ListN.{length};
 ghost use Rattle.limits.specs.Limits.{stackLimit, nestLimit};
 ghost use Rattle.checker.specs.Inner.Going.{Begins};
@@ -12,20 +12,20 @@ use crate::turns::State;
 use crate::walk;
 use card::Answer;
 
-// At the place, with what is known there; or before it, with what the check answers.
+// At the place, with what is known there; or short of it, with what the check answers.
 pub(crate) struct Stop {
-    pub there: bool,
+    pub short: bool,
     pub code: u8,
     pub place: usize,
     pub state: State,
 }
 
 fn stopped(a: Answer) -> Stop
-    ensures { λ r. ⌜ (r .there ≡ false) × (r .code ≡ a .code) × (r .place ≡ a .place) ⌝ }
+    ensures { λ r. ⌜ (r .short ≡ true) × (r .code ≡ a .code) × (r .place ≡ a .place) ⌝ }
 {
     let state = walk::outset();
     Stop {
-        there: false,
+        short: true,
         code: a.code,
         place: a.place,
         state,
@@ -84,7 +84,7 @@ pub(crate) fn reach(
         }
     }
     Stop {
-        there: true,
+        short: false,
         code: card::DONE,
         place,
         state,

@@ -26,13 +26,13 @@ pub record Coming (s : List ℕ) (version n takes : ℕ) (kinds blocks bodies : 
   pub noted : Noted bodies begun
   pub bodies-long : length bodies ≡ nestLimit
 
--- where the walk stops: there, or before it, where a strip that keeps every rule has no instruction there
+-- where the walk stops: there, or short of it, and a strip that keeps every rule has no instruction there
 pub record Reached (s : List ℕ) (version n takes place : ℕ) (kinds blocks bodies : List ℕ) (r : Stop) : Type 0 where
-  pub at-place : r .there ≡ true → Coming s version n takes kinds blocks bodies (r .state .depth) (r .state .nest) (r .state .floor) (r .state .dead) place
-  pub says : r .there ≡ false → Says s (r .code) (r .place)
-  pub nowhere : r .there ≡ false → (v : Valid s) (fs : List Frame) → Reaches s (v .header) place fs → ⊥
+  pub at-place : r .short ≡ false → Coming s version n takes kinds blocks bodies (r .state .depth) (r .state .nest) (r .state .floor) (r .state .dead) place
+  pub says : r .short ≡ true → Says s (r .code) (r .place)
+  pub nowhere : r .short ≡ true → (v : Valid s) (fs : List Frame) → Reaches s (v .header) place fs → ⊥
 
--- whether no code is dead
-pub record Lives (fs : List Frame) (r : Bool) : Type 0 where
-  pub live : r ≡ true → Live fs
-  pub not-live : r ≡ false → Live fs → ⊥
+-- whether code is dead
+pub record TellsDead (fs : List Frame) (r : Bool) : Type 0 where
+  pub dead : r ≡ true → Live fs → ⊥
+  pub live : r ≡ false → Live fs

@@ -9,11 +9,11 @@ use Rattle.limits.specs.Limits.{stackLimit}
 use Rattle.opcode.specs.Kind.{Kind}
 use Rattle.rules.specs.Typing.{Frame, allValues}
 use Rattle.checker.specs.Walk.{OpenBlocks}
-use Rattle.checker.proofs.Marks.{living, unliving, Outward, outward, dead-inner, all-live, one-dead, one-outward}
-use Rattle.checker.proofs.place.is_live.Statement.{statement}
-use Rattle.checker.proofs.place.is_live.Tie as tie
-use Rattle.checker.proofs.place.is_live.Reads as reads
-use Rattle.checker.proofs.place.is_live.Lts as lts
+use Rattle.checker.proofs.Marks.{tells-live, tells-dead, Outward, outward, dead-inner, all-live, one-dead, one-outward}
+use Rattle.checker.proofs.place.is_dead.Statement.{statement}
+use Rattle.checker.proofs.place.is_dead.Tie as tie
+use Rattle.checker.proofs.place.is_dead.Reads as reads
+use Rattle.checker.proofs.place.is_dead.Lts as lts
 use Rattle.checker.proofs.blocks.dead_in.Reads as dead-in-reads
 
 abbrev Inv-loop : tie.InvT-loop
@@ -24,7 +24,7 @@ abbrev μ-loop : tie.MeasureT-loop
 
 -- src/place.rt:99:9
 returns : tie.Need-returns Inv-loop μ-loop
-returns c = λ rs fs floor n l. unliving refl (dead-inner (c .if1 .taken) n)
+returns c = λ rs fs floor n l. tells-dead refl (dead-inner (c .if1 .taken) n)
 
 -- src/place.rt:102:5
 loop-holds : tie.Need-loop-holds Inv-loop μ-loop
@@ -48,7 +48,7 @@ dead-in-requires c κs = search needs
 
 -- src/place.rt:105:13
 returns-2 : tie.Need-returns-2 Inv-loop μ-loop
-returns-2 c = λ rs fs floor n l. unliving refl (one-dead (c .before .before .before .before .loop .inv .1 rs fs floor n l) (pos-of-ne-zero (c .before .before .before .loop-test .taken)) (c .before .dead-in .ensures) (c .if2 .taken))
+returns-2 c = λ rs fs floor n l. tells-dead refl (one-dead (c .before .before .before .before .loop .inv .1 rs fs floor n l) (pos-of-ne-zero (c .before .before .before .loop-test .taken)) (c .before .dead-in .ensures) (c .if2 .taken))
 
 -- src/place.rt:102:5
 loop-less : tie.Need-loop-less Inv-loop μ-loop
@@ -60,10 +60,10 @@ loop-again c = (omega arith, λ rs fs floor n l. one-outward (c .before .before 
 
 -- src/place.rt:94:1
 returns-3 : tie.Need-returns-3 Inv-loop μ-loop
-returns-3 c = λ rs fs floor n l. living refl (all-live (c .before .loop .inv .1 rs fs floor n l) (c .loop-test .left))
+returns-3 c = λ rs fs floor n l. tells-live refl (all-live (c .before .loop .inv .1 rs fs floor n l) (c .loop-test .left))
 
-pub is-live-spec : {M : Type 1} → statement M
-is-live-spec =
+pub is-dead-spec : {M : Type 1} → statement M
+is-dead-spec =
     tie.close
     (tie.spec
     Inv-loop
