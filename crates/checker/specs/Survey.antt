@@ -41,4 +41,4 @@ module _ (s : List ℕ) (at : ℕ) (kinds marks : List ℕ) where
     misses : (v : Valid s) → ((fs : List Frame) → Reaches s (v .header) at fs → Live fs → ⊥) → Surveys (missed DONE 0) kinds marks
     finds : (v : Valid s) {fs : List Frame} {bs : List ℕ} → Reaches s (v .header) at fs → Live fs → Around s (v .header) at bs
         → Surveys (record { code = DONE; place = 0; found = true; depth = length (allValues fs); nest = length bs })
-          (fronted (map kindByte (allValues fs)) kinds) (fronted (marksOf fs bs) marks)
+        (fronted (map kindByte (allValues fs)) kinds) (fronted (marksOf fs bs) marks)
