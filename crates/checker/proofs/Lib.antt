@@ -30,3 +30,4 @@ pub mod Walking
 pub mod Known
 pub mod Marks
 pub mod Comings
+pub mod Findings

@@ -47,8 +47,11 @@ loop-less : tie.Need-loop-less Inv-loop μ-loop
 loop-less c = omega (arith, pos-of-ne-zero (c .before .before .before .loop-test .taken))
 
 loop-again : tie.Need-loop-again Inv-loop μ-loop
-loop-again c = (omega arith, λ rs fs floor n l. one-outward (c .before .before .before .before .loop .inv .1 rs fs floor n l)
-    (pos-of-ne-zero (c .before .before .before .loop-test .taken)) (c .before .dead-in .ensures) (c .if2 .left))
+loop-again c = (
+  omega arith,
+  λ rs fs floor n l. one-outward (c .before .before .before .before .loop .inv .1 rs fs floor n l)
+      (pos-of-ne-zero (c .before .before .before .loop-test .taken)) (c .before .dead-in .ensures) (c .if2 .left),
+)
 
 returns-3 : tie.Need-returns-3 Inv-loop μ-loop
 returns-3 c = λ rs fs floor n l. tells-live refl (all-live (c .before .loop .inv .1 rs fs floor n l) (c .loop-test .left))

@@ -33,8 +33,12 @@ loop-less : tie.Need-loop-less Inv-loop μ-loop
 loop-less c = omega (arith, pos-of-ne-zero (c .before .loop-test .taken))
 
 loop-again : tie.Need-loop-again Inv-loop μ-loop
-loop-again c = (omega arith, simp length-set (c .before .before .loop .inv .1), one-more-kind _ _ _ (pos-of-ne-zero (c .before .loop-test .taken))
-    (omega arith) (omega arith) ∙ c .before .before .loop .inv .2)
+loop-again c = (
+  omega arith,
+  simp length-set (c .before .before .loop .inv .1),
+  one-more-kind _ _ _ (pos-of-ne-zero (c .before .loop-test .taken))
+      (omega arith) (omega arith) ∙ c .before .before .loop .inv .2,
+)
 
 same-length : tie.Need-same-length Inv-loop μ-loop
 same-length c = search needs

@@ -5,7 +5,7 @@ use Rattle.rules.specs.Breach.{valid}
 use Rattle.checker.proofs.Held.{held-long}
 use Rattle.checker.proofs.Nests.{nested-many}
 use Rattle.checker.proofs.Exact.{done-exact}
-use Rattle.checker.proofs.Surveys.{refused-before, not-found, refused-after, nowhere-live, found-here}
+use Rattle.checker.proofs.Findings.{refused-before, not-found, refused-after, nowhere-live, found-here}
 use borrow.Author.Needs.{needs}
 use Rattle.checker.proofs.place.survey.Statement.{statement}
 use Rattle.checker.proofs.place.survey.Tie as tie

@@ -107,8 +107,11 @@ add-at c =
     let at-scan = at-if1 .before .before in
     let at-loop = at-scan .before .before in
     let at-shared-slice-known = at-loop .before .before in
-    omega (arith, moves (at-loop .loop .inv .coming .going) (at-scan .scan .result) (at-scan .scan .ensures)
-    (λ j. at-shared-slice-known .shared-slice-known .given j .fits) (at-if1 .if1 .left))
+    omega (
+      arith,
+      moves (at-loop .loop .inv .coming .going) (at-scan .scan .result) (at-scan .scan .ensures)
+          (λ j. at-shared-slice-known .shared-slice-known .given j .fits) (at-if1 .if1 .left),
+    )
 
 mul-bodies : tie.Need-mul-bodies Inv-loop μ-loop
 mul-bodies c =
@@ -121,9 +124,12 @@ mul-bodies c =
     let at-loop-test = at-scan .before in
     let at-loop = at-loop-test .before in
     let at-shared-slice-known = at-loop .before .before in
-    omega (arith, room-in (at-loop .loop .inv) (at-loop-test .loop-test .taken) (at-scan .scan .result) (at-scan .scan .ensures)
-    (λ j. at-shared-slice-known .shared-slice-known .given j .fits) (at-if1 .if1 .left) (sym (at-is-last .is-last .ensures) ∙ at-if2 .if2 .left)
-    (at-turn .turn .ensures .0) (at-if3 .if3 .left) (c .if4 .taken))
+    omega (
+      arith,
+      room-in (at-loop .loop .inv) (at-loop-test .loop-test .taken) (at-scan .scan .result) (at-scan .scan .ensures)
+          (λ j. at-shared-slice-known .shared-slice-known .given j .fits) (at-if1 .if1 .left) (sym (at-is-last .is-last .ensures) ∙ at-if2 .if2 .left)
+          (at-turn .turn .ensures .0) (at-if3 .if3 .left) (c .if4 .taken),
+    )
 
 element-write-bodies : tie.Need-element-write-bodies Inv-loop μ-loop
 element-write-bodies c =
@@ -136,9 +142,12 @@ element-write-bodies c =
     let at-loop-test = at-scan .before in
     let at-loop = at-loop-test .before in
     let at-shared-slice-known = at-loop .before .before in
-    omega (arith, room-in (at-loop .loop .inv) (at-loop-test .loop-test .taken) (at-scan .scan .result) (at-scan .scan .ensures)
-    (λ j. at-shared-slice-known .shared-slice-known .given j .fits) (at-if1 .if1 .left) (sym (at-is-last .is-last .ensures) ∙ at-if2 .if2 .left)
-    (at-turn .turn .ensures .0) (at-if3 .if3 .left) (c .if4 .taken))
+    omega (
+      arith,
+      room-in (at-loop .loop .inv) (at-loop-test .loop-test .taken) (at-scan .scan .result) (at-scan .scan .ensures)
+          (λ j. at-shared-slice-known .shared-slice-known .given j .fits) (at-if1 .if1 .left) (sym (at-is-last .is-last .ensures) ∙ at-if2 .if2 .left)
+          (at-turn .turn .ensures .0) (at-if3 .if3 .left) (c .if4 .taken),
+    )
 
 loop-less : tie.Need-loop-less Inv-loop μ-loop
 loop-less c =
@@ -146,8 +155,11 @@ loop-less c =
     let at-scan = at-if1 .before .before in
     let at-loop = at-scan .before .before in
     let at-shared-slice-known = at-loop .before .before in
-    omega (arith, moves (at-loop .loop .inv .coming .going) (at-scan .scan .result) (at-scan .scan .ensures)
-    (λ j. at-shared-slice-known .shared-slice-known .given j .fits) (at-if1 .if1 .left))
+    omega (
+      arith,
+      moves (at-loop .loop .inv .coming .going) (at-scan .scan .result) (at-scan .scan .ensures)
+          (λ j. at-shared-slice-known .shared-slice-known .given j .fits) (at-if1 .if1 .left),
+    )
 
 loop-again : tie.Need-loop-again Inv-loop μ-loop
 loop-again c =
@@ -171,8 +183,11 @@ loop-less-2 c =
     let at-scan = at-if1 .before .before in
     let at-loop = at-scan .before .before in
     let at-shared-slice-known = at-loop .before .before in
-    omega (arith, moves (at-loop .loop .inv .coming .going) (at-scan .scan .result) (at-scan .scan .ensures)
-    (λ j. at-shared-slice-known .shared-slice-known .given j .fits) (at-if1 .if1 .left))
+    omega (
+      arith,
+      moves (at-loop .loop .inv .coming .going) (at-scan .scan .result) (at-scan .scan .ensures)
+          (λ j. at-shared-slice-known .shared-slice-known .given j .fits) (at-if1 .if1 .left),
+    )
 
 loop-again-2 : tie.Need-loop-again-2 Inv-loop μ-loop
 loop-again-2 c =
