@@ -7,20 +7,9 @@
 #include <stdlib.h>
 #include <string.h>
 
-#include "blocks.h"
+#include "lent.h"
 
-enum { STRIPS = 4096, HEX_MOST = 2048, LOOP_BUDGET = 3000 };
-
-/* What a strip is run on. */
-struct lent {
-    uint8_t args[SLOT * PARAMETERS_MOST];
-    size_t args_len;
-    uint8_t memory[MEMORY_MOST + 1];
-    size_t memory_len;
-    uint8_t results[SLOT * RESULTS_MOST];
-    size_t results_len;
-    uint32_t budget;
-};
+enum { STRIPS = 4096, HEX_MOST = 2048 };
 
 static struct strip official[STRIPS];
 static size_t officials;
@@ -218,38 +207,6 @@ static void spoil(struct strip *s)
     }
 }
 
-static void lend(const struct strip *s, struct lent *x)
-{
-    x->args_len = s->len < 8 ? 0 : SLOT * (s->bytes[5] % 17);
-    memset(x->args, 0, sizeof x->args);
-    for (size_t i = 0; i < x->args_len / SLOT; i++) {
-        const uint8_t kind = 8 + i < s->len ? s->bytes[8 + i] : V128;
-        for (int k = 0; k < (kind == I32 ? 4 : kind == I64 ? 8 : 16); k++)
-            x->args[SLOT * i + k] = some_byte();
-    }
-    x->results_len = s->len < 8 ? 0 : SLOT * (s->bytes[7] % 5);
-    memset(x->results, 0xEE, sizeof x->results);
-    for (size_t i = 0; i < x->memory_len; i++)
-        x->memory[i] = 151 * i + 7;
-    x->budget = !below(4) ? below(80) : s->len < 8 || s->bytes[3] == 1 ? 1000000 : LOOP_BUDGET;
-    switch (below(64)) {
-    case 0: x->args_len = SLOT * below(4); break;
-    case 1: x->results_len = SLOT * below(4); break;
-    case 2: x->args[below(x->args_len + 1)] ^= 1; break;
-    case 3: x->memory_len = MEMORY_MOST + 1; break;
-    }
-}
-
-static void copy(struct lent *to, const struct lent *from)
-{
-    memcpy(to->args, from->args, sizeof to->args);
-    memcpy(to->memory, from->memory, from->memory_len);
-    memcpy(to->results, from->results, sizeof to->results);
-    to->args_len = from->args_len;
-    to->memory_len = from->memory_len;
-    to->results_len = from->results_len;
-}
-
 /* Strips with blocks that were not spoilt: what came of them. More steps than instructions means that a loop turned, fewer that a branch
    passed over some. */
 static struct {
@@ -276,13 +233,6 @@ static const struct strip *some_official(uint8_t version)
     for (int tries = 100; tries && s->bytes[3] != version; tries--)
         s = &official[below(officials)];
     return s;
-}
-
-static size_t some_length(int calm)
-{
-    static const size_t sizes[] = { 0, 1, 7, 16, 100 };
-    const size_t i = below(calm ? 200 : 8);
-    return !below(200) ? MEMORY_MOST : i < sizeof sizes / sizeof *sizes ? sizes[i] : 1000;
 }
 
 /* Versions by turns: whole strips, strips that slip or are spoilt, official ones spoilt. In version 2 most strips have blocks. */
