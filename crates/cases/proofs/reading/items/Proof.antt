@@ -5,8 +5,8 @@ use lib.ListN.{length}
 use native.Mathlib.Omega.{arith}
 use borrow.Author.Needs.{needs}
 use Rattle.io.proofs.Counting.{counts}
-use Rattle.strip_test.proofs.text.items.Statement.{statement}
-use Rattle.strip_test.proofs.text.items.Tie as tie
+use Rattle.cases.proofs.reading.items.Statement.{statement}
+use Rattle.cases.proofs.reading.items.Tie as tie
 
 abbrev Inv-loop : tie.InvT-loop
 Inv-loop s out₀ n₀ at₀ out n at = (n ≤ length out) × (length out ≡ length out₀)

@@ -2,8 +2,8 @@
 use Prim.Native.Nat.{_≤_, _-_}
 use lib.ListN.{length}
 use native.Mathlib.Omega.{arith}
-use Rattle.strip_test.proofs.text.field.Statement.{statement}
-use Rattle.strip_test.proofs.text.field.Tie as tie
+use Rattle.cases.proofs.reading.field.Statement.{statement}
+use Rattle.cases.proofs.reading.field.Tie as tie
 
 abbrev Inv-loop : tie.InvT-loop
 Inv-loop line k at₀ i₀ at i = at ≤ length line

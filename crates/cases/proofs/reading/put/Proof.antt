@@ -4,8 +4,8 @@ use mathlib.Core.Path.{_≡_}
 use lib.ListN.{length, length-set}
 use native.Mathlib.Omega.{arith}
 use borrow.Author.Needs.{needs}
-use Rattle.strip_test.proofs.text.put.Statement.{statement}
-use Rattle.strip_test.proofs.text.put.Tie as tie
+use Rattle.cases.proofs.reading.put.Statement.{statement}
+use Rattle.cases.proofs.reading.put.Tie as tie
 
 abbrev Inv-loop : tie.InvT-loop
 Inv-loop s out₀ n to₀ i₀ out to i = (to ≤ length out) × (length out ≡ length out₀)

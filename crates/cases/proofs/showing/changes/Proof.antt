@@ -3,8 +3,8 @@ use Prim.Native.Nat.{_≤_, _-_}
 use lib.ListN.{length}
 use native.Mathlib.Omega.{arith}
 use borrow.Author.Needs.{needs}
-use Rattle.strip_test.proofs.changes.Statement.{statement}
-use Rattle.strip_test.proofs.changes.Tie as tie
+use Rattle.cases.proofs.showing.changes.Statement.{statement}
+use Rattle.cases.proofs.showing.changes.Tie as tie
 
 abbrev Inv-loop : tie.InvT-loop
 Inv-loop mem inside₀ i₀ t5 inside i = i ≤ length mem

@@ -3,8 +3,8 @@ use Prim.Native.Nat.{_<_, _-_}
 use lib.ListN.{length}
 use native.Mathlib.Omega.{arith}
 use borrow.Author.Needs.{needs}
-use Rattle.strip_test.proofs.text.decimal.Statement.{statement}
-use Rattle.strip_test.proofs.text.decimal.Tie as tie
+use Rattle.cases.proofs.reading.decimal.Statement.{statement}
+use Rattle.cases.proofs.reading.decimal.Tie as tie
 
 abbrev Inv-loop : tie.InvT-loop
 Inv-loop s value₀ i₀ value i = value < 4294967296

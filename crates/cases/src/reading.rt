@@ -1,10 +1,10 @@
-// What the lines of cases.txt are made of: fields with a blank between them, each a word, a number or bytes.
+// What the lines of a file of cases are made of: fields with a blank between them, each a word, a number or bytes.
 ghost use Prim.Native.Nat.{_≤_, _<_};
 ghost use lib.ListN.{length};
 ghost use Rattle.io.specs.Counts.{Counts};
 
 // The first `c` from `at` on, or the end.
-pub(crate) fn find(s: &[u8], at: usize, c: u8) -> usize
+pub fn find(s: &[u8], at: usize, c: u8) -> usize
     requires { ⌜ at ≤ length (now s) ⌝ }
     ensures { λ r. ⌜ (at ≤ r) × (r ≤ length (now (s .entry))) ⌝ }
 {
@@ -19,7 +19,7 @@ pub(crate) fn find(s: &[u8], at: usize, c: u8) -> usize
 }
 
 // Where field k starts.
-pub(crate) fn field(line: &[u8], k: usize) -> usize
+pub fn field(line: &[u8], k: usize) -> usize
     ensures { λ r. ⌜ r ≤ length (now (line .entry)) ⌝ }
 {
     let mut at = 0;
@@ -39,7 +39,7 @@ fn next_field(line: &[u8], at: usize) -> usize
     if end < line.len() { end + 1 } else { end }
 }
 
-pub(crate) fn number_in(line: &[u8], k: usize) -> usize
+pub fn number_in(line: &[u8], k: usize) -> usize
     ensures { λ r. ⌜ r < 4294967296 ⌝ }
 {
     let from = field(line, k);
@@ -48,7 +48,7 @@ pub(crate) fn number_in(line: &[u8], k: usize) -> usize
 }
 
 // A number of bytes at the start of buf, all of them at most.
-pub(crate) fn length_in(line: &[u8], k: usize, buf: &[u8]) -> usize
+pub fn length_in(line: &[u8], k: usize, buf: &[u8]) -> usize
     ensures { λ r. ⌜ Counts r (now (buf .entry)) ⌝ }
 {
     let n = number_in(line, k);
@@ -56,7 +56,7 @@ pub(crate) fn length_in(line: &[u8], k: usize, buf: &[u8]) -> usize
 }
 
 // Items with full stops between them: hexadecimal digits, or a count, `x` and digits that are repeated so often.
-pub(crate) fn bytes_in(line: &[u8], k: usize, out: &mut [u8]) -> usize
+pub fn bytes_in(line: &[u8], k: usize, out: &mut [u8]) -> usize
     ensures { λ r. ⌜ Counts r (now (out .exit)) ⌝ }
 {
     let from = field(line, k);

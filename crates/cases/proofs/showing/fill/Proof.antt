@@ -4,8 +4,8 @@ use mathlib.Core.Path.{_≡_}
 use lib.ListN.{length, length-set}
 use native.Mathlib.Omega.{arith}
 use borrow.Author.Needs.{needs}
-use Rattle.strip_test.proofs.fill.Statement.{statement}
-use Rattle.strip_test.proofs.fill.Tie as tie
+use Rattle.cases.proofs.showing.fill.Statement.{statement}
+use Rattle.cases.proofs.showing.fill.Tie as tie
 
 abbrev Inv-loop : tie.InvT-loop
 Inv-loop mem₀ i₀ mem i = (i ≤ length mem) × (length mem ≡ length mem₀)

@@ -3,8 +3,8 @@ use Prim.Native.Nat.{_≤_, _-_}
 use lib.ListN.{length}
 use native.Mathlib.Omega.{arith}
 use borrow.Author.Needs.{needs}
-use Rattle.strip_test.proofs.text.find.Statement.{statement}
-use Rattle.strip_test.proofs.text.find.Tie as tie
+use Rattle.cases.proofs.reading.find.Statement.{statement}
+use Rattle.cases.proofs.reading.find.Tie as tie
 
 abbrev Inv-loop : tie.InvT-loop
 Inv-loop s at c i₀ i = (at ≤ i) × (i ≤ length s)

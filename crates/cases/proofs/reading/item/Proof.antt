@@ -4,8 +4,8 @@ use mathlib.Core.Path.{_≡_}
 use lib.ListN.{length}
 use native.Mathlib.Omega.{arith}
 use borrow.Author.Needs.{needs}
-use Rattle.strip_test.proofs.text.item.Statement.{statement}
-use Rattle.strip_test.proofs.text.item.Tie as tie
+use Rattle.cases.proofs.reading.item.Statement.{statement}
+use Rattle.cases.proofs.reading.item.Tie as tie
 
 abbrev Inv-loop : tie.InvT-loop
 Inv-loop s out₀ n x times from to₀ i₀ out to i = (to ≤ length out) × (length out ≡ length out₀)
