@@ -1,4 +1,4 @@
--- The codes of the inspector's card (01, "Numbers on the inspector's card"; 02, C-13), each under its name. No other statement writes a code as a
+-- The codes of the inspector's card (01, "Numbers on the inspector's card"; 02, C-13, C-14), each under its name. No other statement writes a code as a
 -- numeral.
 use Prim.Native.Nat.{ℕ}
 
@@ -94,9 +94,13 @@ OUT = 22
 abbrev pub FORM : ℕ
 FORM = 23
 
--- the output is too short
+-- the output, or the image's buffer, is too short
 abbrev pub SMALL : ℕ
 SMALL = 24
+
+-- no image of a run of this strip
+abbrev pub IMAGE : ℕ
+IMAGE = 25
 
 -- an access past the memory's end
 abbrev pub TRAP : ℕ

@@ -48,6 +48,8 @@ pub const FORM: u8 = 23;
 
 pub const SMALL: u8 = 24;
 
+pub const IMAGE: u8 = 25;
+
 pub const TRAP: u8 = 30;
 
 pub const BUDGET: u8 = 31;

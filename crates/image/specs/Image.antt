@@ -1,12 +1,12 @@
 -- The image of a run that has spent its budget (02, C-14): mark, version, place, depth, locals and stack, one part after the other, numbers
 -- little-endian.
-use Prim.Native.Nat.{ℕ, _+_, _-_}
+use Prim.Native.Nat.{ℕ, _+_, _-_, _≤_}
 use mathlib.Core.Path.{_≡_}
-use mathlib.Core.Bool.{Bool, cond, _||_}
+use mathlib.Core.Bool.{cond, _||_}
 use mathlib.Core.List.{List, [], _∷_, _++_, map}
 use lib.Dec.{ltb}
 use lib.ListN.{length, drop, replicate}
-use Rattle.limits.specs.Limits.{localBytes, stackBytes}
+use Rattle.limits.specs.Limits.{localCount, stackLimit, localBytes, stackBytes}
 use Rattle.operation.specs.Vector.{le, number}
 use Rattle.opcode.specs.Kind.{Kind}
 use Rattle.machine.specs.Value.{Value, kindOf, AllInRange, allBytes}
@@ -26,13 +26,17 @@ frontBytes = 3 + 2 + 4 + 2
 abbrev pub imageBytes : ℕ
 imageBytes = frontBytes + localBytes + stackBytes
 
+-- the place, and how many values are on the stack
+abbrev pub frontOf : ℕ → ℕ → List ℕ
+frontOf place depth = imageMark ++ le 2 imageVersion ++ le 4 place ++ le 2 depth
+
 -- n bytes that begin with these, the rest zero
 abbrev pub filled : ℕ → List ℕ → List ℕ
 filled n bs = bs ++ replicate (n - length bs) 0
 
 -- at a place, with so many values on the stack, and the slots of the locals and of the stack, the lowest first
 abbrev pub laid : ℕ → ℕ → List ℕ → List ℕ → List ℕ
-laid place depth locals stack = imageMark ++ le 2 imageVersion ++ le 4 place ++ le 2 depth ++ filled localBytes locals ++ filled stackBytes stack
+laid place depth locals stack = frontOf place depth ++ filled localBytes locals ++ filled stackBytes stack
 
 -- with these locals and these values on the stack, the lowest first
 abbrev pub imageOf : ℕ → List Value → List Value → List ℕ
@@ -52,14 +56,13 @@ painted place depth locals stack buffer =
 unfoldable pub placeIn : List ℕ → ℕ
 placeIn buffer = cond (ltb (length buffer) imageBytes) 0 (number (part 4 5 buffer))
 
--- the buffer begins with the image at this place of these locals and this stack, which are of these kinds
+-- the buffer begins with the image at this place of these locals and this stack, which are of these kinds and have room in it
 pub record Shows (locals stack : List Kind) (buffer : List ℕ) (place : ℕ) (ls vs : List Value) : Type 0 where
   pub local-kinds : map kindOf ls ≡ locals
   pub stack-kinds : map kindOf vs ≡ stack
   pub local-range : AllInRange ls
   pub stack-range : AllInRange vs
+  pub local-room : length ls ≤ localCount
+  pub stack-room : length vs ≤ stackLimit
   pub rest : List ℕ
   pub begins : buffer ≡ imageOf place ls vs ++ rest
-
-abbrev pub IMAGE : ℕ
-IMAGE = 25

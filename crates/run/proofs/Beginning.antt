@@ -14,12 +14,11 @@ use Rattle.rules.proofs.Onward.{declared}
 use Rattle.standard.specs.Standard.{Config, begin}
 use Rattle.standard.specs.Safety.{Sound}
 use Rattle.standard.proofs.Begin.{begin-sound}
-use Rattle.run.specs.Meter.{Left, meter}
-use Rattle.run.specs.Inner.Steps.{Prepared, Drove}
+use Rattle.run.specs.Inner.Steps.{Prepared}
 use Rattle.run.specs.Inner.Carried.{openIn, Carries, Going}
 use Rattle.run.proofs.Start.{args-long, counted, start-holds}
 
-module _ {s args out : List ℕ} (r : Prepared s args out) where
+module _ {s args mem out : List ℕ} (r : Prepared s args mem out) where
   abbrev h : Header
   h = r .valid .header
 
@@ -29,14 +28,14 @@ module _ {s args out : List ℕ} (r : Prepared s args out) where
   pub args-fit : length args ≤ localBytes
   args-fit = omega (arith, args-long h args (r .values) (r .given) few-locals, counted h args (r .values) (r .given) few-locals, few-locals)
 
-  module _ (mem : List ℕ) (b : Bytes mem) {locals : List ℕ} (f : locals ≡ stored (replicate localBytes 0) 0 args) {at : ℕ} (e : at ≡ length (headerBytes h)) where
+  module _ (b : Bytes mem) {locals : List ℕ} (f : locals ≡ stored (replicate localBytes 0) 0 args) {at : ℕ} (e : at ≡ length (headerBytes h)) where
     abbrev c : Config
     c = begin h (r .values) mem
 
     sound : Sound s h c
     sound = begin-sound (r .valid) (r .values) mem (record { kinds = r .given .kinds; range = r .given .range; bytes = λ k. b k .fits })
 
-    begins : Carries s h c at 0 (openIn (replicate (3 * nestLimit + 1) 0)) (replicate stackBytes 0) (replicate (3 * nestLimit + 1) 0) locals mem
+    pub begins : Carries s h c at 0 (openIn (replicate (3 * nestLimit + 1) 0)) (replicate stackBytes 0) (replicate (3 * nestLimit + 1) 0) locals mem
     begins =
         record {
           place = sym e;
@@ -51,11 +50,3 @@ module _ {s args out : List ℕ} (r : Prepared s args out) where
 
     pub may-begin : Going s out at 0 (openIn (replicate (3 * nestLimit + 1) 0)) (replicate stackBytes 0) (replicate (3 * nestLimit + 1) 0) locals mem
     may-begin = record { held = record { valid = r .valid; config = c; carries = begins }; slots = r .slots }
-
-    -- what is left then is what the standard's machine leaves
-    pub drove : {budget : ℕ} {l : Left}
-        → ((v : Valid s) (c : Config)
-        → Carries s (v .header) c at 0 (openIn (replicate (3 * nestLimit + 1) 0)) (replicate stackBytes 0) (replicate (3 * nestLimit + 1) 0) locals mem
-        → l ≡ meter s (v .header) budget 0 c out)
-        → Drove s args mem out budget l
-    drove went = record { ready = r; same = went (r .valid) c begins }

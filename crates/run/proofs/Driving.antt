@@ -3,6 +3,7 @@ use Prim.Native.Nat.{ℕ, suc, _+_, _*_, _-_, _≤_, _<_}
 use mathlib.Core.Path.{_≡_, refl, ap, ap₂, sym, _∙_, subst}
 use mathlib.Core.Bool.{Bool, true, false}
 use mathlib.Core.List.{List}
+use mathlib.Core.Option.{Option}
 use native.Mathlib.Omega.{arith}
 use native.Mathlib.Numerals.{add-one}
 use lib.ListN.{length}
@@ -31,7 +32,7 @@ use Rattle.rules.proofs.Onward.{declared}
 use Rattle.standard.specs.Standard.{Config, Stage, going, ended, trapped, step}
 use Rattle.standard.specs.Safety.{Safe}
 use Rattle.standard.proofs.Turn.{safe-step}
-use Rattle.run.specs.Meter.{Left, leaves, meter, meterBy}
+use Rattle.run.specs.Meter.{Left, leaves, paused, meter, meterBy}
 use Rattle.run.specs.Run.{Slots}
 use Rattle.run.specs.Inner.Carried.{turnsAt, Carries, Stacked, Going, Seen, Led, leads-on, leads-out}
 use Rattle.run.proofs.HeaderBytes.{version-read, result-count}
@@ -57,7 +58,7 @@ pub record Drives (s : List ℕ) (v : Valid s) (c₀ : Config) (mem₀ out : Lis
   pub carries : Carries s (v .header) config at depth nest stack marks locals mem
   pub slots : Slots (v .header .results) out
   pub within : left ≤ budget
-  pub same : meter s (v .header) budget 0 c₀ out ≡ meter s (v .header) left (budget - left) config out
+  pub same : (img : Option (List ℕ)) → meter s (v .header) budget 0 c₀ out img ≡ meter s (v .header) left (budget - left) config out img
   pub untouched : results ≡ out
   pub long : length mem ≡ length mem₀
 
@@ -70,7 +71,7 @@ starts {s} v c₀ budget {out} C g =
       carries = C;
       slots = results-once (g .held .valid) v out (g .slots);
       within = omega arith;
-      same = let none : 0 ≡ budget - budget = omega arith in ap (λ (n : ℕ). meter s (v .header) budget n c₀ out) none;
+      same = λ img. let none : 0 ≡ budget - budget = omega arith in ap (λ (n : ℕ). meter s (v .header) budget n c₀ out img) none;
       untouched = refl;
       long = refl;
     }
@@ -85,32 +86,35 @@ module _ {s : List ℕ} {v : Valid s} {c₀ : Config} {mem₀ out : List ℕ} {b
 
   -- ---- the meter
 
-  abbrev Is : Left → Type 0
-  Is l = l ≡ meter s h budget 0 c₀ out
+  -- this is left, whichever buffer is lent for an image
+  abbrev Is : (Option (List ℕ) → Left) → Type 0
+  Is l = (img : Option (List ℕ)) → l img ≡ meter s h budget 0 c₀ out img
 
   abbrev steps : ℕ
   steps = budget - left
 
   -- what is left here
-  here : (code : ℕ) → leaves code (c .place) steps (c .state .memory) out ≡ leaves code at steps mem results
-  here code =
-      ap (λ (p : ℕ). leaves code p steps (c .state .memory) out) (D .carries .place)
-      ∙ ap₂ (λ (m o : List ℕ). leaves code at steps m o) (D .carries .rep .memory) (sym (D .untouched))
+  here : (code : ℕ) (i : Option (List ℕ)) → leaves code (c .place) steps (c .state .memory) out i ≡ leaves code at steps mem results i
+  here code i =
+      ap (λ (p : ℕ). leaves code p steps (c .state .memory) out i) (D .carries .place)
+      ∙ ap₂ (λ (m o : List ℕ). leaves code at steps m o i) (D .carries .rep .memory) (sym (D .untouched))
 
-  stops : {l : Left} → meter s h left steps c out ≡ l → Is l
-  stops e = sym (D .same ∙ e)
+  stops : {l : Option (List ℕ) → Left} → ((img : Option (List ℕ)) → meter s h left steps c out img ≡ l img) → Is l
+  stops e img = sym (D .same img ∙ e img)
 
-  pub spent : left ≡ 0 → Is (leaves BUDGET at budget mem results)
+  pub spent : left ≡ 0 → Is (λ img. leaves BUDGET at budget mem results (paused c img))
   unfolding meter
   spent e =
       let all : steps ≡ budget = omega arith in
-      stops (ap (λ (k : ℕ). meter s h k steps c out) e ∙ here BUDGET ∙ ap (λ (n : ℕ). leaves BUDGET at n mem results) all)
+      stops
+      (λ img. ap (λ (k : ℕ). meter s h k steps c out img) e ∙ here BUDGET (paused c img) ∙ ap (λ (n : ℕ). leaves BUDGET at n mem results (paused c img)) all)
 
-  one : 0 < left → (g : Stage) → step s h c ≡ g → meter s h left steps c out ≡ meterBy steps c out (λ c. meter s h (left - 1) (suc steps) c out) g
+  one : 0 < left → (g : Stage) → step s h c ≡ g → (img : Option (List ℕ))
+      → meter s h left steps c out img ≡ meterBy steps c out img (λ c. meter s h (left - 1) (suc steps) c out img) g
   unfolding meter
-  one more g e =
+  one more g e img =
       let next : left ≡ suc (left - 1) = omega arith in
-      ap (λ (k : ℕ). meter s h k steps c out) next ∙ ap (meterBy steps c out (λ c. meter s h (left - 1) (suc steps) c out)) e
+      ap (λ (k : ℕ). meter s h k steps c out img) next ∙ ap (meterBy steps c out img (λ c. meter s h (left - 1) (suc steps) c out img)) e
 
   -- one step further
   goes-on : 0 < left → {d : Config} → step s h c ≡ going d → {mem′ stack′ marks′ locals′ : List ℕ} {at′ depth′ nest′ : ℕ}
@@ -123,7 +127,7 @@ module _ {s : List ℕ} {v : Valid s} {c₀ : Config} {mem₀ out : List ℕ} {b
         carries = C;
         slots = D .slots;
         within = omega (arith, D .within);
-        same = D .same ∙ one more (going d) e ∙ ap (λ (n : ℕ). meter s h (left - 1) n d out) further;
+        same = λ img. D .same img ∙ one more (going d) e img ∙ ap (λ (n : ℕ). meter s h (left - 1) n d out img) further;
         untouched = D .untouched;
         long = kept ∙ D .long;
       }
@@ -252,7 +256,7 @@ module _ {s : List ℕ} {v : Valid s} {c₀ : Config} {mem₀ out : List ℕ} {b
                 by : Way s h c i (d .len) → Is (leaves TRAP at steps mem results)
                 by (turning r e) = both (sort r ∙ e) ordinary
                 by (goes-to r e q x) = absurd (out-of-reach (reach-clear b (told _ (row r) ∙ is-clear r (h .results) (D .carries .rep) q)))
-                by (traps-at {a = a} {m = m} r e q x) = stops (one more (trapped a m) x ∙ here TRAP)
+                by (traps-at {a = a} {m = m} r e q x) = stops (λ img. one more (trapped a m) x img ∙ here TRAP img)
 
   -- ---- what `turn` leaves
 
@@ -277,8 +281,8 @@ module _ {s : List ℕ} {v : Valid s} {c₀ : Config} {mem₀ out : List ℕ} {b
         by (leads-on e C) = absurd (no-place C z)
         by (leads-out {vs} e q n few long bytes) =
             stops
-            (one more (ended vs mem) e
-            ∙ ap₂ (λ (k : ℕ) (x : List ℕ). leaves DONE 0 k mem x) (sym (add-one steps))
+            (λ img. one more (ended vs mem) e img
+            ∙ ap₂ (λ (k : ℕ) (x : List ℕ). leaves DONE 0 k mem x img) (sym (add-one steps))
             (sym (written ∙ ap (λ (k : ℕ). part k (slot * depth′) stack′) (results-long vs n) ∙ bytes)))
 
     pub turned : 0 < left → (at′ ≡ 0 → ⊥) → Drives s v c₀ mem₀ out budget mem results stack′ marks′ locals at′ depth′ nest′ (left - 1)

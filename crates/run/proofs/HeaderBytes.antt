@@ -1,13 +1,13 @@
 -- What the bytes of a strip tell of the header that it declares.
-use Prim.Native.Nat.{ℕ, zero, suc, _+_, _≤_, _<_}
-use mathlib.Core.Path.{_≡_, refl, ap, _∙_}
-use mathlib.Core.List.{List, [], _∷_, _++_, map}
+use Prim.Native.Nat.{ℕ, _+_, _≤_}
+use mathlib.Core.Path.{_≡_, ap, _∙_}
+use mathlib.Core.List.{List, _++_, map, map-append, append-assoc}
 use native.Mathlib.Omega.{arith}
-use lib.ListN.{length, getD, length-append, length-map, List·getD-append}
-use lib.Seq.{getD-append-add}
+use lib.ListN.{length, getD, take, drop, length-append, length-map}
+use lib.Seq.{take-at}
 use Rattle.limits.specs.Limits.{parameterLimit, localLimit, resultLimit}
-use Rattle.opcode.specs.Kind.{Kind, i32, kindByte}
-use Rattle.rules.specs.Header.{Header, Declares, mark, versionBytes, counts, headerBytes, locals, kinds}
+use Rattle.opcode.specs.Kind.{kindByte}
+use Rattle.rules.specs.Header.{Header, Declares, headerBytes, locals, kinds}
 
 module _ {s : List ℕ} {h : Header} (d : Declares s h) where
   pub version-read : getD s 3 0 ≡ h .version
@@ -22,6 +22,9 @@ module _ {s : List ℕ} {h : Header} (d : Declares s h) where
   pub result-count : getD s 7 0 ≡ length (h .results)
   result-count = ap (λ (x : List ℕ). getD x 7 0) (d .bytes)
 
+  pub local-count : getD s 5 0 + getD s 6 0 ≡ length (locals h)
+  local-count = omega (arith, parameter-count, further-count, length-append (h .parameters) (h .further))
+
   all-kinds : length (kinds h) ≡ length (h .parameters) + length (h .further) + length (h .results)
   all-kinds = length-append (locals h) (h .results) ∙ omega (arith, length-append (h .parameters) (h .further))
 
@@ -32,19 +35,24 @@ module _ {s : List ℕ} {h : Header} (d : Declares s h) where
   pub inside : length (headerBytes h) ≤ length s
   inside = let l = ap length (d .bytes) ∙ length-append (headerBytes h) (d .body) in omega arith
 
-  -- the kind byte of a parameter
-  pub parameter-kind : (j : ℕ) → j < length (h .parameters) → getD s (8 + j) 0 ≡ kindByte (getD (h .parameters) j i32)
-  parameter-kind j l =
-      ap (λ (x : List ℕ). getD x (8 + j) 0) (d .bytes) ∙ getD-append-add (mark ++ versionBytes (h .version) ++ counts h) (map kindByte (kinds h) ++ d .body) j 0
-      ∙ List·getD-append (map kindByte (kinds h)) (d .body) 0 j (omega (arith, length-map (kinds h) kindByte, all-kinds)) ∙ first (kinds h) j
-      (omega (arith, all-kinds))
-      ∙ ap kindByte (List·getD-append (locals h) (h .results) i32 j (omega (arith, length-append (h .parameters) (h .further)))
-      ∙ List·getD-append (h .parameters) (h .further) i32 j l)
-    where
-      first : (ks : List Kind) (j : ℕ) → j < length ks → getD (map kindByte ks) j 0 ≡ kindByte (getD ks j i32)
-      first [] j h = absurd (let z : ⊥ = omega arith in z)
-      first (k ∷ ks) zero h = refl
-      first (k ∷ ks) (suc j) h = first ks j (omega arith)
+  -- the kind bytes of the locals, parameters first
+  after-counts : drop 8 s ≡ map kindByte (locals h) ++ (map kindByte (h .results) ++ d .body)
+  after-counts =
+      ap (drop 8) (d .bytes) ∙ ap (λ (x : List ℕ). x ++ d .body) (map-append kindByte (locals h) (h .results))
+      ∙ append-assoc (map kindByte (locals h)) (map kindByte (h .results)) (d .body)
+
+  pub local-kinds : (n : ℕ) → n ≡ getD s 5 0 + getD s 6 0 → take n (drop 8 s) ≡ map kindByte (locals h)
+  local-kinds n e =
+      ap (take n) after-counts ∙ take-at (map kindByte (locals h)) (map kindByte (h .results) ++ d .body) n
+      (omega (arith, length-map (locals h) kindByte, length-append (h .parameters) (h .further), e, parameter-count, further-count))
+
+  pub parameter-kinds : (n : ℕ) → n ≡ getD s 5 0 → take n (drop 8 s) ≡ map kindByte (h .parameters)
+  parameter-kinds n e =
+      let rest = map kindByte (h .further) ++ (map kindByte (h .results) ++ d .body) in
+      ap (take n)
+      (after-counts ∙ ap (λ (x : List ℕ). x ++ (map kindByte (h .results) ++ d .body)) (map-append kindByte (h .parameters) (h .further))
+      ∙ append-assoc (map kindByte (h .parameters)) (map kindByte (h .further)) (map kindByte (h .results) ++ d .body))
+      ∙ take-at (map kindByte (h .parameters)) rest n (omega (arith, length-map (h .parameters) kindByte, e, parameter-count))
 
   -- the three counts, small enough for any sum of them
   pub record Counts : Type 0 where

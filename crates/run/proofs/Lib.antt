@@ -1,6 +1,4 @@
 pub mod HeaderBytes
-pub mod Form
-pub mod Upto
 pub mod Turning
 pub mod Results
 pub mod Start
@@ -15,7 +13,12 @@ pub mod Driving
 pub mod Beginning
 pub mod Asking
 pub mod Metered
+pub mod Parting
+pub mod Picturing
+pub mod Pausing
 pub mod Promises
 pub mod NeverStuck
 pub mod Unique
 pub mod Exponents
+pub mod Slicing
+pub mod Answering

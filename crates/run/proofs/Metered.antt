@@ -9,6 +9,7 @@ use lib.ListN.{length, length-map}
 use Rattle.card.specs.Card.{DONE, TRAP, BUDGET}
 use Rattle.limits.specs.Limits.{slot}
 use Rattle.machine.specs.Value.{Value, kindOf, allBytes}
+use Rattle.image.proofs.Held.{all-long}
 use Rattle.rules.specs.Header.{Header}
 use Rattle.rules.specs.Strip.{Valid}
 use Rattle.standard.specs.Standard.{Config, Stage, going, ended, trapped, halted, step, onward, runs}
@@ -17,7 +18,6 @@ use Rattle.standard.proofs.Turn.{safe-step, sound-strays, sound-finishes}
 use Rattle.standard.proofs.Along.{one-more}
 use Rattle.run.specs.Meter.{leaves, paused, meter, meterBy}
 use Rattle.run.specs.Told.{Told, told-done, told-trap, told-budget}
-use Rattle.run.proofs.Start.{all-long}
 
 module _ (s : List ℕ) (h : Header) (out : List ℕ) (img : Option (List ℕ)) where
   one : (k n : ℕ) (c : Config) (g : Stage) → step s h c ≡ g → meter s h (suc k) n c out img ≡ meterBy n c out img (λ d. meter s h k (suc n) d out img) g

@@ -10,7 +10,7 @@ use Rattle.rules.specs.Typing.{Frame}
 use Rattle.rules.specs.Strip.{Reaches, front, past, Valid}
 use Rattle.rules.proofs.Onward.{declared}
 use Rattle.standard.proofs.Unwinding.{Next, last, goes-on, what-next}
-use Rattle.run.proofs.HeaderBytes.{start}
+use Rattle.run.proofs.HeaderBytes.{start, inside}
 
 pub late : {s : List ℕ} {h : Header} {p : ℕ} {fs : List Frame} → Reaches s h p fs → 8 ≤ p
 late (front d) = omega (arith, start d)
@@ -22,3 +22,8 @@ before-last (goes-on q t w) = omega (arith, stands-some (q .stands), stands-insi
 
 pub early : {s : List ℕ} (v : Valid s) {p : ℕ} {fs : List Frame} → Reaches s (v .header) p fs → p < fileLimit
 early v r = omega (arith, before-last (what-next v r), declared (v .reached) .sized)
+
+-- a place that is reached is one of the file
+pub reached-inside : {s : List ℕ} {h : Header} {p : ℕ} {fs : List Frame} → Reaches s h p fs → p ≤ fileLimit
+reached-inside (front d) = omega (arith, inside d, d .sized)
+reached-inside (past r q t l) = omega (arith, stands-inside (q .stands), declared r .sized)

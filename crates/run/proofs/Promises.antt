@@ -6,16 +6,12 @@ use mathlib.Core.Logic.{inl, inr}
 use mathlib.Core.Option.{Option, none, some}
 use native.Mathlib.Omega.{arith}
 use lib.ListN.{length}
-use Rattle.card.specs.Card.{DONE, LONG, LABEL, ROOM, SMALL, TRAP, BUDGET}
-use Rattle.image.specs.Image.{IMAGE}
+use Rattle.card.specs.Card.{DONE, LONG, LABEL, ROOM, SMALL, TRAP, BUDGET, IMAGE}
 use Rattle.limits.specs.Limits.{fileLimit}
 use Rattle.leb128.specs.Bytes.{bytes}
 use Rattle.machine.specs.Value.{Value}
-use Rattle.instr.proofs.Ranges.{stands-inside}
 use Rattle.rules.specs.Header.{Header}
-use Rattle.rules.specs.Typing.{Frame}
-use Rattle.rules.specs.Strip.{Reaches, front, past, Valid}
-use Rattle.rules.proofs.Onward.{declared}
+use Rattle.rules.specs.Strip.{Valid}
 use Rattle.rules.specs.Breach.{Breach, long, stub, unmarked, other-version, parameters, further, results, kind, kinds-short, short, block-type, opcode, float, number, lane, align, local, nest, label, operand, deep, result, trailing, breach}
 use Rattle.checker.proofs.Exact as Exact
 use Rattle.standard.specs.Standard.{Config, going, ended, step, runs, begin}
@@ -28,10 +24,10 @@ use Rattle.run.specs.Call.{Fails, AllWell, Asks, breaks, fails, Calls, r
 use Rattle.run.specs.Run.{Slots, runAsks, Begins, Runs}
 use Rattle.run.specs.Resume.{Pictures, resumeAsks, Resumes}
 use Rattle.run.specs.Told.{Told, told-done, told-trap, told-budget, OnCard, Called, turned-away, told}
-use Rattle.run.proofs.HeaderBytes.{inside}
+use Rattle.run.proofs.Places.{reached-inside}
 use Rattle.run.proofs.Metered.{metered-tells}
 
-breach-range : {s : List ℕ} {c p : ℕ} → Breach s c p → (LONG ≤ c) × (c ≤ LABEL)
+pub breach-range : {s : List ℕ} {c p : ℕ} → Breach s c p → (LONG ≤ c) × (c ≤ LABEL)
 breach-range (long g) = (omega arith, omega arith)
 breach-range (stub g) = (omega arith, omega arith)
 breach-range (unmarked z f) = (omega arith, omega arith)
@@ -55,11 +51,6 @@ breach-range (operand a o d l f) = (omega arith, omega arith)
 breach-range (deep a t g) = (omega arith, omega arith)
 breach-range (result a f) = (omega arith, omega arith)
 breach-range (trailing a e g) = (omega arith, omega arith)
-
--- a place that is reached is one of the file
-reached-inside : {s : List ℕ} {h : Header} {p : ℕ} {fs : List Frame} → Reaches s h p fs → p ≤ fileLimit
-reached-inside (front d) = omega (arith, inside d, d .sized)
-reached-inside (past r q t l) = omega (arith, stands-inside (q .stands), declared r .sized)
 
 -- ---- what is told of the standard's machine from a sound state
 
@@ -119,13 +110,13 @@ module _ {s : List ℕ} {h : Header} {b : Config} {out : List ℕ} {img : Option
 -- ---- of every call
 
 -- what is so of where a call's machine starts, and of its questions
-pub record Kind-of-call (s mem out : List ℕ) (asks : Asks) (Starts : Header → Config → Type 0) (last : ℕ) : Type 0 where
+pub record Orderly (s mem out : List ℕ) (asks : Asks) (Starts : Header → Config → Type 0) (last : ℕ) : Type 0 where
   pub sound : (v : Valid s) (c : Config) → Starts (v .header) c → Sound s (v .header) c × (c .state .memory ≡ mem)
   pub slots : (v : Valid s) → AllWell (asks (v .header)) → Slots (v .header .results) out
   pub coded : (v : Valid s) (c : ℕ) → Fails (asks (v .header)) c → (ROOM ≤ c) × (c ≤ last)
 
 module _ {s mem out : List ℕ} {img : Option (List ℕ)} {budget : ℕ} {asks : Asks} {Starts : Header → Config → Type 0} {last : ℕ}
-    (call : Kind-of-call s mem out asks Starts last) where
+    (call : Orderly s mem out asks Starts last) where
   -- turned away with everything as it was, or the standard's machine
   pub call-told : {x : Left} → Calls s mem out img budget asks Starts x → Called s mem out img budget asks Starts x
   call-told (refused t) = turned-away t
@@ -194,7 +185,7 @@ module _ {s mem out : List ℕ} {img : Option (List ℕ)} {budget : ℕ} {asks :
 
 -- ---- a run is one, and a resume
 
-pub run-call : {s args mem out : List ℕ} (img : Option (List ℕ)) → bytes mem → Kind-of-call s mem out (runAsks args mem out img) (Begins args mem) SMALL
+pub run-call : {s args mem out : List ℕ} (img : Option (List ℕ)) → bytes mem → Orderly s mem out (runAsks args mem out img) (Begins args mem) SMALL
 run-call {s} {args} {mem} {out} img m =
     record {
       sound = λ v c b. (
@@ -202,13 +193,28 @@ run-call {s} {args} {mem} {out} img m =
         ap (λ (x : Config). x .state .memory) (b .begins),
       );
       slots = λ v well. well .1 .1 .0;
-      coded = λ v c. by;
+      coded = λ v. run-coded (v .header);
     }
   where
-    by : {h : Header} {c : ℕ} → Fails (runAsks args mem out img h) c → (ROOM ≤ c) × (c ≤ SMALL)
-    by (inl f) = (omega (arith, f .1), omega (arith, f .1))
-    by (inr (_, inl f)) = (omega (arith, f .1), omega (arith, f .1))
-    by (inr (_, inr (_, inl f))) = (omega (arith, f .1), omega (arith, f .1))
-    by (inr (_, inr (_, inr (_, inl f)))) = (omega (arith, f .1), omega (arith, f .1))
-    by (inr (_, inr (_, inr (_, inr (_, inl f))))) = (omega (arith, f .1), omega (arith, f .1))
-    by (inr (_, inr (_, inr (_, inr (_, inr f))))) = absurd (f .1)
+    run-coded : (h : Header) (c : ℕ) → Fails (runAsks args mem out img h) c → (ROOM ≤ c) × (c ≤ SMALL)
+    run-coded h c (inl f) = (omega (arith, f .1), omega (arith, f .1))
+    run-coded h c (inr (a, inl f)) = (omega (arith, f .1), omega (arith, f .1))
+    run-coded h c (inr (a, inr (b, inl f))) = (omega (arith, f .1), omega (arith, f .1))
+    run-coded h c (inr (a, inr (b, inr (d, inl f)))) = (omega (arith, f .1), omega (arith, f .1))
+    run-coded h c (inr (a, inr (b, inr (d, inr (e, inl f))))) = (omega (arith, f .1), omega (arith, f .1))
+    run-coded h c (inr (a, inr (b, inr (d, inr (e, inr f))))) = absurd (f .1)
+
+pub resume-call : {s mem out buffer : List ℕ} → Orderly s mem out (resumeAsks s mem out buffer) (λ h c. Pictures s h mem buffer c) IMAGE
+resume-call {s} {mem} {out} {buffer} =
+    record {
+      sound = λ v c p. (p .sound, p .memory);
+      slots = λ v well. well .1 .0;
+      coded = λ v. resume-coded (v .header);
+    }
+  where
+    resume-coded : (h : Header) (c : ℕ) → Fails (resumeAsks s mem out buffer h) c → (ROOM ≤ c) × (c ≤ IMAGE)
+    resume-coded h c (inl f) = (omega (arith, f .1), omega (arith, f .1))
+    resume-coded h c (inr (a, inl f)) = (omega (arith, f .1), omega (arith, f .1))
+    resume-coded h c (inr (a, inr (b, inl f))) = (omega (arith, f .1), omega (arith, f .1))
+    resume-coded h c (inr (a, inr (b, inr (d, inl f)))) = (omega (arith, f .1), omega (arith, f .1))
+    resume-coded h c (inr (a, inr (b, inr (d, inr f)))) = absurd (f .1)

@@ -22,6 +22,7 @@ use Rattle.rules.specs.Header.{Header}
 use Rattle.standard.specs.Standard.{begin, zeroOf}
 use Rattle.standard.specs.Safety.{Sound}
 use Rattle.image.specs.Slots.{InSlots}
+use Rattle.image.proofs.Held.{all-long}
 
 -- ---- slots
 
@@ -34,12 +35,7 @@ zero-slot n k h =
     long : length (slotAt (replicate n 0) k) ≡ slot
     long = length-take-le slot (drop (slot * k) (replicate n 0)) (omega (arith, length-drop (slot * k) (replicate {A = ℕ} n 0), length-replicate {A = ℕ} n 0))
 
-pub all-long : (vs : List Value) → AllInRange vs → length (allBytes vs) ≡ slot * length vs
-unfolding allBytes
-all-long [] r = refl
-all-long (v ∷ vs) r = length-append (bytesOf v) (allBytes vs) ∙ omega (arith, sixteen-bytes v (r .0) .long, all-long vs (r .1))
-
-value-slot : (vs : List Value) (rest : List ℕ) → AllInRange vs → (k : ℕ) → k < length vs → slotAt (allBytes vs ++ rest) k ≡ bytesOf (getD vs k (I32 0))
+pub value-slot : (vs : List Value) (rest : List ℕ) → AllInRange vs → (k : ℕ) → k < length vs → slotAt (allBytes vs ++ rest) k ≡ bytesOf (getD vs k (I32 0))
 unfolding allBytes
 value-slot [] rest r k l = absurd (let z : ⊥ = omega arith in z)
 value-slot (v ∷ vs) rest r zero l =

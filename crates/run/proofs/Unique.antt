@@ -1,21 +1,15 @@
 -- What a call promises leaves one answer, one memory, one content of the results and one of the image's buffer.
 use Prim.Native.Nat.{ℕ}
 use mathlib.Core.Path.{_≡_, refl, ap, ap₂, sym, _∙_, subst}
-use mathlib.Core.List.{List, [], _∷_, map}
+use mathlib.Core.List.{List, [], _∷_}
 use mathlib.Core.Logic.{inl, inr}
 use mathlib.Core.Option.{Option, some}
-use native.Mathlib.Omega.{arith}
-use lib.ListN.{length}
 use denote.Ref.{now}
 use Rattle.card.specs.declared.Answer.{Answer}
-use Rattle.opcode.specs.Kind.{Kind}
-use Rattle.machine.specs.Value.{Value, I32, I64, V128, kindOf, InRange, AllInRange, bytesOf, allBytes}
-use Rattle.machine.proofs.Laws.Rep.{sixteen-bytes, low-i32, low-i64}
-use Rattle.machine.specs.Inner.Flat.{low32, low64}
-use Rattle.image.specs.Slots.{InSlots}
+use Rattle.machine.specs.Value.{Value}
+use Rattle.image.proofs.Held.{holds-once}
 use Rattle.rules.specs.Header.{Header}
 use Rattle.rules.specs.Strip.{Valid}
-use Rattle.rules.proofs.Lists.{parts-once}
 use Rattle.rules.proofs.Onward.{declared}
 use Rattle.rules.proofs.Headers.{declares-once}
 use Rattle.rules.proofs.Verdicts.{one-breach, valid-no-breach}
@@ -23,32 +17,8 @@ use Rattle.standard.specs.Standard.{Config, begin}
 use Rattle.run.specs.Meter.{Left, leaves, meter}
 use Rattle.run.specs.Call.{Question, _or_, Fails, AllWell, Asks, TurnsAway, breaks, fails, Calls, refused, metered}
 use Rattle.run.specs.Run.{runAsks, Begins, Runs}
-
--- ---- arguments hold one list of values
-
-value-once : (v w : Value) → kindOf v ≡ kindOf w → InRange v → InRange w → bytesOf v ≡ bytesOf w → v ≡ w
-value-once (I32 a) (I32 b) k p q e = ap I32 (sym (low-i32 a p) ∙ ap low32 e ∙ low-i32 b q)
-value-once (I32 a) (I64 b) k p q e = absurd (let z : _≡_ {A = ℕ} 0 1 = cc in omega arith)
-value-once (I32 a) (V128 b) k p q e = absurd (let z : _≡_ {A = ℕ} 0 1 = cc in omega arith)
-value-once (I64 a) (I32 b) k p q e = absurd (let z : _≡_ {A = ℕ} 0 1 = cc in omega arith)
-value-once (I64 a) (I64 b) k p q e = ap I64 (sym (low-i64 a p) ∙ ap low64 e ∙ low-i64 b q)
-value-once (I64 a) (V128 b) k p q e = absurd (let z : _≡_ {A = ℕ} 0 1 = cc in omega arith)
-value-once (V128 a) (I32 b) k p q e = absurd (let z : _≡_ {A = ℕ} 0 1 = cc in omega arith)
-value-once (V128 a) (I64 b) k p q e = absurd (let z : _≡_ {A = ℕ} 0 1 = cc in omega arith)
-value-once (V128 a) (V128 b) k p q e = ap V128 e
-
-values-once : (vs ws : List Value) → map kindOf vs ≡ map kindOf ws → AllInRange vs → AllInRange ws → allBytes vs ≡ allBytes ws → vs ≡ ws
-unfolding allBytes
-values-once [] [] k p q e = refl
-values-once [] (w ∷ ws) k p q e = absurd (let z : _≡_ {A = ℕ} 0 1 = cc in omega arith)
-values-once (v ∷ vs) [] k p q e = absurd (let z : _≡_ {A = ℕ} 0 1 = cc in omega arith)
-values-once (v ∷ vs) (w ∷ ws) k p q e =
-    let first : kindOf v ≡ kindOf w = cc in
-    let parts = parts-once (bytesOf v) (bytesOf w) (allBytes vs) (allBytes ws) (sixteen-bytes v (p .0) .long ∙ sym (sixteen-bytes w (q .0) .long)) e in
-    ap₂ _∷_ (value-once v w first (p .0) (q .0) (parts .0)) (values-once vs ws (cc) (p .1) (q .1) (parts .1))
-
-in-slots-once : {ks : List Kind} {bs : List ℕ} {vs ws : List Value} → InSlots ks bs vs → InSlots ks bs ws → vs ≡ ws
-in-slots-once {vs = vs} {ws = ws} a b = values-once vs ws (a .kinds ∙ sym (b .kinds)) (a .range) (b .range) (sym (a .bytes) ∙ b .bytes)
+use Rattle.run.specs.Resume.{resumeAsks, Resumes}
+use Rattle.run.proofs.Picturing.{pictures-once}
 
 -- a strip that keeps the rules has one header
 pub header-once : {s : List ℕ} (v w : Valid s) → v .header ≡ w .header
@@ -103,7 +73,14 @@ module _ {s : List ℕ} (asks : Asks) where
 -- ---- the run
 
 begins-once : {args mem : List ℕ} {h : Header} (c d : Config) → Begins args mem h c → Begins args mem h d → c ≡ d
-begins-once {mem = mem} {h} c d a b = a .begins ∙ ap (λ (vs : List Value). begin h vs mem) (in-slots-once (a .given) (b .given)) ∙ sym (b .begins)
+begins-once {mem = mem} {h} c d a b = a .begins ∙ ap (λ (vs : List Value). begin h vs mem) (holds-once (a .given) (b .given)) ∙ sym (b .begins)
 
-pub runs-once : {s args mem out : List ℕ} {img : Option (List ℕ)} {budget : ℕ} {x y : Left} → Runs s args mem out img budget x → Runs s args mem out img budget y → x ≡ y
-runs-once {args = args} {mem} {out} {img} = calls-once (runAsks args mem out img) (λ v. begins-once)
+module _ (s args mem out : List ℕ) (img : Option (List ℕ)) (budget : ℕ) where
+  pub runs-once : {x y : Left} → Runs s args mem out img budget x → Runs s args mem out img budget y → x ≡ y
+  runs-once = calls-once (runAsks args mem out img) (λ v. begins-once)
+
+-- ---- the resume
+
+module _ (s mem out buffer : List ℕ) (budget : ℕ) where
+  pub resumes-once : {x y : Left} → Resumes s mem out buffer budget x → Resumes s mem out buffer budget y → x ≡ y
+  resumes-once = calls-once (resumeAsks s mem out buffer) (λ v c d p q. pictures-once p d q)

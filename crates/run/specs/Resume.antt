@@ -4,8 +4,7 @@ use mathlib.Core.Path.{_≡_}
 use mathlib.Core.List.{List, [], _∷_, _++_}
 use mathlib.Core.Option.{some}
 use lib.ListN.{length}
-use Rattle.card.specs.Card.{ROOM, OUT, SMALL}
-use Rattle.image.specs.Image.{IMAGE}
+use Rattle.card.specs.Card.{ROOM, OUT, SMALL, IMAGE}
 use Rattle.limits.specs.Limits.{memoryLimit}
 use Rattle.rules.specs.Header.{Header}
 use Rattle.standard.specs.Standard.{Config}

@@ -1,12 +1,15 @@
-// A run with a budget: what is asked first, then the instructions.
+// A run with a budget, and a run that is resumed: what is asked first, then the instructions.
 mod arguments;
 mod blocks;
 mod ends;
+mod questions;
 mod running;
 
 ghost use mathlib.Core.Path.{_≡_};
+ghost use mathlib.Core.Option.{none, some};
 ghost use Rattle.run.specs.Meter.{leaves};
 ghost use Rattle.run.specs.Run.{Runs};
+use crate::questions::refused;
 use card::Answer;
 
 // The operand stack: slots of which the lowest `depth` hold values.
@@ -37,36 +40,41 @@ pub(crate) struct Closings {
 
 pub(crate) const ENDS: usize = 64;
 
-pub fn run(strip: &[u8], args: &[u8], mem: &mut [u8], results: &mut [u8], budget: u32) -> Answer
-    ensures { λ r. ⌜ Runs (now (strip .entry)) (now (args .entry)) (now (mem .entry)) (now (results .entry)) budget (leaves (r .code) (r .place) (r .steps) (now (mem .exit)) (now (results .exit))) ⌝ }
+// A run that can be resumed: where it spends its budget it leaves an image of where it is.
+pub fn run(
+    strip: &[u8],
+    args: &[u8],
+    mem: &mut [u8],
+    results: &mut [u8],
+    image: &mut [u8],
+    budget: u32,
+) -> Answer
+    ensures { λ r. ⌜ Runs (now (strip .entry)) (now (args .entry)) (now (mem .entry)) (now (results .entry)) (some (now (image .entry))) budget (leaves (r .code) (r .place) (r .steps) (now (mem .exit)) (now (results .exit)) (some (now (image .exit)))) ⌝ }
 {
-    let verdict = checker::check(strip);
-    if verdict.code != card::DONE {
-        return verdict;
+    let asked = questions::ask(strip, args, mem.len(), results.len());
+    if asked.code != card::DONE {
+        return asked;
     }
-    if limits::MEMORY < mem.len() {
-        return refused(card::ROOM);
+    if image.len() < image::BYTES {
+        return refused(card::SMALL);
     }
-    let parameters = strip[5] as usize;
-    if args.len() != limits::SLOT * parameters {
-        return refused(card::ARGS);
-    }
-    if results.len() != limits::SLOT * (strip[7] as usize) {
-        return refused(card::OUT);
-    }
-    if !arguments::formed(strip, args, parameters) {
-        return refused(card::FORM);
-    }
-    running::drive(strip, args, mem, results, budget)
+    running::drive(strip, args, mem, results, image, budget)
 }
 
-// Before the first instruction: no place, no steps.
-fn refused(code: u8) -> Answer
-    ensures { λ r. ⌜ (r .code ≡ code) × (r .place ≡ 0) × (r .steps ≡ 0) ⌝ }
+// A run that is lent no image's buffer.
+pub fn run_once(
+    strip: &[u8],
+    args: &[u8],
+    mem: &mut [u8],
+    results: &mut [u8],
+    budget: u32,
+) -> Answer
+    ensures { λ r. ⌜ Runs (now (strip .entry)) (now (args .entry)) (now (mem .entry)) (now (results .entry)) none budget (leaves (r .code) (r .place) (r .steps) (now (mem .exit)) (now (results .exit)) none) ⌝ }
 {
-    Answer {
-        code,
-        place: 0,
-        steps: 0,
+    let asked = questions::ask(strip, args, mem.len(), results.len());
+    if asked.code != card::DONE {
+        return asked;
     }
+    let mut image = [0u8; 0];
+    running::drive(strip, args, mem, results, &mut image, budget)
 }

@@ -3,12 +3,13 @@
 use borrow.Author.Needs.{needs}
 use native.Mathlib.Nat.{pos-of-ne-zero}
 use native.Mathlib.Omega.{arith}
-use mathlib.Core.Path.{ap, _∙_}
+use mathlib.Core.Path.{_≡_, refl, ap, _∙_}
 use lib.ListN.{length}
 use Rattle.rules.specs.Strip.{Valid}
 use Rattle.standard.specs.Standard.{Config}
 use Rattle.run.specs.Inner.Carried.{openIn, Carries}
 use Rattle.run.specs.Inner.Ends.{Kept}
+use Rattle.run.specs.Inner.Steps.{stops, pauses}
 use Rattle.run.proofs.Driving.{Drives, not-clear, starts, spent, stacked, seen, inside, results-fit, finished, turned, bounds-fits, exec-apt, onward, strayed}
 use Rattle.run.proofs.running.go_on.Statement.{statement}
 use Rattle.run.proofs.running.go_on.Tie as tie
@@ -35,7 +36,7 @@ same-length-2 c =
     ap length (c .before .loop .inv .0 (start .pre .0 .held .valid) (start .pre .0 .held .config) (start .pre .0 .held .carries) .untouched)
 
 returns : tie.Need-returns Inv-loop μ-loop
-returns c = λ v c₀ C. spent (c .before .loop .inv .0 v c₀ C) (c .if1 .taken)
+returns c = λ v c₀ C. let D = c .before .loop .inv .0 v c₀ C in pauses refl (D .config) (D .carries) (spent D (c .if1 .taken))
 
 fetch-requires : tie.Need-fetch-requires Inv-loop μ-loop
 fetch-requires c κs = tt
@@ -107,9 +108,9 @@ returns-2 c =
     let at-if3 = c .before .before .before .before .before .before in
     let back = at-if3 .before .before .before .before .before .before .before .before .before .before in
     let at-if1 = back .before .before in
-    λ v c₀ C. let D = at-if1 .before .loop .inv .0 v c₀ C in finished D
+    λ v c₀ C. let D = at-if1 .before .loop .inv .0 v c₀ C in stops (λ e. omega (arith, e)) (finished D
     (at-if3 .before .before .turn .ensures .0 v (D .config) (at-if1 .before .loop .locals) (at-if1 .before .loop .mem) (D .carries))
-    (pos-of-ne-zero (at-if1 .if1 .left)) (at-if3 .if3 .taken) (c .before .before .put-results .ensures)
+    (pos-of-ne-zero (at-if1 .if1 .left)) (at-if3 .if3 .taken) (c .before .before .put-results .ensures))
 
 sub-left : tie.Need-sub-left Inv-loop μ-loop
 sub-left c = pos-of-ne-zero (c .before .before .before .before .before .before .before .before .before .before .before .before .if1 .left)
@@ -211,10 +212,10 @@ returns-3 : tie.Need-returns-3 Inv-loop μ-loop
 returns-3 c =
     let at-if2 = c .before .before .before .before .before in
     let at-fetch = at-if2 .before .before .before .before .before in
-    λ v c₀ C. let D = at-fetch .before .before .loop .inv .0 v c₀ C in strayed D (at-fetch .fetch .result) (at-fetch .fetch .ensures)
+    λ v c₀ C. let D = at-fetch .before .before .loop .inv .0 v c₀ C in stops (λ e. omega (arith, e)) (strayed D (at-fetch .fetch .result) (at-fetch .fetch .ensures)
     (at-if2 .before .before .group .result) (at-if2 .before .before .group .ensures) (at-if2 .before .turns .ensures) (at-if2 .if2 .left)
     (c .before .before .bounds .result) (c .before .before .bounds .ensures) (pos-of-ne-zero (at-fetch .before .if1 .left))
-    (not-clear (c .enum-told2 .given .1))
+    (not-clear (c .enum-told2 .given .1)))
 
 pub go-on-spec : {M : Type 1} → statement M
 go-on-spec =

@@ -1,8 +1,8 @@
 use mathlib.Core.Path.{sym, ap}
 use borrow.Author.Tests.{ne-eqb}
-use Rattle.run.specs.Inner.Steps.{usedBy}
-use Rattle.run.proofs.arguments.used.Statement.{statement}
-use Rattle.run.proofs.arguments.used.Tie as tie
+use Rattle.image.specs.Inner.Parts.{usedBy}
+use Rattle.image.proofs.slots.used.Statement.{statement}
+use Rattle.image.proofs.slots.used.Tie as tie
 
 returns : tie.Need-returns
 returns c = sym (ap usedBy (c .match .keys1))

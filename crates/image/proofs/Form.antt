@@ -1,4 +1,4 @@
--- The form of the arguments: a value uses some of its sixteen bytes, and the rest are zero.
+-- The form of values in slots: a value uses some of its sixteen bytes, and the rest are zero.
 use Prim.Native.Nat.{ℕ, zero, suc, _+_, _*_, _-_, _^_, _≤_, _<_}
 use mathlib.Core.Path.{_≡_, refl, ap, ap₂, sym, _∙_, subst}
 use mathlib.Core.Bool.{Bool, true, false}
@@ -15,9 +15,8 @@ use Rattle.limits.specs.Limits.{slot}
 use Rattle.opcode.specs.Kind.{Kind, i32, i64, v128, bytesUsed}
 use Rattle.machine.specs.Value.{Value, I32, I64, V128, kindOf, InRange, AllInRange, bytesOf, allBytes}
 use Rattle.machine.proofs.Laws.Rep.{sixteen-bytes}
 use Rattle.image.specs.Slots.{InSlots}
-use Rattle.run.specs.Run.{Slots}
-use Rattle.run.specs.Inner.Steps.{Zeros}
+use Rattle.image.specs.Inner.Parts.{Zeros}
 
 -- ---- zeros, one after the other
 
@@ -50,7 +49,8 @@ small u bs h b zs =
     let front = length-take-le u bs h in
     let none = number-zero (drop u bs) (λ k l m. getD-drop u bs k 0 ∙ zs (u + k) (omega arith) (omega (arith, length-drop u bs))) in
     let low = number-lt (take u bs) (bytes-take u bs b) in
-    let all = sym (ap number (take-append-drop u bs)) ∙ number-append (take u bs) (drop u bs) ∙ ap (λ (n : ℕ). n * 2 ^ (8 * length (take u bs)) + number (take u bs)) none in
+    let all =
+    sym (ap number (take-append-drop u bs)) ∙ number-append (take u bs) (drop u bs) ∙ ap (λ (n : ℕ). n * 2 ^ (8 * length (take u bs)) + number (take u bs)) none in
     subst (λ (n : ℕ). number bs < 2 ^ (8 * n)) front (omega (arith, all, low))
 
 -- the value of a kind whose sixteen bytes these are
@@ -93,29 +93,30 @@ value-zeros (V128 v) h k l m = absurd (let z : ⊥ = omega arith in z)
 
 -- ---- all of them
 
--- what an argument does not use is zero
+-- what the j-th does not use is zero
 abbrev pub Formed : List Kind → List ℕ → ℕ → Type 0
-Formed ks args j = Zeros (slot * j + bytesUsed (getD ks j i32)) (slot * j + slot) args
+Formed ks bs j = Zeros (slot * j + bytesUsed (getD ks j i32)) (slot * j + slot) bs
 
 kind-of : (k : Kind) (bs : List ℕ) → kindOf (valueOf k bs) ≡ k
 kind-of i32 bs = refl
 kind-of i64 bs = refl
 kind-of v128 bs = refl
 
-pub formed-given : (ks : List Kind) (args : List ℕ) → Slots ks args → Bytes args → ((j : ℕ) → j < length ks → Formed ks args j) → (vs : List Value) × InSlots ks args vs
+pub formed-given : (ks : List Kind) (bs : List ℕ) → length bs ≡ slot * length ks → Bytes bs → ((j : ℕ) → j < length ks → Formed ks bs j)
+    → (vs : List Value) × InSlots ks bs vs
 unfolding allBytes
 formed-given [] [] long b f = ([], record { kinds = refl; range = tt; bytes = refl })
-formed-given [] (x ∷ args) long b f = absurd (let z : ⊥ = omega arith in z)
-formed-given (k ∷ ks) args long b f =
-    let first = fits k (take slot args) (length-take-le slot args (omega arith)) (bytes-take slot args b)
-    (λ i l m. getD-take slot args i 0 m ∙ f 0 (zero-lt-suc (length ks)) i (omega arith) (omega arith)) in
-    let rest = formed-given ks (drop slot args) (omega (arith, length-drop slot args)) (bytes-drop slot args b)
-    (λ j h i l m. getD-drop slot args i 0 ∙ f (suc j) (omega arith) (slot + i) (omega arith) (omega arith)) in (
-      valueOf k (take slot args) ∷ rest .0,
+formed-given [] (x ∷ bs) long b f = absurd (let z : ⊥ = omega arith in z)
+formed-given (k ∷ ks) bs long b f =
+    let first = fits k (take slot bs) (length-take-le slot bs (omega arith)) (bytes-take slot bs b)
+    (λ i l m. getD-take slot bs i 0 m ∙ f 0 (zero-lt-suc (length ks)) i (omega arith) (omega arith)) in
+    let rest = formed-given ks (drop slot bs) (omega (arith, length-drop slot bs)) (bytes-drop slot bs b)
+    (λ j h i l m. getD-drop slot bs i 0 ∙ f (suc j) (omega arith) (slot + i) (omega arith) (omega arith)) in (
+      valueOf k (take slot bs) ∷ rest .0,
       record {
-        kinds = ap₂ _∷_ (kind-of k (take slot args)) (rest .1 .kinds);
+        kinds = ap₂ _∷_ (kind-of k (take slot bs)) (rest .1 .kinds);
         range = (first .range, rest .1 .range);
-        bytes = sym (take-append-drop slot args) ∙ ap₂ (λ (x y : List ℕ). x ++ y) (sym (first .bytes)) (rest .1 .bytes);
+        bytes = sym (take-append-drop slot bs) ∙ ap₂ (λ (x y : List ℕ). x ++ y) (sym (first .bytes)) (rest .1 .bytes);
       },
     )
 
@@ -129,7 +130,8 @@ all-formed (v ∷ vs) r (suc j) h k l m =
     ap (λ (n : ℕ). getD (bytesOf v ++ allBytes vs) n 0) (sym at) ∙ getD-append-add (bytesOf v) (allBytes vs) (k - slot) 0
     ∙ all-formed vs (r .1) j (omega arith) (k - slot) (omega arith) (omega arith)
 
-pub given-formed : {ks : List Kind} {args : List ℕ} {vs : List Value} → InSlots ks args vs → (j : ℕ) → j < length ks → Formed ks args j
-given-formed {ks} {args} {vs} g j h =
-    subst (λ (xs : List Kind). Formed xs args j) (g .kinds)
-    (subst (λ (bs : List ℕ). Formed (map kindOf vs) bs j) (sym (g .bytes)) (all-formed vs (g .range) j (omega (arith, sym (length-map vs kindOf) ∙ ap length (g .kinds)))))
+pub given-formed : {ks : List Kind} {bs : List ℕ} {vs : List Value} → InSlots ks bs vs → (j : ℕ) → j < length ks → Formed ks bs j
+given-formed {ks} {bs} {vs} g j h =
+    subst (λ (xs : List Kind). Formed xs bs j) (g .kinds)
+    (subst (λ (xs : List ℕ). Formed (map kindOf vs) xs j) (sym (g .bytes))
+    (all-formed vs (g .range) j (omega (arith, sym (length-map vs kindOf) ∙ ap length (g .kinds)))))

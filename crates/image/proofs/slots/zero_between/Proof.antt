@@ -2,10 +2,11 @@
 use Prim.Native.Nat.{_-_, _≤_}
 use native.Mathlib.Omega.{arith}
 use borrow.Author.Needs.{needs}
-use Rattle.run.specs.Inner.Steps.{Zeros, yes, no}
-use Rattle.run.proofs.Form.{zeros-none, zeros-more, zeros-upto, zeros-not}
-use Rattle.run.proofs.arguments.zero_between.Statement.{statement}
-use Rattle.run.proofs.arguments.zero_between.Tie as tie
+use Rattle.image.specs.Slots.{yes, no}
+use Rattle.image.specs.Inner.Parts.{Zeros}
+use Rattle.image.proofs.Form.{zeros-none, zeros-more, zeros-upto, zeros-not}
+use Rattle.image.proofs.slots.zero_between.Statement.{statement}
+use Rattle.image.proofs.slots.zero_between.Tie as tie
 
 abbrev Inv-loop : tie.InvT-loop
 Inv-loop bytes from to k₀ k = (from ≤ k) × Zeros from k bytes

@@ -1,0 +1,10 @@
+pub mod Form
+pub mod Held
+pub mod Judging
+pub mod Parts
+pub mod Laying
+pub mod Pieces
+pub mod Showing
+pub mod Painting
+pub mod Laws
+pub mod Unique

@@ -1,0 +1,97 @@
+-- AN IMAGE IS OF ONE STATE, and a state has one image.
+use Prim.Native.Nat.{ℕ, _+_, _≤_, _<_, _^_}
+use mathlib.Core.Path.{_≡_, refl, ap, sym, _∙_, subst}
+use mathlib.Core.List.{List, _∷_, _++_, map, reverse, reverse-reverse}
+use native.Mathlib.Omega.{arith}
+use lib.ListN.{length, take, drop, length-append, length-map, length-reverse}
+use lib.Seq.{take-at}
+use Rattle.limits.specs.Limits.{fileLimit, stackLimit, localCount}
+use Rattle.opcode.specs.Kind.{Kind}
+use Rattle.machine.specs.Value.{Value, kindOf, AllInRange}
+use Rattle.image.specs.Image.{imageBytes, placeIn, Shows}
+use Rattle.image.proofs.Laws.{image-long, shown-parts, shows-once}
+use Rattle.rules.specs.Header.{Header, locals}
+use Rattle.rules.specs.Typing.{Frame, allValues}
+use Rattle.rules.specs.Strip.{Reaches}
+use Rattle.rules.proofs.Onward.{declared, reached-within, reached-once}
+use Rattle.standard.specs.Standard.{Config, wholeStack}
+use Rattle.standard.specs.Safety.{Sound, Placed}
+use Rattle.standard.proofs.ValueKinds.{reverse-kinds, reverse-range}
+use Rattle.standard.proofs.Rebuilding.{whole-kinds, whole-range, whole-many, sound-once}
+use Rattle.run.specs.Meter.{pictureOf}
+use Rattle.run.specs.Resume.{Pictures}
+use Rattle.run.proofs.Places.{reached-inside}
+
+-- what is known of a sound state
+module _ {s : List ℕ} {h : Header} {c : Config} (sound : Sound s h c) where
+  abbrev pub frames : List Frame
+  frames = sound .frame ∷ sound .outer
+
+  abbrev pub lowest-first : List Value
+  lowest-first = reverse (wholeStack c)
+
+  pub few-locals : length (c .state .locals) ≤ localCount
+  few-locals =
+      omega (
+        arith,
+        sym (length-map (c .state .locals) kindOf) ∙ ap length (sound .fits .held),
+        length-append (h .parameters) (h .further),
+        declared (sound .reached) .few .parameters,
+        declared (sound .reached) .few .further,
+      )
+
+  pub few-values : length lowest-first ≤ stackLimit
+  few-values = omega (arith, length-reverse (wholeStack c), whole-many sound, reached-within (sound .reached) .values)
+
+  pub value-kinds : map kindOf lowest-first ≡ allValues frames
+  value-kinds = reverse-kinds (wholeStack c) ∙ ap reverse (whole-kinds sound) ∙ reverse-reverse (allValues frames)
+
+  pub in-range : AllInRange lowest-first
+  in-range = reverse-range (wholeStack c) (whole-range sound)
+
+  pub picture-long : length (pictureOf c) ≡ imageBytes
+  picture-long = image-long (c .place) (c .state .locals) lowest-first (sound .fits .local-range) in-range few-locals few-values
+
+  pub place-small : c .place < 2 ^ 32
+  place-small = omega (arith, reached-inside (sound .reached))
+
+  -- a buffer that begins with its image shows it
+  pub sound-shows : (buffer rest : List ℕ) → buffer ≡ pictureOf c ++ rest
+      → Shows (locals h) (allValues frames) buffer (c .place) (c .state .locals) lowest-first
+  sound-shows buffer rest e =
+      record {
+        local-kinds = sound .fits .held;
+        stack-kinds = value-kinds;
+        local-range = sound .fits .local-range;
+        stack-range = in-range;
+        local-room = few-locals;
+        stack-room = few-values;
+        rest = rest;
+        begins = e;
+      }
+
+  pub place-in : (buffer rest : List ℕ) → buffer ≡ pictureOf c ++ rest → placeIn buffer ≡ c .place
+  place-in buffer rest e = shown-parts (sound-shows buffer rest e) .place-told place-small
+
+-- ---- one to one
+
+module _ {s : List ℕ} {h : Header} {mem a : List ℕ} {c : Config} (p : Pictures s h mem a c) where
+  pub pictured-room : imageBytes ≤ length a
+  pictured-room = omega (arith, picture-long (p .sound), ap length (p .bytes), length-append (pictureOf c) (p .rest))
+
+  -- TWO IMAGES OF ONE STATE ARE EQUAL
+  pub same-images : (b : List ℕ) → Pictures s h mem b c → take imageBytes a ≡ take imageBytes b
+  same-images b q =
+      ap (take imageBytes) (p .bytes) ∙ take-at (pictureOf c) (p .rest) imageBytes (picture-long (p .sound))
+      ∙ sym (take-at (pictureOf c) (q .rest) imageBytes (picture-long (q .sound))) ∙ sym (ap (take imageBytes) (q .bytes))
+
+  -- ONE IMAGE IS OF ONE STATE
+  pub pictures-once : (d : Config) → Pictures s h mem a d → c ≡ d
+  pictures-once d q =
+      let here : c .place ≡ d .place = sym (place-in (p .sound) a (p .rest) (p .bytes)) ∙ place-in (q .sound) a (q .rest) (q .bytes) in
+      let same : frames (p .sound) ≡ frames (q .sound) = reached-once (subst (λ (x : ℕ). Reaches s h x (frames (p .sound))) here (p .sound .reached)) (q .sound .reached) in
+      let values = shows-once (sound-shows (p .sound) a (p .rest) (p .bytes))
+      (subst (λ (fs : List Frame). Shows (locals h) (allValues fs) a (d .place) (d .state .locals) (lowest-first (q .sound))) (sym same) (sound-shows (q .sound) a (q .rest) (q .bytes)))
+      (place-small (p .sound)) (place-small (q .sound)) in
+      sound-once c d (p .sound) (p .placed) (q .sound) (q .placed) here
+      (sym (reverse-reverse (wholeStack c)) ∙ ap reverse (values .2) ∙ reverse-reverse (wholeStack d)) (values .1) (p .memory ∙ sym (q .memory))
