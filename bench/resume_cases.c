@@ -115,7 +115,8 @@ static void print_left(void)
 /* As in a case: a row of equal bytes is one item. */
 static void print_items(const uint8_t *s, size_t len)
 {
-    printf(" ");
+    if (len)
+        printf(" ");
     for (size_t i = 0, n, before = 1; i < len; i += n, before = n) {
         for (n = 1; i + n < len && s[i + n] == s[i];)
             n++;

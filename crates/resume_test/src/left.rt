@@ -15,7 +15,6 @@ pub(crate) fn print(a: Answer, mem: &[u8], results: &[u8]) {
 
 // An image as cases.txt would have it: a row of equal bytes is one item.
 pub(crate) fn print_image(s: &[u8]) {
-    io::write_all(STDOUT_FILENO, b" ");
     let mut many = true;
     let mut i = 0;
     while i < s.len() {
@@ -44,7 +43,9 @@ fn row(s: &[u8], at: usize) -> usize
 // Single bytes stand together; else items have a full stop between them. Answers whether this one is a row.
 fn item(n: usize, b: u8, after_row: bool, at: usize) -> bool {
     let many = 1 < n;
-    if 0 < at && (many || after_row) {
+    if at == 0 {
+        io::write_all(STDOUT_FILENO, b" ");
+    } else if many || after_row {
         io::write_all(STDOUT_FILENO, b".");
     }
     if many {
