@@ -1,5 +1,5 @@
 -- What the counts of a header say of its bytes.
-use Prim.Native.Nat.{ℕ, _+_, _≤_}
+use Prim.Native.Nat.{ℕ, _+_, _≤_, _<_, _^_}
 use mathlib.Core.Path.{_≡_, sym, ap, subst, _∙_}
 use mathlib.Core.List.{List, _++_, map, map-append, append-assoc}
 use native.Mathlib.Omega.{arith}
@@ -8,12 +8,14 @@ use lib.Seq.{drop-at, drop-drop}
 use Rattle.card.specs.Card.{DONE}
 use Rattle.card.specs.declared.Answer.{Answer}
 use Rattle.limits.specs.Limits.{resultLimit}
-use Rattle.opcode.specs.Kind.{kindByte}
+use Rattle.opcode.specs.Kind.{Kind, kindByte}
 use Rattle.rules.specs.Header.{Header, Declares, locals, kinds}
-use Rattle.rules.specs.Breach.{Says, breach}
+use Rattle.rules.specs.Breach.{Says}
 use Rattle.checker.specs.Check.{Checked}
 use Rattle.checker.specs.Walk.{KindBytes}
-use Rattle.checker.specs.Inner.Parts.{Headed, Counts, Begins}
+use Rattle.checker.specs.Inner.Blocks.{topFirst}
+use Rattle.checker.specs.Inner.Parts.{Headed, Counts}
+use Rattle.checker.specs.Inner.Going.{Setting, Begins}
 use Rattle.checker.proofs.Fronts.{Says-so}
 
 pub checked : {s : List ℕ} {r : Answer} {c l : ℕ} → Says-so r c l → Says s c l → Checked s r
@@ -63,13 +65,31 @@ counted {h = h} d =
     let r = ap (λ (x : List ℕ). getD x 7 0) (d .bytes) in
     record { declares = d; version-is = sym v; locals-are = omega (arith, p, l, length-append (h .parameters) (h .further)); results-are = sym r }
 
-opening : {s : List ℕ} {h : Header} → Declares s h → Begins s (getD s 3 0) (8 + (getD s 5 0 + getD s 6 0) + getD s 7 0) (getD s 5 0 + getD s 6 0) (getD s 7 0)
-opening {h = h} d =
-    let k = counted d in
-    record { header = h; counts = k; start-is = omega (arith, k .locals-are, k .results-are, length-map (kinds h) kindByte, length-append (locals h) (h .results)) }
+-- what the header tells for all instructions, with what the strip's own `end` takes
+pub set-by : {s : List ℕ} {v n r takes : ℕ} {h : Header} → Counts s v n r h → (takes < 2 ^ 32) × ((ks : List Kind) → KindBytes (drop (8 + n) s) r ks → topFirst ks ≡ takes)
+    → Setting s v n takes h
+set-by {h = h} k t =
+    record {
+      declares = k .declares;
+      version-is = k .version-is;
+      locals-are = holds-locals k;
+      inside = omega (arith, counts-inside k);
+      takes-is = t .1 (h .results) (holds-results k);
+      takes-small = t .0;
+    }
 
-pub headed-opens : {s : List ℕ} {r : Answer} → Headed s r → r .code ≡ DONE → Begins s (getD s 3 0) (8 + (getD s 5 0 + getD s 6 0) + getD s 7 0) (getD s 5 0 + getD s 6 0) (getD s 7 0)
-headed-opens w z = opening (w .whole z .1)
+abbrev pub HeadCounts : List ℕ → Header → Type 0
+HeadCounts s h = Counts s (getD s 3 0) (getD s 5 0 + getD s 6 0) (getD s 7 0) h
 
-pub headed-checked : {s : List ℕ} {r : Answer} → Headed s r → (r .code ≡ DONE → ⊥) → Checked s r
-headed-checked w z = record { says = breach (w .broken z); steps = w .steps }
+pub opening : {s : List ℕ} {h : Header} {takes : ℕ} → HeadCounts s h
+    → (takes < 2 ^ 32) × ((ks : List Kind) → KindBytes (drop (8 + (getD s 5 0 + getD s 6 0)) s) (getD s 7 0) ks → topFirst ks ≡ takes)
+    → Begins s (getD s 3 0) (getD s 5 0 + getD s 6 0) takes (8 + (getD s 5 0 + getD s 6 0) + getD s 7 0)
+opening {h = h} k t =
+    record {
+      header = h;
+      setting = set-by k t;
+      start-is = omega (arith, k .locals-are, k .results-are, length-map (kinds h) kindByte, length-append (locals h) (h .results));
+    }
+
+pub headed-counts : {s : List ℕ} {r : Answer} → Headed s r → r .code ≡ DONE → (h : Header) × HeadCounts s h
+headed-counts w z = let h = w .whole z in (h .0, counted (h .1))

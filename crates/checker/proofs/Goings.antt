@@ -38,53 +38,37 @@ use Rattle.checker.specs.Walk.{KindBytes, OpenBlocks, strip, block, Fram
 use Rattle.checker.specs.Inner.Stack.{Top}
 use Rattle.checker.specs.Inner.Blocks.{topFirst}
 use Rattle.checker.specs.Inner.Judging.{Judges, no-local, too-nested, no-label, untyped, no-results, too-deep, typed, Faces, AtTurn}
-use Rattle.checker.specs.Inner.Parts.{Begins, AtEnd}
+use Rattle.checker.specs.Inner.Parts.{AtEnd}
+use Rattle.checker.specs.Inner.Going.{Begins, Going}
 use Rattle.checker.proofs.Held.{held-long}
 use Rattle.checker.proofs.Refusals.{refused-breach}
 use Rattle.checker.proofs.Words.{type-small}
 use Rattle.checker.proofs.Nests.{nested-many, framed-top, frames-case}
-use Rattle.checker.proofs.Counted.{counts-inside, holds-locals, holds-results}
 use Rattle.checker.proofs.Indices.{row-carried, index-named, index-typed}
 
--- ---- all is well up to this place, and these frames are open
+-- ---- before the first
 
-pub record Going (s : List ℕ) (v n takes : ℕ) (kinds blocks : List ℕ) (depth nest floor : ℕ) (dead : Bool) (at : ℕ) : Type 0 where
-  pub header : Header
-  pub declares : Declares s header
-  pub version-is : header .version ≡ v
-  pub locals-are : KindBytes (drop 8 s) n (locals header)
-  pub inside : 8 + n ≤ length s
-  pub takes-is : topFirst (header .results) ≡ takes
-  pub takes-small : takes < 2 ^ 32
-  pub frames : List Frame
-  pub framed : Framed (header .results) kinds blocks depth nest floor dead frames
-  pub reached : Reaches s header at frames
-  pub kinds-long : length kinds ≡ stackLimit
-  pub blocks-long : length blocks ≡ nestLimit
-
-pub starts : {s : List ℕ} {v start n r takes : ℕ} (kinds blocks : List ℕ) → length kinds ≡ stackLimit → length blocks ≡ nestLimit → Begins s v start n r
-    → (takes < 2 ^ 32) × ((ks : List Kind) → KindBytes (drop (8 + n) s) r ks → topFirst ks ≡ takes) → {o : State} → o ≡ outset
-    → Going s v n takes kinds blocks (o .depth) (o .nest) (o .floor) (o .dead) start
-starts {s} {v} {start} {n} {takes = takes} kinds blocks lk lb b t e =
-    subst (λ (x : State). Going s v n takes kinds blocks (x .depth) (x .nest) (x .floor) (x .dead) start) (sym e)
-    (record {
+abbrev pub first-going : {s : List ℕ} {v n takes start : ℕ} (kinds blocks : List ℕ) → length kinds ≡ stackLimit → length blocks ≡ nestLimit → Begins s v n takes start
+    → Going s v n takes kinds blocks 0 0 0 false start
+first-going {s} kinds blocks lk lb b =
+    record {
       header = b .header;
-      declares = b .counts .declares;
-      version-is = b .counts .version-is;
-      locals-are = holds-locals (b .counts);
-      inside = omega (arith, counts-inside (b .counts));
-      takes-is = t .1 (b .header .results) (holds-results (b .counts));
-      takes-small = t .0;
+      setting = b .setting;
       frames = opened false (b .header .results) ∷ [];
       framed = record {
         holds = record { many = refl; rest = kinds; here = refl };
         nested = strip refl refl;
         within = record { blocks = omega arith; values = omega arith };
       };
-      reached = subst (λ (x : ℕ). Reaches s (b .header) x (opened false (b .header .results) ∷ [])) (b .start-is) (front (b .counts .declares));
+      reached = subst (λ (x : ℕ). Reaches s (b .header) x (opened false (b .header .results) ∷ [])) (b .start-is) (front (b .setting .declares));
       kinds-long = lk;
       blocks-long = lb;
-    })
+    }
+
+pub starts : {s : List ℕ} {v n takes start : ℕ} (kinds blocks : List ℕ) → length kinds ≡ stackLimit → length blocks ≡ nestLimit → Begins s v n takes start
+    → {o : State} → o ≡ outset → Going s v n takes kinds blocks (o .depth) (o .nest) (o .floor) (o .dead) start
+starts {s} {v} {n} {takes} {start} kinds blocks lk lb b e =
+    subst (λ (x : State). Going s v n takes kinds blocks (x .depth) (x .nest) (x .floor) (x .dead) start) (sym e) (first-going kinds blocks lk lb b)
 
 -- ---- the strip itself
 
@@ -131,10 +115,26 @@ goes-of (no-results e f) z = absurd (let never : ⊥ = omega arith in never)
 goes-of (too-deep t big) z = absurd (let never : ⊥ = omega arith in never)
 goes-of (typed {fs′} t g) z = (fs′, t, g)
 
+-- past it
+abbrev pub gone-on : {s : List ℕ} {v n takes : ℕ} {kinds blocks kinds′ blocks′ : List ℕ} {depth nest floor depth′ nest′ floor′ : ℕ} {dead dead′ : Bool} {at len : ℕ}
+    {i : Instr} {c : Code} {fs′ : List Frame} (w : Going s v n takes kinds blocks depth nest floor dead at) → Reads (w .header .version) s at i c len
+    → Types (locals (w .header)) i c (w .frames) fs′ → Framed (w .header .results) kinds′ blocks′ depth′ nest′ floor′ dead′ fs′ → length kinds′ ≡ stackLimit
+    → length blocks′ ≡ nestLimit → Going s v n takes kinds′ blocks′ depth′ nest′ floor′ dead′ (at + len)
+gone-on {fs′ = fs′} w r t f lk lb =
+    record {
+      header = w .header;
+      setting = w .setting;
+      frames = fs′;
+      framed = f;
+      reached = past (w .reached) r t (f .within);
+      kinds-long = lk;
+      blocks-long = lb;
+    }
+
 module _ {s : List ℕ} {v n takes : ℕ} {kinds blocks : List ℕ} {depth nest floor : ℕ} {dead : Bool} {at : ℕ}
     (w : Going s v n takes kinds blocks depth nest floor dead at) (d : Scanned) (is : d ≡ scanOf (decodeIn v s at)) where
   told : d ≡ scanOf (decodeAt (w .header .version) s at)
-  told = is ∙ ap (λ (x : ℕ). scanOf (decodeIn x s at)) (sym (w .version-is)) ∙ ap scanOf (decodes-known (w .header .version) (w .declares .versioned) s at)
+  told = is ∙ ap (λ (x : ℕ). scanOf (decodeIn x s at)) (sym (w .setting .version-is)) ∙ ap scanOf (decodes-known (w .header .version) (w .setting .declares .versioned) s at)
 
   pub refuses : bytes s → (d .code ≡ DONE → ⊥) → Breach s (d .code) (d .place)
   refuses b z =
@@ -153,7 +153,7 @@ module _ {s : List ℕ} {v n takes : ℕ} {kinds blocks : List ℕ} {depth nest 
         let c = row-carried (rowIn (w .header .version) i) i (stands .allowed) in (c .0, record { stands = stands; does = c .1 })
 
     pub moves : (0 < d .len) × (at + d .len ≤ length s) × (length s ≤ fileLimit)
-    moves = (stands-some stands, stands-inside stands, w .declares .sized)
+    moves = (stands-some stands, stands-inside stands, w .setting .declares .sized)
 
     its-entry : d .entry ≡ entryOf (carried (coded .0))
     its-entry =
@@ -187,8 +187,8 @@ module _ {s : List ℕ} {v n takes : ℕ} {kinds blocks : List ℕ} {depth nest 
         subst (λ (x : List Frame). At s (w .header) at x (decodeAt (w .header .version) s at .instr) (coded .0)) (k .frames) here in
         record {
           header = w .header;
-          declares = w .declares;
-          takes-is = w .takes-is;
+          declares = w .setting .declares;
+          takes-is = w .setting .takes-is;
           strip = k .strip-frame;
           results-are = k .results-are;
           top = subst (λ (x : ℕ). Top kinds depth x dead [] (k .strip-frame)) (k .floor-is) (framed-top framed);
@@ -206,9 +206,9 @@ module _ {s : List ℕ} {v n takes : ℕ} {kinds blocks : List ℕ} {depth nest 
             row = its-entry;
             names = λ f. ap (λ (x : Scanned). x .immediate) told ∙ index-named (coded .1) f;
             types = λ o. let t = index-typed (coded .1) o in (ap (λ (x : Scanned). x .immediate) told ∙ t .0, t .1);
-            locals-are = w .locals-are;
-            results-are = w .takes-is;
-            few = w .declares .few .results;
+            locals-are = w .setting .locals-are;
+            results-are = w .setting .takes-is;
+            few = w .setting .declares .few .results;
             framed = w .framed;
           }
 
@@ -226,8 +226,8 @@ module _ {s : List ℕ} {v n takes : ℕ} {kinds blocks : List ℕ} {depth nest 
       ready =
           let x = tops in
           record {
-            inside = w .inside;
-            small = w .takes-small;
+            inside = w .setting .inside;
+            small = w .setting .takes-small;
             type-in = λ l h. type-small-of (opened-by l h);
             end-inner = λ e. let f = eqb-false nest 0 (not-both (eqb nest 0) (eqb (groupIn (d .entry)) 0) other (eq-eqb (groupIn (d .entry)) 0 e)) in pos-of-ne-zero f;
             floor-in = x;
@@ -250,20 +250,10 @@ module _ {s : List ℕ} {v n takes : ℕ} {kinds blocks : List ℕ} {depth nest 
         pub breaks : (code ≡ DONE → ⊥) → Breach s code at
         breaks f = breaks-of here judgement f
 
+        pub stepped : code ≡ DONE
+            → (fs′ : List Frame) × Types (locals (w .header)) (decodeAt (w .header .version) s at .instr) (coded .0) (w .frames) fs′
+            × Framed (w .header .results) kinds′ blocks′ depth′ nest′ floor′ dead′ fs′
+        stepped e = goes-of judgement e
+
         pub goes : code ≡ DONE → length kinds′ ≡ stackLimit → length blocks′ ≡ nestLimit → Going s v n takes kinds′ blocks′ depth′ nest′ floor′ dead′ (at + d .len)
-        goes e lk lb =
-            let g = goes-of judgement e in
-            record {
-              header = w .header;
-              declares = w .declares;
-              version-is = w .version-is;
-              locals-are = w .locals-are;
-              inside = w .inside;
-              takes-is = w .takes-is;
-              takes-small = w .takes-small;
-              frames = g .0;
-              framed = g .2;
-              reached = past (w .reached) (coded .1) (g .1) (g .2 .within);
-              kinds-long = lk;
-              blocks-long = lb;
-            }
+        goes e lk lb = let g = stepped e in gone-on w (coded .1) (g .1) (g .2) lk lb

@@ -27,3 +27,6 @@ pub mod Endings
 pub mod Ahead
 pub mod Walking
 pub mod Known
+pub mod Marks
+pub mod Comings
+pub mod Surveys

@@ -29,9 +29,10 @@ use Rattle.checker.specs.Walk.{KindBytes, Walks, Goes, over, on, Steps}
 use Rattle.checker.specs.Inner.Stack.{Keeps}
 use Rattle.checker.specs.Inner.Blocks.{topFirst}
 use Rattle.checker.specs.Inner.Judging.{Judges, Faces, AtTurn}
+use Rattle.checker.specs.Inner.Going.{Going}
 use Rattle.checker.proofs.Nests.{nested-many}
-use Rattle.checker.proofs.Counted.{counted, counts-inside, few-results, holds-locals, holds-results}
-use Rattle.checker.proofs.Goings.{Going, coded, is-end, no-end, ready, judgement}
+use Rattle.checker.proofs.Counted.{counted, counts-inside, few-results, set-by}
+use Rattle.checker.proofs.Goings.{coded, is-end, no-end, ready, judgement}
 use Rattle.checker.proofs.Ahead.{Ahead, stops, goes, ahead, ahead-read, passed}
 
 module _ {s : List ℕ} {p : ℕ} {kinds blocks : List ℕ} {state : State} (w : Walks s p kinds blocks state) where
@@ -49,12 +50,7 @@ module _ {s : List ℕ} {p : ℕ} {kinds blocks : List ℕ} {state : State} (w :
     going =
         record {
           header = h;
-          declares = declares;
-          version-is = counted declares .version-is;
-          locals-are = holds-locals (counted declares);
-          inside = omega (arith, inside .0);
-          takes-is = t .1 (h .results) (holds-results (counted declares));
-          takes-small = t .0;
+          setting = set-by (counted declares) t;
           frames = w .frames;
           framed = w .framed;
           reached = w .reached;

@@ -1,7 +1,7 @@
 -- A block's type and its word.
 use Prim.Native.Nat.{ℕ, _/_, _%_, _≤_, _<_}
 use mathlib.Core.Path.{_≡_, refl, sym, ap, subst, _∙_}
-use mathlib.Core.Bool.{Bool, true, false, _||_}
+use mathlib.Core.Bool.{Bool, true, false, cond, _||_}
 use mathlib.Core.List.{map}
 use native.Mathlib.Decide.{ℕ-discrete}
 use native.Mathlib.Omega.{arith}
@@ -26,12 +26,13 @@ record Typed-byte (b : ℕ) : Type 0 where
   none : b ≡ 0x40 → 0 ≡ topFirst (blockResults b)
   one : (b ≡ 0x40 → ⊥) → b ≡ topFirst (blockResults b)
   up : number (map kindByte (blockResults b)) ≡ topFirst (blockResults b)
+  many : length (blockResults b) ≡ cond (eqb (topFirst (blockResults b)) 0) 0 1
 
 type-facts : {b : ℕ} → BlockType b → Typed-byte b
-type-facts empty = record { small = omega arith; some = λ e. omega arith; few = omega arith; none = λ e. refl; one = λ f. absurd (f refl); up = refl }
-type-facts (kind i32) = record { small = omega arith; some = λ e. omega arith; few = omega arith; none = λ e. absurd (omega arith); one = λ f. refl; up = refl }
-type-facts (kind i64) = record { small = omega arith; some = λ e. omega arith; few = omega arith; none = λ e. absurd (omega arith); one = λ f. refl; up = refl }
-type-facts (kind v128) = record { small = omega arith; some = λ e. omega arith; few = omega arith; none = λ e. absurd (omega arith); one = λ f. refl; up = refl }
+type-facts empty = record { small = omega arith; some = λ e. omega arith; few = omega arith; none = λ e. refl; one = λ f. absurd (f refl); up = refl; many = refl }
+type-facts (kind i32) = record { small = omega arith; some = λ e. omega arith; few = omega arith; none = λ e. absurd (omega arith); one = λ f. refl; up = refl; many = refl }
+type-facts (kind i64) = record { small = omega arith; some = λ e. omega arith; few = omega arith; none = λ e. absurd (omega arith); one = λ f. refl; up = refl; many = refl }
+type-facts (kind v128) = record { small = omega arith; some = λ e. omega arith; few = omega arith; none = λ e. absurd (omega arith); one = λ f. refl; up = refl; many = refl }
 
 pub type-small : (b : ℕ) → isBlockType b ≡ true → b < 256
 type-small b e = type-facts (no-other-type b e) .small
@@ -50,6 +51,9 @@ type-one b e = type-facts (no-other-type b e) .one
 
 pub type-up : (b : ℕ) → isBlockType b ≡ true → number (map kindByte (blockResults b)) ≡ topFirst (blockResults b)
 type-up b e = type-facts (no-other-type b e) .up
+
+pub type-many : (b : ℕ) → isBlockType b ≡ true → length (blockResults b) ≡ cond (eqb (topFirst (blockResults b)) 0) 0 1
+type-many b e = type-facts (no-other-type b e) .many
 
 -- a type is told by what it leaves
 pub type-once : (a b : ℕ) → isBlockType a ≡ true → isBlockType b ≡ true → blockResults a ≡ blockResults b → a ≡ b

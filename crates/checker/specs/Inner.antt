@@ -4,3 +4,5 @@ pub mod Stack
 pub mod Blocks
 pub mod Judging
 pub mod Parts
+pub mod Going
+pub mod Reach

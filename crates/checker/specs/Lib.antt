@@ -1,3 +1,4 @@
 pub mod Check
 pub mod Walk
+pub mod Survey
 pub mod Inner

@@ -9,9 +9,13 @@ ghost use Rattle.opcode.specs.Kind.{Kind};
 ghost use Rattle.opcode.specs.BlockType.{isBlockType, blockResults};
 ghost use Rattle.rules.specs.Typing.{Frame, allValues};
 ghost use Rattle.checker.specs.Walk.{bit, word, OpenBlocks};
+ghost use Rattle.checker.specs.Survey.{way};
 ghost use Rattle.checker.specs.Inner.Blocks.{topFirst, Labelled};
 
 const EMPTY: u32 = opcode::kind::EMPTY as u32;
+
+// What a branch to a loop does; a block's number is that of its results.
+const LOOP: usize = 2;
 
 fn bit_of(b: bool) -> u32
     ensures { λ r. ⌜ r ≡ bit b ⌝ }
@@ -54,6 +58,19 @@ pub(crate) fn results_in(w: u32) -> u64
         return 0;
     }
     t as u64
+}
+
+// What a branch to it does: a loop begins again, of a block it takes the results along.
+pub(crate) fn way_in(w: u32) -> usize
+    ensures { λ r. ⌜ ((floor type : ℕ) (loop dead : Bool) → floor < 256 → isBlockType type ≡ true → w ≡ word floor type loop dead → r ≡ way loop (blockResults type)) ⌝ }
+{
+    if loop_in(w) {
+        return LOOP;
+    }
+    if results_in(w) == 0 {
+        return 0;
+    }
+    1
 }
 
 // What a branch to the n-th block takes, the top one first in a number.

@@ -4,28 +4,27 @@ ghost use mathlib.Core.Bool.{_&&_};
 ghost use lib.Dec.{eqb};
 ghost use Rattle.opcode.specs.Entry.{groupIn};
 ghost use Rattle.checker.specs.Check.{Checked};
-ghost use Rattle.checker.specs.Inner.Parts.{Begins, AtEnd};
+ghost use Rattle.checker.specs.Inner.Parts.{AtEnd};
+ghost use Rattle.checker.specs.Inner.Going.{Going};
 use crate::answer;
-use crate::numbers;
 use crate::stack;
 use crate::turns;
-use crate::walk;
+use crate::turns::State;
 use card::Answer;
 
 pub(crate) fn body(
     strip: &[u8],
     version: u16,
-    start: usize,
     locals: usize,
-    results: usize,
+    takes: u64,
+    start: usize,
+    mut kinds: [u8; limits::STACK],
+    mut blocks: [u32; limits::NEST],
+    mut state: State,
 ) -> Answer
-    requires { ⌜ Begins (now strip) version start locals results ⌝ }
+    requires { ⌜ Going (now strip) version locals takes kinds blocks (state .depth) (state .nest) (state .floor) (state .dead) start ⌝ }
     ensures { λ r. ⌜ Checked (now (strip .entry)) r ⌝ }
 {
-    let takes = numbers::top_first(strip, 8 + locals, results);
-    let mut kinds = [0u8; limits::STACK];
-    let mut blocks = [0u32; limits::NEST];
-    let mut state = walk::outset();
     let mut at = start;
     loop {
         let d = instr::scan(version, strip, at);
@@ -63,7 +62,7 @@ pub(crate) fn is_last(entry: u64, nest: usize) -> bool
 }
 
 // After this `end` was read: the stack is exactly the results, and nothing follows.
-fn ending(
+pub(crate) fn ending(
     strip: &[u8],
     version: u16,
     at: usize,

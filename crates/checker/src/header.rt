@@ -5,11 +5,51 @@ ghost use lib.ListN.{length};
 ghost use Rattle.limits.specs.Limits.{localCount, resultLimit};
 ghost use Rattle.checker.specs.Inner.Kinds.{isKind};
 ghost use Rattle.checker.specs.Inner.Parts.{OtherVersion, Headed, KindsSay};
+ghost use Rattle.checker.specs.Inner.Going.{HeadRead};
 use crate::answer;
+use crate::numbers;
 use card::Answer;
 use opcode::kind;
 
-pub(crate) fn header(strip: &[u8]) -> Answer
+// A code and a place, and what the header tells of the instructions: the version, how many locals there are, the kinds that the strip's own `end`
+// takes, the top one first in a number, and where the first one stands.
+pub(crate) struct Head {
+    pub code: u8,
+    pub place: usize,
+    pub version: u16,
+    pub locals: usize,
+    pub takes: u64,
+    pub start: usize,
+}
+
+pub(crate) fn read(strip: &[u8]) -> Head
+    ensures { λ r. ⌜ HeadRead (now (strip .entry)) r ⌝ }
+{
+    let h = header(strip);
+    if h.code != card::DONE {
+        return Head {
+            code: h.code,
+            place: h.place,
+            version: 0,
+            locals: 0,
+            takes: 0,
+            start: 0,
+        };
+    }
+    let locals = strip[5] as usize + strip[6] as usize;
+    let results = strip[7] as usize;
+    let takes = numbers::top_first(strip, 8 + locals, results);
+    Head {
+        code: card::DONE,
+        place: 0,
+        version: strip[3] as u16,
+        locals,
+        takes,
+        start: 8 + locals + results,
+    }
+}
+
+fn header(strip: &[u8]) -> Answer
     ensures { λ r. ⌜ Headed (now (strip .entry)) r ⌝ }
 {
     if limits::FILE < strip.len() {

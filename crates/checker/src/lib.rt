@@ -3,11 +3,16 @@ mod blocks;
 mod body;
 mod header;
 mod numbers;
+mod place;
+mod reach;
 mod stack;
 mod turns;
 mod typing;
 mod walk;
 
+pub use place::MARKS;
+pub use place::Surveyed;
+pub use place::survey;
 pub use turns::State;
 pub use walk::follow;
 pub use walk::outset;
@@ -19,14 +24,20 @@ use card::Answer;
 pub fn check(strip: &[u8]) -> Answer
     ensures { λ r. ⌜ Checked (now (strip .entry)) r ⌝ }
 {
-    let h = header::header(strip);
+    let h = header::read(strip);
     if h.code != card::DONE {
-        return h;
+        return answer(h.code, h.place);
     }
-    let locals = strip[5] as usize + strip[6] as usize;
-    let results = strip[7] as usize;
-    let version = strip[3] as u16;
-    body::body(strip, version, 8 + locals + results, locals, results)
+    body::body(
+        strip,
+        h.version,
+        h.locals,
+        h.takes,
+        h.start,
+        [0u8; limits::STACK],
+        [0u32; limits::NEST],
+        walk::outset(),
+    )
 }
 
 // Where a strip's instructions begin: after the counts and the kind bytes that they declare.

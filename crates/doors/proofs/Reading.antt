@@ -2,11 +2,11 @@
 use Prim.Native.Nat.{ℕ, _+_, _*_, _^_}
 use mathlib.Core.Path.{_≡_, ap, ap₂, sym, _∙_, subst}
 use mathlib.Core.List.{List}
+use mathlib.Core.Option.{Option}
 use native.Mathlib.Omega.{arith}
 use Rattle.card.specs.declared.Answer.{Answer}
 use Rattle.checker.specs.Check.{Checked}
-use Rattle.run.specs.Meter.{leaves}
-use Rattle.run.specs.Run.{Runs}
+use Rattle.run.specs.Meter.{Left, leaves}
 use Rattle.doors.specs.Packed.{codeOf, placeOf, stepsOf, answerOf}
 
 abbrev answer : ℕ → ℕ → ℕ → Answer
@@ -24,10 +24,10 @@ module _ (r : ℕ) (a : Answer) (e : Parts r a) where
   pub checked : {s : List ℕ} → Checked s a → Checked s (answerOf r)
   checked {s} w = subst (Checked s) (sym holds) w
 
-  pub ran : {s args mem out mem′ out′ : List ℕ} {budget : ℕ} → Runs s args mem out budget (leaves (a .code) (a .place) (a .steps) mem′ out′)
-      → Runs s args mem out budget (leaves (codeOf r) (placeOf r) (stepsOf r) mem′ out′)
-  ran {s} {args} {mem} {out} {mem′} {out′} {budget} w =
-      subst (λ (x : Answer). Runs s args mem out budget (leaves (x .code) (x .place) (x .steps) mem′ out′)) (sym holds) w
+  -- whatever is promised of what is left
+  pub called : (P : Left → Type 0) (mem out : List ℕ) (img : Option (List ℕ)) → P (leaves (a .code) (a .place) (a .steps) mem out img)
+      → P (leaves (codeOf r) (placeOf r) (stepsOf r) mem out img)
+  called P mem out img w = subst (λ (x : Answer). P (leaves (x .code) (x .place) (x .steps) mem out img)) (sym holds) w
 
 -- ---- every bit of a number is in one of its three parts
 

@@ -1,9 +1,11 @@
-// The two doors for the firmware, which is C: include/gevurlat.h declares them.
+// The doors for the firmware, which is C: include/gevurlat.h declares them.
 ghost use Prim.Native.Nat.{_<_, _^_};
 ghost use mathlib.Core.Path.{_≡_};
+ghost use mathlib.Core.Option.{none, some};
 ghost use Rattle.checker.specs.Check.{Checked};
 ghost use Rattle.run.specs.Meter.{leaves};
 ghost use Rattle.run.specs.Run.{Runs};
+ghost use Rattle.run.specs.Resume.{Resumes};
 ghost use Rattle.doors.specs.Packed.{codeOf, placeOf, stepsOf, answerOf};
 
 #[no_mangle]
@@ -22,9 +24,39 @@ pub extern "C" fn gevurlat_run(
     results: &mut [u8],
     budget: u32,
 ) -> u64
-    ensures { λ r. ⌜ Runs (now (strip .entry)) (now (args .entry)) (now (memory .entry)) (now (results .entry)) budget (leaves (codeOf r) (placeOf r) (stepsOf r) (now (memory .exit)) (now (results .exit))) ⌝ }
+    ensures { λ r. ⌜ Runs (now (strip .entry)) (now (args .entry)) (now (memory .entry)) (now (results .entry)) none budget (leaves (codeOf r) (placeOf r) (stepsOf r) (now (memory .exit)) (now (results .exit)) none) ⌝ }
 {
-    let ran = run::run(strip, args, memory, results, budget);
+    let ran = run::run_once(strip, args, memory, results, budget);
+    pack(ran.code, ran.place, ran.steps)
+}
+
+// A run that can be resumed.
+#[no_mangle]
+pub extern "C" fn gevurlat_start(
+    strip: &[u8],
+    args: &[u8],
+    memory: &mut [u8],
+    results: &mut [u8],
+    image: &mut [u8],
+    budget: u32,
+) -> u64
+    ensures { λ r. ⌜ Runs (now (strip .entry)) (now (args .entry)) (now (memory .entry)) (now (results .entry)) (some (now (image .entry))) budget (leaves (codeOf r) (placeOf r) (stepsOf r) (now (memory .exit)) (now (results .exit)) (some (now (image .exit)))) ⌝ }
+{
+    let ran = run::run(strip, args, memory, results, image, budget);
+    pack(ran.code, ran.place, ran.steps)
+}
+
+#[no_mangle]
+pub extern "C" fn gevurlat_resume(
+    strip: &[u8],
+    memory: &mut [u8],
+    results: &mut [u8],
+    image: &mut [u8],
+    budget: u32,
+) -> u64
+    ensures { λ r. ⌜ Resumes (now (strip .entry)) (now (memory .entry)) (now (results .entry)) (now (image .entry)) budget (leaves (codeOf r) (placeOf r) (stepsOf r) (now (memory .exit)) (now (results .exit)) (some (now (image .exit)))) ⌝ }
+{
+    let ran = run::resume(strip, memory, results, image, budget);
     pack(ran.code, ran.place, ran.steps)
 }
 

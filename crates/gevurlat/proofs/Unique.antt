@@ -31,7 +31,7 @@ shown-once {a} {results} p q =
 
 pub prints-once : {s memory results t u : List ℕ} → PrintsFrom s memory results t → PrintsFrom s memory results u → t ≡ u
 prints-once {u = u} p q =
-    let same = runs-once _ _ _ _ _ (q .ran) (p .ran) in
+    let same = runs-once _ _ _ _ _ _ (q .ran) (p .ran) in
     shown-once (p .shown) (subst (λ (x : Left). Shown (x .answer) (x .results) u) same (q .shown))
 
 -- of the function's own contract

@@ -1,6 +1,7 @@
 -- What the program prints of any bytes (01, "Numbers on the inspector's card", last paragraph).
 use Prim.Native.Nat.{ℕ, _*_, min}
 use mathlib.Core.List.{List, []}
+use mathlib.Core.Option.{none}
 use lib.ListN.{getD, replicate}
 use Rattle.limits.specs.Limits.{resultLimit, slot}
 use Rattle.run.specs.Meter.{Left}
@@ -21,10 +22,10 @@ zeros n = replicate n 0
 abbrev pub resultCount : List ℕ → ℕ
 resultCount s = min (getD s 7 0) resultLimit
 
--- run with no arguments, this memory and this buffer for the results
+-- run with no arguments, this memory, this buffer for the results and none for an image
 pub record PrintsFrom (s memory results text : List ℕ) : Type 0 where
   pub left : Left
-  pub ran : Runs s [] memory results budget left
+  pub ran : Runs s [] memory results none budget left
   pub shown : Shown (left .answer) (left .results) text
 
 abbrev pub Prints : List ℕ → List ℕ → Type 0

@@ -46,6 +46,6 @@ fn answer_in(strip: &[u8], mem: &mut [u8], results: &mut [u8], out: &mut [u8]) -
     ensures { λ r. ⌜ Counts r (now (out .exit)) ⌝ }
     ensures { λ r. ⌜ PrintsFrom (now (strip .entry)) (now (mem .entry)) (now (results .entry)) (take r (now (out .exit))) ⌝ }
 {
-    let a = strip::run(strip, &[], mem, results, BUDGET);
+    let a = strip::run_once(strip, &[], mem, results, BUDGET);
     show(a, results, out)
 }

@@ -72,7 +72,7 @@ fn outcome(s: &[u8], at: usize, strips: &[usize], memory: &mut [u8]) -> Got {
     let mut results = [UNTOUCHED; 64];
     let r = within(results_len(&strip[..n]), &results);
     let verdict = strip::check(&strip[..n]);
-    let answer = strip::run(&strip[..n], &args[..a], memory, &mut results[..r], BUDGET);
+    let answer = strip::run_once(&strip[..n], &args[..a], memory, &mut results[..r], BUDGET);
     let named = byte_at(&strip[..n], verdict.place);
     Got {
         verdict,

@@ -1,5 +1,5 @@
 -- Two strips of instructions from one place: one is the other's beginning.
-use Prim.Native.Nat.{ℕ, _+_, _≤_}
+use Prim.Native.Nat.{ℕ, _+_, _≤_, _<_}
 use mathlib.Core.Path.{_≡_, refl, sym, subst}
 use mathlib.Core.Bool.{false}
 use mathlib.Core.List.{List, [], _∷_}
@@ -91,6 +91,19 @@ reached-once {s} {h} {p} {κs} {λs} a b = by (compare (from-front a) (from-fron
     by : Onward s h p κs p λs ⊎ Onward s h p λs p κs → κs ≡ λs
     by (inl o) = stays o (omega arith)
     by (inr o) = sym (stays o (omega arith))
+
+-- no place inside an instruction is reached
+pub reached-beyond : {s : List ℕ} {h : Header} {p q n : ℕ} {i : Instr} {c : Code} {κs λs : List Frame} → Reaches s h p κs → Reads (h .version) s p i c n
+    → Reaches s h q λs → p < q → p + n ≤ q
+reached-beyond {s} {h} {p} {q} {n} {κs = κs} {λs = λs} a r b less = by (compare (from-front a) (from-front b))
+  where
+    first : {m : ℕ} {α β : List Frame} → Onward s h p α m β → p < m → p + n ≤ m
+    first here l = absurd (let z : ⊥ = omega arith in z)
+    first (next r′ t w o) l = omega (arith, reads-once r r′ .2, onward-up o)
+
+    by : Onward s h p κs q λs ⊎ Onward s h q λs p κs → p + n ≤ q
+    by (inl o) = first o less
+    by (inr o) = absurd (let z : ⊥ = omega (arith, onward-up o) in z)
 
 -- what the instruction between two places that are reached makes of the frames
 pub step-between : {s : List ℕ} {h : Header} {p n : ℕ} {i : Instr} {κs λs : List Frame} → Reaches s h p κs → Stands (h .version) s p i n

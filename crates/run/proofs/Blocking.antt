@@ -69,7 +69,7 @@ branching (vector Bitselect) t a b c = absurd (let z : _≡_ {A = ℕ} 0 1 = cc 
 branching (vector (Test o)) t a b c = absurd (let z : _≡_ {A = ℕ} 0 1 = cc (t) in omega arith)
 branching (vector (Shift o)) t a b c = absurd (let z : _≡_ {A = ℕ} 0 1 = cc (t) in omega arith)
 
-block-few : (b : ℕ) → length (blockResults b) ≤ 1
+pub block-few : (b : ℕ) → length (blockResults b) ≤ 1
 block-few b = by (eqb b 0x40) (eqb b (kindByte i32)) (eqb b (kindByte i64)) (eqb b (kindByte v128))
   where
     by : (r t u w : Bool) → length (cond r [] (cond t (i32 ∷ []) (cond u (i64 ∷ []) (cond w (v128 ∷ []) [])))) ≤ 1

@@ -40,8 +40,8 @@ front-slots (v ∷ vs) bs h =
     ap (λ (n : ℕ). take n bs) more ∙ take-add slot (slot * length vs) bs
     ∙ ap₂ (λ (x y : List ℕ). x ++ y) (h 0 (zero-lt-suc (length vs)))
     (front-slots vs (drop slot bs)
-    (λ k l. let next : slot * k + slot ≡ slot * suc k = omega arith in
-    ap (take slot) (drop-drop (slot * k) slot bs ∙ ap (λ (n : ℕ). drop n bs) (omega arith)) ∙ h (suc k) (omega arith)))
+    (λ k l. let next : slot + slot * k ≡ slot * suc k = omega arith in
+    ap (take slot) (drop-drop (slot * k) slot bs ∙ ap (λ (n : ℕ). drop n bs) next) ∙ h (suc k) (omega arith)))
 
 module _ {s : List ℕ} {h : Header} {c : Config} {at depth nest : ℕ} {stack marks held mem : List ℕ} (C : Carries s h c at depth nest stack marks held mem) where
   pub held-bytes : (count : ℕ) → count ≡ length (locals h) → take (slot * count) held ≡ allBytes (c .state .locals)

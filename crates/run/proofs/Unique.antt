@@ -19,6 +19,8 @@ use Rattle.run.specs.Call.{Question, _or_, Fails, AllWell, Asks, TurnsAw
 use Rattle.run.specs.Run.{runAsks, Begins, Runs}
 use Rattle.run.specs.Resume.{resumeAsks, Resumes}
 use Rattle.run.proofs.Picturing.{pictures-once}
+use Rattle.run.proofs.run.Reads as run
+use Rattle.run.proofs.run_once.Reads as run-once
 
 -- a strip that keeps the rules has one header
 pub header-once : {s : List ℕ} (v w : Valid s) → v .header ≡ w .header
@@ -84,3 +86,26 @@ module _ (s args mem out : List ℕ) (img : Option (List ℕ)) (budget : ℕ) wh
 module _ (s mem out buffer : List ℕ) (budget : ℕ) where
   pub resumes-once : {x y : Left} → Resumes s mem out buffer budget x → Resumes s mem out buffer budget y → x ≡ y
   resumes-once = calls-once (resumeAsks s mem out buffer) (λ v c d p q. pictures-once p d q)
+
+-- ---- of the functions' own contracts
+
+-- of buffers that are lent for an image
+pub buffer-once : {a b : List ℕ} → some a ≡ some b → a ≡ b
+buffer-once e = cc (e)
+
+pub one-run : (κs : _) (a : _) (e e′ : _) (r r′ : Answer) → run.Post κs a r e → run.Post κs a r′ e′
+    → (r ≡ r′) × (now (e .1 .1 .0) ≡ now (e′ .1 .1 .0)) × (now (e .1 .1 .1 .0) ≡ now (e′ .1 .1 .1 .0)) × (now (e .1 .1 .1 .1 .0) ≡ now (e′ .1 .1 .1 .1 .0))
+one-run κs a e e′ r r′ p q =
+    let same = runs-once _ _ _ _ _ _ p q in
+    (
+      ap (λ (x : Left). x .answer) same,
+      ap (λ (x : Left). x .memory) same,
+      ap (λ (x : Left). x .results) same,
+      buffer-once (ap (λ (x : Left). x .image) same),
+    )
+
+pub one-run-once : (κs : _) (a : _) (e e′ : _) (r r′ : Answer) → run-once.Post κs a r e → run-once.Post κs a r′ e′
+    → (r ≡ r′) × (now (e .1 .1 .0) ≡ now (e′ .1 .1 .0)) × (now (e .1 .1 .1 .0) ≡ now (e′ .1 .1 .1 .0))
+one-run-once κs a e e′ r r′ p q =
+    let same = runs-once _ _ _ _ _ _ p q in
+    (ap (λ (x : Left). x .answer) same, ap (λ (x : Left). x .memory) same, ap (λ (x : Left). x .results) same)

@@ -1,4 +1,4 @@
-// Strips: decode and encode of one instruction, the check, the run, the rewriter, the listing, and what they take and answer.
+// Strips: decode and encode of one instruction, the check, the run and its resume, the rewriter, the listing, and what they take and answer.
 pub use card::Answer;
 pub use checker::check;
 pub use instr::Decoded;
@@ -10,4 +10,6 @@ pub use listing::Listed;
 pub use listing::list;
 pub use rewrite::Rewritten;
 pub use rewrite::rewrite;
+pub use run::resume;
 pub use run::run;
+pub use run::run_once;

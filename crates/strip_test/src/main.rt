@@ -113,7 +113,7 @@ fn run_at(line: &[u8], budget: u32) {
 
 fn run_in(strip: &[u8], args: &[u8], mem: &mut [u8], results: &mut [u8], budget: u32) {
     fill(mem);
-    let a = strip::run(strip, args, mem, results, budget);
+    let a = strip::run_once(strip, args, mem, results, budget);
     answer(a.code, a.place, a.steps as usize);
     hex(results);
     changes(mem);

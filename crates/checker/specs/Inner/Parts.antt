@@ -9,7 +9,7 @@ use Rattle.card.specs.declared.Answer.{Answer}
 use Rattle.opcode.specs.Kind.{Kind, kindByte}
 use Rattle.opcode.specs.Table.{End, plain}
 use Rattle.instr.specs.declared.Instr.{Instr}
-use Rattle.rules.specs.Header.{Version, Header, Declares, headerBytes, locals}
+use Rattle.rules.specs.Header.{Version, Header, Declares, locals}
 use Rattle.rules.specs.Typing.{Frame}
 use Rattle.rules.specs.Breach.{At, Breach}
 use Rattle.checker.specs.Inner.Stack.{Top}
@@ -39,12 +39,6 @@ pub record Counts (s : List ℕ) (version n r : ℕ) (h : Header) : Type 0 where
   pub version-is : h .version ≡ version
   pub locals-are : length (locals h) ≡ n
   pub results-are : length (h .results) ≡ r
-
--- the first instruction's place
-pub record Begins (s : List ℕ) (version start n r : ℕ) : Type 0 where
-  pub header : Header
-  pub counts : Counts s version n r header
-  pub start-is : length (headerBytes header) ≡ start
 
 -- the strip's own `end` was read at a place that all before it reaches
 pub record AtEnd (s : List ℕ) (version takes at : ℕ) (kinds : List ℕ) (depth : ℕ) (dead : Bool) : Type 0 where

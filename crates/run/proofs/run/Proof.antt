@@ -1,3 +1,6 @@
+use native.Mathlib.Omega.{arith}
+use mathlib.Core.Path.{refl}
+use Rattle.run.proofs.Answering.{asked-first, asked-well, no-image, ran}
 use borrow.Author.Needs.{needs}
 use Rattle.run.proofs.run.Statement.{statement}
 use Rattle.run.proofs.run.Tie as tie
@@ -13,7 +16,7 @@ ask-requires c κs = search needs
 
 -- src/lib.rt:56:9
 returns : tie.Need-returns
-returns c = ?
+returns c = asked-first (c .before .before .ask .ensures (c .before .before .before .before .before .before .before .before .args .mem .now) (c .before .before .before .before .before .before .before .before .args .results .now) refl refl) (c .if1 .taken) _ _
 
 -- src/lib.rt:59:9
 refused-requires : tie.Need-refused-requires
@@ -21,11 +24,11 @@ refused-requires c κs = search needs
 
 -- src/lib.rt:59:9
 returns-2 : tie.Need-returns-2
-returns-2 c = ?
+returns-2 c = no-image (c .before .before .before .before .ask .ensures (c .before .before .before .before .before .before .before .before .before .before .args .mem .now) (c .before .before .before .before .before .before .before .before .before .before .args .results .now) refl refl) (c .before .before .if1 .left) _ (c .before .if2 .taken) (c .refused .ensures) _
 
 -- src/lib.rt:61:5
 drive-requires : tie.Need-drive-requires
-drive-requires c κs = ?
+drive-requires c κs = asked-well (c .before .before .before .before .before .before .ask .ensures (c .before .before .before .before .before .before .before .before .before .before .before .before .args .mem .now) (c .before .before .before .before .before .before .before .before .before .before .before .before .args .results .now) refl refl) (c .before .before .before .before .if1 .left)
 
 -- src/lib.rt:44:1
 same-length : tie.Need-same-length
@@ -41,7 +44,7 @@ same-length-3 c = search needs
 
 -- src/lib.rt:44:1
 returns-3 : tie.Need-returns-3
-returns-3 c = ?
+returns-3 c = ran (c .before .before .before .before .before .before .drive .ensures) (c .before .before .before .before .before .before .before .before .before .before .if2 .left) (c .before .before .before .before .before .before .drive .kept .1 .1 .1 .1 .0)
 
 pub run-spec : {M : Type 1} → statement M
 run-spec =

@@ -1,33 +1,25 @@
 -- A turn is one instruction.
 use borrow.Author.Needs.{needs}
 use Prim.Native.Nat.{_-_}
-use mathlib.Core.Path.{refl, sym, _∙_}
+use mathlib.Core.Path.{sym, _∙_}
 use native.Mathlib.Omega.{arith}
 use lib.ListN.{length}
 use Rattle.rules.specs.Breach.{breach}
-use Rattle.checker.proofs.Counted.{checked, counts-inside, few-results}
-use Rattle.checker.proofs.Goings.{Going, starts, refuses, moves, at-end, ready, breaks, goes}
+use Rattle.checker.specs.Inner.Going.{Going}
+use Rattle.checker.proofs.Counted.{checked}
+use Rattle.checker.proofs.Goings.{refuses, moves, at-end, ready, breaks, goes}
 use Rattle.checker.proofs.body.body.Statement.{statement}
 use Rattle.checker.proofs.body.body.Tie as tie
 
 abbrev Inv-loop : tie.InvT-loop
-Inv-loop strip version start locals results takes kinds₀ blocks₀ state₀ at₀ kinds blocks state at =
+Inv-loop strip version locals takes start state₀ kinds₀ blocks₀ at₀ state kinds blocks at =
     Going strip version locals takes kinds blocks (state .depth) (state .nest) (state .floor) (state .dead) at
 
 abbrev μ-loop : tie.MeasureT-loop
-μ-loop strip version start locals results takes kinds₀ blocks₀ state₀ at₀ kinds blocks state at = length strip - at
-
-add-top-first : tie.Need-add-top-first Inv-loop μ-loop
-add-top-first c = omega (arith, counts-inside (c .before .pre .counts), c .before .pre .counts .declares .sized)
-
-top-first-requires : tie.Need-top-first-requires Inv-loop μ-loop
-top-first-requires c κs = (counts-inside (c .before .pre .counts), few-results (c .before .pre .counts))
-
-outset-requires : tie.Need-outset-requires Inv-loop μ-loop
-outset-requires c κs = search needs
+μ-loop strip version locals takes start state₀ kinds₀ blocks₀ at₀ state kinds blocks at = length strip - at
 
 loop-holds : tie.Need-loop-holds Inv-loop μ-loop
-loop-holds c = starts _ _ refl refl (c .before .before .before .pre) (c .before .top-first .ensures) (c .outset .ensures)
+loop-holds c = c .before .pre
 
 scan-requires : tie.Need-scan-requires Inv-loop μ-loop
 scan-requires c κs = search needs
@@ -39,7 +31,7 @@ returns : tie.Need-returns Inv-loop μ-loop
 returns c =
     let at-scan = c .before .before .before in
     let at-loop = at-scan .before in
-    let at-shared-slice-known = at-loop .before .before .before in
+    let at-shared-slice-known = at-loop .before in
     checked (c .answer .ensures)
     (breach (refuses (at-loop .loop .inv) (at-scan .scan .result) (at-scan .scan .ensures)
     (λ j. at-shared-slice-known .shared-slice-known .given j .fits) (c .before .if1 .taken)))
@@ -56,7 +48,7 @@ ending-requires c κs =
     let at-if1 = at-is-last .before in
     let at-scan = at-if1 .before .before in
     let at-loop = at-scan .before in
-    let at-shared-slice-known = at-loop .before .before .before in
+    let at-shared-slice-known = at-loop .before in
     at-end (at-loop .loop .inv) (at-scan .scan .result) (at-scan .scan .ensures) (λ j. at-shared-slice-known .shared-slice-known .given j .fits)
     (at-if1 .if1 .left) (sym (at-is-last .is-last .ensures) ∙ c .before .if2 .taken)
 
@@ -76,7 +68,7 @@ turn-requires c κs =
     let at-if1 = at-is-last .before in
     let at-scan = at-if1 .before .before in
     let at-loop = at-scan .before in
-    let at-shared-slice-known = at-loop .before .before .before in
+    let at-shared-slice-known = at-loop .before in
     ready (at-loop .loop .inv) (at-scan .scan .result) (at-scan .scan .ensures) (λ j. at-shared-slice-known .shared-slice-known .given j .fits)
     (at-if1 .if1 .left) (sym (at-is-last .is-last .ensures) ∙ at-if2 .if2 .left)
 
@@ -91,7 +83,7 @@ returns-3 c =
     let at-if1 = at-is-last .before in
     let at-scan = at-if1 .before .before in
     let at-loop = at-scan .before in
-    let at-shared-slice-known = at-loop .before .before .before in
+    let at-shared-slice-known = at-loop .before in
     checked (c .answer2 .ensures) (breach (breaks (at-loop .loop .inv) (at-scan .scan .result) (at-scan .scan .ensures)
     (λ j. at-shared-slice-known .shared-slice-known .given j .fits) (at-if1 .if1 .left) (sym (at-is-last .is-last .ensures) ∙ at-if2 .if2 .left)
     (at-turn .turn .ensures .0) (c .before .if3 .taken)))
@@ -101,7 +93,7 @@ add-at c =
     let at-if1 = c .before .before .before .before .before .before .before .before .before .before in
     let at-scan = at-if1 .before .before in
     let at-loop = at-scan .before in
-    let at-shared-slice-known = at-loop .before .before .before in
+    let at-shared-slice-known = at-loop .before in
     omega (
       arith,
       moves (at-loop .loop .inv) (at-scan .scan .result) (at-scan .scan .ensures)
@@ -113,7 +105,7 @@ loop-less c =
     let at-if1 = c .before .before .before .before .before .before .before .before .before .before in
     let at-scan = at-if1 .before .before in
     let at-loop = at-scan .before in
-    let at-shared-slice-known = at-loop .before .before .before in
+    let at-shared-slice-known = at-loop .before in
     omega (
       arith,
       moves (at-loop .loop .inv) (at-scan .scan .result) (at-scan .scan .ensures)
@@ -128,7 +120,7 @@ loop-again c =
     let at-if1 = at-is-last .before in
     let at-scan = at-if1 .before .before in
     let at-loop = at-scan .before in
-    let at-shared-slice-known = at-loop .before .before .before in
+    let at-shared-slice-known = at-loop .before in
     goes (at-loop .loop .inv) (at-scan .scan .result) (at-scan .scan .ensures) (λ j. at-shared-slice-known .shared-slice-known .given j .fits)
     (at-if1 .if1 .left) (sym (at-is-last .is-last .ensures) ∙ at-if2 .if2 .left) (at-turn .turn .ensures .0) (c .before .if3 .left))
     (search needs) (search needs)
@@ -139,9 +131,6 @@ body-spec =
     (tie.spec
     Inv-loop
     μ-loop
-    add-top-first
-    top-first-requires
-    outset-requires
     loop-holds
     scan-requires
     answer-requires
