@@ -172,12 +172,12 @@ static void cut(void)
     }
 }
 
-static uint64_t mixed(uint64_t h, uint64_t n)
+static uint32_t mixed(uint32_t h, uint32_t n)
 {
-    return 33 * h + n;
+    return 16777619 * h + n;
 }
 
-static uint64_t digest(uint64_t h, uint64_t a)
+static uint32_t digest(uint32_t h, uint64_t a)
 {
     h = mixed(mixed(mixed(h, a & 0xFF), a >> 8 & 0xFFFFFF), a >> 32);
     for (size_t i = 0; i < memory_len; i++)
@@ -204,7 +204,7 @@ static void hold_to_one_run(uint64_t sum, uint32_t budget)
 }
 
 /* All three are called, also where the one before was not out of budget; the image is then as that left it. */
-static uint64_t cut_in_three(uint64_t h, uint32_t a, uint32_t b, uint32_t c)
+static uint32_t cut_in_three(uint32_t h, uint32_t a, uint32_t b, uint32_t c)
 {
     refill();
     memset(image, 0xEE, image_len);
@@ -230,7 +230,7 @@ static void slices(void)
     image_len = IMAGE_BYTES;
     const uint32_t last = number(6, LEFT_AT_ONCE);
     for (uint32_t a = 0; a <= last; a++) {
-        uint64_t h = 5381;
+        uint32_t h = 5381;
         for (uint32_t b = 0; a + b <= last; b++)
             h = cut_in_three(h, a, b, last - a - b);
         refill();
@@ -241,7 +241,7 @@ static void slices(void)
         print_answer(first);
         print_left();
         print_items(image, image_len);
-        printf(" %016llx\n", (unsigned long long)h);
+        printf(" %08x\n", h);
     }
 }
 

@@ -14,7 +14,6 @@ use cases::find;
 use cases::length_in;
 use cases::name;
 use cases::number_in;
-use libc::STDOUT_FILENO;
 use strip::Answer;
 
 // Strips that are cut in every way are short.
@@ -144,11 +143,10 @@ fn seconds(line: &[u8], a: usize, rest: usize)
         h = in_three(line, a, b, rest - b, h);
         b += 1;
     }
-    io::write_all(STDOUT_FILENO, b" ");
-    io::print_hex(STDOUT_FILENO, h, 16);
+    digest::print(h);
 }
 
-fn in_three(line: &[u8], a: usize, b: usize, c: usize, h: u64) -> u64 {
+fn in_three(line: &[u8], a: usize, b: usize, c: usize, h: u32) -> u32 {
     let mut strip = [0u8; SHORT];
     let n = bytes_in(line, 2, &mut strip);
     let mut args = [0u8; SHORT];
@@ -180,8 +178,8 @@ fn three_in(
     a: u32,
     b: u32,
     c: u32,
-    h: u64,
-) -> u64 {
+    h: u32,
+) -> u32 {
     fill(mem);
     strip::run(strip, args, mem, results, image, a);
     two_more(strip, mem, results, image, b, c, h)
@@ -194,8 +192,8 @@ fn two_more(
     image: &mut [u8],
     b: u32,
     c: u32,
-    h: u64,
-) -> u64 {
+    h: u32,
+) -> u32 {
     let y = strip::resume(strip, mem, results, image, b);
     let second = digest::of_call(h, y, mem, results, image);
     let z = strip::resume(strip, mem, results, image, c);

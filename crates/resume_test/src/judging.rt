@@ -14,8 +14,8 @@ use cases::number_in;
 use libc::STDOUT_FILENO;
 use strip::Answer;
 
-// The code of an image that is not good.
-const IMAGE: u8 = 25;
+// Strips that are resumed from many images are short.
+const SHORT: usize = 2048;
 
 // resume NAME STRIP MEMORY RESULTS BUDGET IMAGE: the line ends with the image after the call, or with `kept`.
 pub(crate) fn resume(line: &[u8]) {
@@ -63,39 +63,47 @@ fn resume_in(
 
 // places NAME STRIP RESULTS DEEPEST IMAGE: the image at every place and with every depth up to the deepest. The line has those that are good.
 pub(crate) fn places(line: &[u8]) {
-    let mut strip = [0u8; ROOM];
+    let mut strip = [0u8; SHORT];
     let n = bytes_in(line, 2, &mut strip);
+    let mut mem = [0u8; 16];
+    let mut results = [0xEEu8; 128];
+    let r = length_in(line, 3, &results);
+    let mut image = [0u8; BUFFER];
+    let i = bytes_in(line, 5, &mut image);
     name(line);
-    let mut place = 0;
-    while place < n {
-        depths(line, place);
-        place += 1;
-    }
-    depths(line, place);
+    every_place(
+        line,
+        &strip[..n],
+        &mut mem,
+        &mut results[..r],
+        &mut image[..i],
+    );
     end_line();
 }
 
-fn depths(line: &[u8], place: usize) {
+fn every_place(line: &[u8], strip: &[u8], mem: &mut [u8], results: &mut [u8], image: &mut [u8]) {
+    let mut place = 0;
+    while place <= strip.len() {
+        put(image, 5, place);
+        put(image, 6, place / 256);
+        every_depth(line, strip, mem, results, image);
+        place += 1;
+    }
+}
+
+fn every_depth(line: &[u8], strip: &[u8], mem: &mut [u8], results: &mut [u8], image: &mut [u8]) {
     let deepest = number_in(line, 4);
     let mut depth = 0;
     while depth <= deepest {
-        at_place(line, place, depth);
+        at_depth(depth, strip, mem, results, image);
         depth += 1;
     }
 }
 
-fn at_place(line: &[u8], place: usize, depth: usize) {
-    let mut image = [0u8; BUFFER];
-    let i = bytes_in(line, 5, &mut image);
-    at_place_in(line, place, depth, &mut image[..i]);
-}
-
-fn at_place_in(line: &[u8], place: usize, depth: usize, image: &mut [u8]) {
-    put(image, 5, place);
-    put(image, 6, place / 256);
+fn at_depth(depth: usize, strip: &[u8], mem: &mut [u8], results: &mut [u8], image: &mut [u8]) {
     put(image, 9, depth);
-    let a = zero_slice(line, image);
-    if a.code != IMAGE {
+    let a = zero_slice(strip, mem, results, image);
+    if a.code != card::IMAGE {
         decimal(a.place as u64);
         io::write_all(STDOUT_FILENO, b":");
         io::print_decimal(STDOUT_FILENO, depth as u64);
@@ -111,29 +119,46 @@ fn put(image: &mut [u8], at: usize, n: usize) {
 
 // bytes NAME STRIP RESULTS FLIP IMAGE: the image with every byte flipped so. The line has the bytes that may be.
 pub(crate) fn bytes(line: &[u8]) {
+    let mut strip = [0u8; SHORT];
+    let n = bytes_in(line, 2, &mut strip);
+    let mut mem = [0u8; 16];
+    let mut results = [0xEEu8; 128];
+    let r = length_in(line, 3, &results);
     let mut image = [0u8; BUFFER];
-    let n = bytes_in(line, 5, &mut image);
+    let i = bytes_in(line, 5, &mut image);
     let flip = number_in(line, 4);
     name(line);
     decimal(flip as u64);
-    let mut at = 0;
-    while at < n {
-        flipped(line, at, flip);
-        at += 1;
-    }
+    every_byte(
+        (flip % 256) as u8,
+        &strip[..n],
+        &mut mem,
+        &mut results[..r],
+        &mut image[..i],
+    );
     end_line();
 }
 
-fn flipped(line: &[u8], at: usize, flip: usize) {
-    let mut image = [0u8; BUFFER];
-    let i = bytes_in(line, 5, &mut image);
-    flipped_in(line, at, (flip % 256) as u8, &mut image[..i]);
+fn every_byte(flip: u8, strip: &[u8], mem: &mut [u8], results: &mut [u8], image: &mut [u8]) {
+    let mut at = 0;
+    while at < image.len() {
+        flipped(at, flip, strip, mem, results, image);
+        at += 1;
+    }
 }
 
-fn flipped_in(line: &[u8], at: usize, flip: u8, image: &mut [u8]) {
+fn flipped(
+    at: usize,
+    flip: u8,
+    strip: &[u8],
+    mem: &mut [u8],
+    results: &mut [u8],
+    image: &mut [u8],
+) {
     flip_at(image, at, flip);
-    let a = zero_slice(line, image);
-    if a.code != IMAGE {
+    let a = zero_slice(strip, mem, results, image);
+    flip_at(image, at, flip);
+    if a.code != card::IMAGE {
         decimal(at as u64);
         code_but_budget(a.code);
     }
@@ -152,18 +177,8 @@ fn code_but_budget(code: u8) {
     }
 }
 
-// A resume of no steps with a memory of sixteen bytes: whether it is turned away or not, all that is lent stays as it was.
-fn zero_slice(line: &[u8], image: &mut [u8]) -> Answer {
-    let mut strip = [0u8; ROOM];
-    let n = bytes_in(line, 2, &mut strip);
-    let mut mem = [0u8; 16];
-    let mut results = [0xEEu8; 128];
-    let r = length_in(line, 3, &results);
-    zero_slice_in(&strip[..n], &mut mem, &mut results[..r], image)
-}
-
-fn zero_slice_in(strip: &[u8], mem: &mut [u8], results: &mut [u8], image: &mut [u8]) -> Answer {
-    fill(mem);
+// A resume of no steps: whether it is turned away or not, all that is lent stays as it was.
+fn zero_slice(strip: &[u8], mem: &mut [u8], results: &mut [u8], image: &mut [u8]) -> Answer {
     let before = digest::of_lent(digest::EMPTY, mem, results, image);
     let a = strip::resume(strip, mem, results, image, 0);
     if digest::of_lent(digest::EMPTY, mem, results, image) != before {
