@@ -48,12 +48,13 @@ static inline int formed(const uint8_t *slots, const uint8_t *kinds, size_t coun
     return 1;
 }
 
-static inline int all_zero(const uint8_t *bytes, const uint8_t *end)
+/* All are looked at, so that a compiler takes many at a time. */
+static inline int all_zero(const uint8_t *bytes, size_t count)
 {
-    while (bytes < end)
-        if (*bytes++)
-            return 0;
-    return 1;
+    uint8_t any = 0;
+    for (size_t i = 0; i < count; i++)
+        any |= bytes[i];
+    return !any;
 }
 
 /* All but code 25 has been asked. */
@@ -61,9 +62,9 @@ static inline int shows(const uint8_t *image, const uint8_t *s, const struct sur
 {
     const size_t locals = s[5] + s[6];
     return !memcmp(image, "WGS\1\0", PLACE_AT) && survey->known && number_at(image, DEPTH_AT, 2) == survey->depth
-        && formed(image + LOCALS_AT, s + 8, locals) && all_zero(image + LOCALS_AT + SLOT * locals, image + STACK_AT)
+        && formed(image + LOCALS_AT, s + 8, locals) && all_zero(image + LOCALS_AT + SLOT * locals, STACK_AT - LOCALS_AT - SLOT * locals)
         && formed(image + STACK_AT, survey->kinds, survey->depth)
-        && all_zero(image + STACK_AT + SLOT * survey->depth, image + IMAGE_BYTES);
+        && all_zero(image + STACK_AT + SLOT * survey->depth, SLOT * (STACK_MOST - survey->depth));
 }
 
 /* What is over the stack's depth is not the strip's any more. */
