@@ -77,11 +77,6 @@ struct doors {
     uint64_t (*resume)(const uint8_t *, size_t, uint8_t *, size_t, uint8_t *, size_t, uint8_t *, size_t, uint32_t);
 };
 
-static uint64_t run_once(const struct doors *d, const struct strip *s, struct lent *x, uint32_t budget)
-{
-    return d->run(s->bytes, s->len, x->args, x->args_len, x->memory, x->memory_len, x->results, x->results_len, budget);
-}
-
 static uint64_t start(const struct doors *d, const struct strip *s, struct lent *x, uint32_t budget)
 {
     return d->start(s->bytes, s->len, x->args, x->args_len, x->memory, x->memory_len, x->results, x->results_len, x->image, x->image_len,
@@ -101,12 +96,6 @@ static unsigned code_of(uint64_t a)
 static uint32_t steps_of(uint64_t a)
 {
     return a >> 32;
-}
-
-/* One slice more, if the budget ended the last: code and place are the last slice's, steps those of all. */
-static uint64_t resume_after(uint64_t sum, const struct doors *d, const struct strip *s, struct lent *x, uint32_t budget)
-{
-    return code_of(sum) != BUDGET ? sum : resume(d, s, x, budget) + ((uint64_t)steps_of(sum) << 32);
 }
 
 /* One to three changes, by chance, to an image, or to the room or the memory that is lent with it; some of them leave it good. */
@@ -143,8 +132,8 @@ static void damage(const struct strip *s, struct lent *x)
         case 22:
             if (below(2))
                 x->results_len = SLOT * below(5);
-            else if (!below(8))
-                x->memory_len = MEMORY_MOST + 1;
+            else
+                x->memory_len = below(8) ? below(x->memory_len + 1) : MEMORY_MOST + 1;
             break;
         default: /* of no use to the strip */
             x->image[IMAGE_BYTES + below(IMAGE_ROOM - IMAGE_BYTES)] ^= 1;

@@ -22,6 +22,17 @@ static void differs(const char *what, const struct strip *s, unsigned a, unsigne
     printf("\n");
 }
 
+static uint64_t run_once(const struct doors *d, const struct strip *s, struct lent *x, uint32_t budget)
+{
+    return d->run(s->bytes, s->len, x->args, x->args_len, x->memory, x->memory_len, x->results, x->results_len, budget);
+}
+
+/* One slice more, if the budget ended the last: code and place are the last slice's, steps those of all. */
+static uint64_t resume_after(uint64_t sum, const struct doors *d, const struct strip *s, struct lent *x, uint32_t budget)
+{
+    return code_of(sum) != BUDGET ? sum : resume(d, s, x, budget) + ((uint64_t)steps_of(sum) << 32);
+}
+
 /* --- slices ------------------------------------------------------------------------------------------------------- */
 
 /* After every budget: what one run answers and leaves, and the image of one slice. */
@@ -188,7 +199,7 @@ static void some_damage(const struct strip *s, unsigned most)
             continue;
         copy(&y, &after[k]);
         damage(s, &y);
-        if (y.image_len < IMAGE_BYTES || y.results_len != after[k].results_len || MEMORY_MOST < y.memory_len)
+        if (y.image_len < IMAGE_BYTES || y.results_len != after[k].results_len || y.memory_len != after[k].memory_len)
             continue;
         judged(s, &y);
     }
