@@ -52,7 +52,8 @@ noted-keeps bodies (b ∷ bs) at v l d =
 -- the blocks around the next place: one more, which begins there; or those that were, or all of them but the innermost
 data After (s : List ℕ) (h : Header) (q : ℕ) (bs : List ℕ) (fs : List Frame) : Type 0 where
   inside : Around s h q (q ∷ bs) → length fs ≡ suc (suc (length bs)) → After s h q bs fs
-  outside : {cs : List ℕ} → Around s h q cs → length fs ≡ suc (length cs) → length cs ≤ length bs → ((bodies : List ℕ) → Noted bodies bs → Noted bodies cs) → After s h q bs fs
+  outside : {cs : List ℕ} → Around s h q cs → length fs ≡ suc (length cs) → length cs ≤ length bs
+      → ((bodies : List ℕ) → Noted bodies bs → Noted bodies cs) → After s h q bs fs
 
 around-next : {s : List ℕ} {h : Header} {p n : ℕ} {bs : List ℕ} {i : Instr} {c : Code} {fs fs′ : List Frame} → Around s h p bs → length fs ≡ suc (length bs)
     → Reads (h .version) s p i c n → Types (locals h) i c fs fs′ → After s h (p + n) bs fs′

@@ -66,7 +66,8 @@ counted {h = h} d =
     record { declares = d; version-is = sym v; locals-are = omega (arith, p, l, length-append (h .parameters) (h .further)); results-are = sym r }
 
 -- what the header tells for all instructions, with what the strip's own `end` takes
-pub set-by : {s : List ℕ} {v n r takes : ℕ} {h : Header} → Counts s v n r h → (takes < 2 ^ 32) × ((ks : List Kind) → KindBytes (drop (8 + n) s) r ks → topFirst ks ≡ takes)
+pub set-by : {s : List ℕ} {v n r takes : ℕ} {h : Header} → Counts s v n r h
+    → (takes < 2 ^ 32) × ((ks : List Kind) → KindBytes (drop (8 + n) s) r ks → topFirst ks ≡ takes)
     → Setting s v n takes h
 set-by {h = h} k t =
     record {

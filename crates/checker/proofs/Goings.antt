@@ -1,5 +1,5 @@
 -- The instructions, one after the other.
-use Prim.Native.Nat.{ℕ, _+_, _≤_, _<_, _^_}
+use Prim.Native.Nat.{ℕ, _+_, _≤_, _<_}
 use mathlib.Core.Path.{_≡_, refl, sym, ap, subst, _∙_}
 use mathlib.Core.Bool.{Bool, true, false, _&&_}
 use mathlib.Core.List.{List, [], _∷_}
@@ -8,7 +8,7 @@ use native.Mathlib.Nat.{pos-of-ne-zero, eq-or-lt-of-le}
 use native.Mathlib.Omega.{arith}
 use borrow.Author.Tests.{eqb-true, eqb-false, eq-eqb}
 use lib.Dec.{eqb}
-use lib.ListN.{length, drop, length-append}
+use lib.ListN.{length, length-append}
 use Rattle.card.specs.Card.{DONE}
 use Rattle.limits.specs.Limits.{fileLimit, stackLimit, nestLimit}
 use Rattle.leb128.specs.Bytes.{bytes}
@@ -28,15 +28,14 @@ use Rattle.instr.specs.Decode.{decodeAt, decodeIn}
 use Rattle.instr.specs.Scan.{scanOf}
 use Rattle.instr.proofs.Stands.{decoded-stands}
 use Rattle.instr.proofs.Ranges.{stands-some, stands-inside}
-use Rattle.rules.specs.Header.{Header, Declares, locals, kinds}
+use Rattle.rules.specs.Header.{Header, locals}
 use Rattle.rules.specs.Typing.{Frame, opened, allValues, Types, Opens, block-opens, loop-opens}
 use Rattle.rules.specs.Strip.{Reads, Reaches, front, past}
 use Rattle.rules.specs.Breach.{At, Breach, local, nest, label, operand, deep, result}
 use Rattle.rules.proofs.Headers.{decodes-known}
 use Rattle.checker.specs.declared.turns.State.{State}
-use Rattle.checker.specs.Walk.{KindBytes, OpenBlocks, strip, block, Framed, outset}
+use Rattle.checker.specs.Walk.{OpenBlocks, strip, block, Framed, outset}
 use Rattle.checker.specs.Inner.Stack.{Top}
-use Rattle.checker.specs.Inner.Blocks.{topFirst}
 use Rattle.checker.specs.Inner.Judging.{Judges, no-local, too-nested, no-label, untyped, no-results, too-deep, typed, Faces, AtTurn}
 use Rattle.checker.specs.Inner.Parts.{AtEnd}
 use Rattle.checker.specs.Inner.Going.{Begins, Going}

@@ -2,6 +2,7 @@
 pub mod Exact
 pub mod Unique
 pub mod Starts
+pub mod Surveys
 -- What these and the functions' proofs lean on.
 pub mod Held
 pub mod Operands
@@ -29,4 +30,4 @@ pub mod Walking
 pub mod Known
 pub mod Marks
 pub mod Comings
-pub mod Surveys
+pub mod Findings

@@ -35,7 +35,8 @@ module _ {loop : Bool} (type : ℕ) (is : isBlockType type ≡ true) (e : loop �
   way-one f = sym (way-block ∙ ap (λ (b : Bool). cond b 0 1) (ne-eqb r 0 f))
 
 -- the innermost block's word, of frames that the stack holds
-module _ {rs : List Kind} {blocks : List ℕ} {nest floor : ℕ} {dead : Bool} {fs : List Frame} (small : length (allValues fs) ≤ stackLimit) (d : Closing rs blocks nest floor dead fs) where
+module _ {rs : List Kind} {blocks : List ℕ} {nest floor : ℕ} {dead : Bool} {fs : List Frame}
+    (small : length (allValues fs) ≤ stackLimit) (d : Closing rs blocks nest floor dead fs) where
   outer-small : length (allValues (d .next ∷ d .rest)) ≤ stackLimit
   outer-small =
       omega (
@@ -235,7 +236,8 @@ module _ {rs : List Kind} {blocks bodies : List ℕ} {k height : ℕ} {marks who
               many = many;
               noted = d .1;
               same =
-                  sym (fronted-three (marksOf (c .next ∷ c .rest) bs) height x (getD bodies (k - 1) 0) marks (3 * (k - 1)) (marks-many (c .next ∷ c .rest) bs (nested-many (c .around) ∙ ap suc (sym many)) ∙ ap (λ (j : ℕ). 3 * j) many)
+                  sym (fronted-three (marksOf (c .next ∷ c .rest) bs) height x (getD bodies (k - 1) 0) marks (3 * (k - 1))
+                  (marks-many (c .next ∷ c .rest) bs (nested-many (c .around) ∙ ap suc (sym many)) ∙ ap (λ (j : ℕ). 3 * j) many)
                   (omega (arith, some, most, long)))
                   ∙ ap (λ (l : List ℕ). fronted (marksOf (c .next ∷ c .rest) bs ++ l) marks) three ∙ e;
             }

@@ -1,29 +1,24 @@
 -- What a survey says: of the strip what the check says; and where it finds the place, what is known there, in one form.
 use Prim.Native.Nat.{ℕ, suc, _+_, _*_}
 use mathlib.Core.Path.{_≡_, refl, sym, ap, ap₂, subst, _∙_}
-use mathlib.Core.Bool.{Bool, true, false}
+use mathlib.Core.Bool.{true, false}
 use mathlib.Core.List.{List, [], _∷_, _++_, map, append-assoc}
 use native.Mathlib.Omega.{arith}
-use lib.ListN.{length, getD, take, length-append}
+use lib.ListN.{length, getD}
 use lib.Seq.{getD-append-add}
-use Rattle.card.specs.Card.{DONE}
 use Rattle.opcode.specs.Kind.{kindByte}
 use Rattle.rules.specs.Header.{Header}
 use Rattle.rules.specs.Typing.{Frame, allValues, Live}
 use Rattle.rules.specs.Strip.{Reaches, Valid}
 use Rattle.rules.specs.Around.{Around}
-use Rattle.rules.specs.Breach.{Breach, Says, valid, breach}
+use Rattle.rules.specs.Breach.{Says, valid, breach}
 use Rattle.rules.proofs.Headers.{declares-once}
 use Rattle.rules.proofs.Onward.{declared, reached-once}
 use Rattle.rules.proofs.Arounds.{Begun, strip, block, around-once, around-reached}
-use Rattle.rules.proofs.Verdicts.{one-breach, says-once, valid-no-breach}
+use Rattle.rules.proofs.Verdicts.{one-breach, valid-no-breach}
 use Rattle.checker.specs.declared.place.Surveyed.{Surveyed}
-use Rattle.checker.specs.Survey.{way, marksOf, fronted, missed, Surveys, breaks, misses, finds}
-use Rattle.checker.specs.Inner.Reach.{Coming, TellsDead}
-use Rattle.checker.proofs.Held.{held-front}
+use Rattle.checker.specs.Survey.{way, marksOf, fronted, missed, found, Surveys, breaks, misses, finds}
 use Rattle.checker.proofs.Marks.{marks-many}
-
--- ---- for those who call
 
 -- where the place is found: the frames and the blocks there, in the answer and in both arrays
 pub record Found (s : List ℕ) (at : ℕ) (kinds marks : List ℕ) (r : Surveyed) (kinds′ marks′ : List ℕ) : Type 0 where
@@ -78,7 +73,8 @@ module _ {s : List ℕ} {at : ℕ} {kinds marks : List ℕ} where
   survey-keeps (finds v x l a) e = absurd (let z : _≡_ {A = ℕ} 0 1 = cc in omega arith)
 
   -- and in a strip that keeps every rule no instruction stands there in live code
-  pub survey-nowhere : {r : Surveyed} {kinds′ marks′ : List ℕ} → Surveys s at kinds marks r kinds′ marks′ → r .found ≡ false → (v : Valid s) (fs : List Frame) → Reaches s (v .header) at fs → Live fs → ⊥
+  pub survey-nowhere : {r : Surveyed} {kinds′ marks′ : List ℕ} → Surveys s at kinds marks r kinds′ marks′ → r .found ≡ false → (v : Valid s) (fs : List Frame)
+      → Reaches s (v .header) at fs → Live fs → ⊥
   survey-nowhere (breaks b) e v fs x l = valid-no-breach v b
   survey-nowhere (misses w f) e v fs x l =
       f fs (subst (λ (h : Header). Reaches s h at fs) (declares-once s (v .header) (w .header) (declared (v .reached)) (declared (w .reached))) x) l
@@ -100,7 +96,7 @@ module _ {s : List ℕ} {at : ℕ} {kinds marks : List ℕ} where
       let blocks : bs ≡ cs = around-once a (subst (λ (h : Header). Around s h at cs) header b) in (
         ap (λ (z : List Frame). fronted (map kindByte (allValues z)) kinds) frames,
         ap₂ (λ (z : List Frame) (c : List ℕ). fronted (marksOf z c) marks) frames blocks,
-        ap₂ (λ (z : List Frame) (c : List ℕ). record { code = DONE; place = 0; found = true; depth = length (allValues z); nest = length c }) frames blocks,
+        ap₂ (λ (z : List Frame) (c : List ℕ). found (length (allValues z)) (length c)) frames blocks,
       )
 
 -- the marks of the innermost block stand after those of the others
@@ -113,39 +109,3 @@ module _ (f : Frame) (fs : List Frame) (b : ℕ) (bs rest : List ℕ) where
   marks-inner e j =
       ap₂ (λ (l : List ℕ) (n : ℕ). getD l (n + j) 0) marks-outer (sym (marks-many fs bs e))
       ∙ getD-append-add (marksOf fs bs) (length (allValues fs) ∷ way (f .loop) (f .results) ∷ b ∷ rest) j 0
-
--- ---- the function
-
-module _ {s : List ℕ} {at : ℕ} {kinds marks : List ℕ} {r : Surveyed} where
-  pub not-found : {c p : ℕ} → r ≡ missed c p → Says s c p → ((v : Valid s) (fs : List Frame) → Reaches s (v .header) at fs → Live fs → ⊥) → Surveys s at kinds marks r kinds marks
-  not-found e (valid v) f = subst (λ (x : Surveyed). Surveys s at kinds marks x kinds marks) (sym e) (misses v (f v))
-  not-found e (breach b) f = subst (λ (x : Surveyed). Surveys s at kinds marks x kinds marks) (sym e) (breaks b)
-
-  pub refused-before : {c p : ℕ} → r ≡ missed c p → Breach s c p → Surveys s at kinds marks r kinds marks
-  refused-before e b = not-found e (breach b) (λ v fs x l. valid-no-breach v b)
-
-  pub refused-after : {c p : ℕ} → r ≡ missed c p → Says s c p → (c ≡ DONE → ⊥) → Surveys s at kinds marks r kinds marks
-  refused-after e x z = not-found e x (λ v fs y l. z (says-once x (valid v) .0))
-
-module _ {s : List ℕ} {v n takes : ℕ} {kinds blocks bodies : List ℕ} {depth nest floor : ℕ} {dead : Bool} {at : ℕ}
-    (w : Coming s v n takes kinds blocks bodies depth nest floor dead at) where
-  same-header : (k : Valid s) → w .going .header ≡ k .header
-  same-header k = declares-once s (w .going .header) (k .header) (w .going .setting .declares) (declared (k .reached))
-
-  its-reached : (k : Valid s) → Reaches s (k .header) at (w .going .frames)
-  its-reached k = subst (λ (h : Header). Reaches s h at (w .going .frames)) (same-header k) (w .going .reached)
-
-  pub nowhere-live : {r : Bool} → TellsDead (w .going .frames) r → r ≡ true → (k : Valid s) (fs : List Frame) → Reaches s (k .header) at fs → Live fs → ⊥
-  nowhere-live l e k fs x live = l .dead e (subst Live (reached-once x (its-reached k)) live)
-
-  pub found-here : (k : Valid s) → Live (w .going .frames) → {kinds′ marks′ old marks : List ℕ} → kinds′ ≡ fronted (take depth kinds) old
-      → marks′ ≡ fronted (marksOf (w .going .frames) (w .begun)) marks
-      → Surveys s at old marks (record { code = DONE; place = 0; found = true; depth = depth; nest = nest }) kinds′ marks′
-  found-here k live {kinds′} {marks′} {old} {marks} ek em =
-      subst (λ (x : ℕ). Surveys s at old marks (record { code = DONE; place = 0; found = true; depth = x; nest = nest }) kinds′ marks′) (w .going .framed .holds .many)
-      (subst (λ (x : ℕ). Surveys s at old marks (record { code = DONE; place = 0; found = true; depth = length (allValues (w .going .frames)); nest = x }) kinds′ marks′) (w .many)
-      (subst (λ (x : List ℕ). Surveys s at old marks (record { code = DONE; place = 0; found = true; depth = length (allValues (w .going .frames)); nest = length (w .begun) }) x marks′)
-      (sym (ek ∙ ap (λ (x : List ℕ). fronted x old) (held-front (w .going .framed .holds))))
-      (subst (Surveys s at old marks (record { code = DONE; place = 0; found = true; depth = length (allValues (w .going .frames)); nest = length (w .begun) })
-      (fronted (map kindByte (allValues (w .going .frames))) old)) (sym em)
-      (finds k (its-reached k) live (subst (λ (h : Header). Around s h at (w .begun)) (same-header k) (w .around))))))

@@ -1,4 +1,5 @@
--- What the check promises leaves one answer: code, place and steps; and a step of its walk one state and one content of both arrays.
+-- What the check promises leaves one answer: code, place and steps; and a step of its walk one state and one content of both arrays, as a survey one
+-- answer and one content of both arrays.
 use Prim.Native.Nat.{ℕ}
 use mathlib.Core.Path.{_≡_, sym, ap, ap₂, _∙_}
 use mathlib.Core.List.{List}
@@ -7,11 +8,14 @@ use Rattle.card.specs.declared.Answer.{Answer}
 use Rattle.rules.proofs.Verdicts.{says-once}
 use Rattle.checker.specs.Check.{Checked}
 use Rattle.checker.specs.declared.turns.State.{State}
+use Rattle.checker.specs.declared.place.Surveyed.{Surveyed}
 use Rattle.checker.proofs.Known.{steps-once}
+use Rattle.checker.proofs.Surveys.{survey-once}
 use Rattle.checker.proofs.check.Reads as check
 use Rattle.checker.proofs.start.Reads as start
 use Rattle.checker.proofs.walk.outset.Reads as outset
 use Rattle.checker.proofs.walk.follow.Reads as follow
+use Rattle.checker.proofs.place.survey.Reads as survey
 
 abbrev answer : ℕ → ℕ → ℕ → Answer
 answer c p n = record { code = c; place = p; steps = n }
@@ -34,3 +38,7 @@ one-outset κs a e e′ r r′ p q = p ∙ sym q
 pub one-follow : (κs : _) (a : _) (e e′ : _) (r r′ : State) → follow.Post κs a r e → follow.Post κs a r′ e′
     → (now (e .1 .1 .1 .0) ≡ now (e′ .1 .1 .1 .0)) × (now (e .1 .1 .1 .1 .0) ≡ now (e′ .1 .1 .1 .1 .0)) × (r ≡ r′)
 one-follow κs a e e′ r r′ p q = steps-once p q
+
+pub one-survey : (κs : _) (a : _) (e e′ : _) (r r′ : Surveyed) → survey.Post κs a r e → survey.Post κs a r′ e′
+    → (now (e .1 .1 .0) ≡ now (e′ .1 .1 .0)) × (now (e .1 .1 .1 .0) ≡ now (e′ .1 .1 .1 .0)) × (r ≡ r′)
+one-survey κs a e e′ r r′ p q = survey-once p q

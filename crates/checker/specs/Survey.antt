@@ -6,7 +6,6 @@ use mathlib.Core.List.{List, [], _∷_, _++_, map}
 use lib.ListN.{length, drop}
 use Rattle.card.specs.Card.{DONE}
 use Rattle.opcode.specs.Kind.{Kind, kindByte}
-use Rattle.rules.specs.Header.{Header}
 use Rattle.rules.specs.Typing.{Frame, allValues, Live}
 use Rattle.rules.specs.Strip.{Reaches, Valid}
 use Rattle.rules.specs.Around.{Around}
@@ -34,11 +33,13 @@ fronted xs old = xs ++ drop (length xs) old
 abbrev pub missed : ℕ → ℕ → Surveyed
 missed c p = record { code = c; place = p; found = false; depth = 0; nest = 0 }
 
+abbrev pub found : ℕ → ℕ → Surveyed
+found d n = record { code = DONE; place = 0; found = true; depth = d; nest = n }
+
 -- a strip that breaks a rule; or that keeps them all: an instruction of it stands at the place, in no dead code, with what is known there; or none does
 module _ (s : List ℕ) (at : ℕ) (kinds marks : List ℕ) where
   pub data Surveys : Surveyed → List ℕ → List ℕ → Type 0 where
     breaks : {c p : ℕ} → Breach s c p → Surveys (missed c p) kinds marks
     misses : (v : Valid s) → ((fs : List Frame) → Reaches s (v .header) at fs → Live fs → ⊥) → Surveys (missed DONE 0) kinds marks
     finds : (v : Valid s) {fs : List Frame} {bs : List ℕ} → Reaches s (v .header) at fs → Live fs → Around s (v .header) at bs
-        → Surveys (record { code = DONE; place = 0; found = true; depth = length (allValues fs); nest = length bs })
-          (fronted (map kindByte (allValues fs)) kinds) (fronted (marksOf fs bs) marks)
+        → Surveys (found (length (allValues fs)) (length bs)) (fronted (map kindByte (allValues fs)) kinds) (fronted (marksOf fs bs) marks)

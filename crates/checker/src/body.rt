@@ -1,4 +1,4 @@
-// The instructions, one after the other, from a start on, with the kinds of locals and results in the strip's bytes from 8 on.
+// The instructions, one after the other, from a place on, with what is known there; the kinds of the locals stand in the strip's bytes from 8 on.
 ghost use mathlib.Core.Path.{_≡_};
 ghost use mathlib.Core.Bool.{_&&_};
 ghost use lib.Dec.{eqb};

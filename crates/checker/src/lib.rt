@@ -11,6 +11,7 @@ mod typing;
 mod walk;
 
 pub use place::MARKS;
+pub use place::OPEN;
 pub use place::Surveyed;
 pub use place::survey;
 pub use turns::State;

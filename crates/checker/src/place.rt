@@ -60,7 +60,16 @@ pub fn survey(
         return missed(stop.code, stop.place);
     }
     let state = stop.state;
-    let rest = body::body(strip, h.version, h.locals, h.takes, place, stack, words, state);
+    let rest = body::body(
+        strip,
+        h.version,
+        h.locals,
+        h.takes,
+        place,
+        stack,
+        words,
+        state,
+    );
     if rest.code != card::DONE {
         return missed(rest.code, rest.place);
     }
@@ -136,9 +145,10 @@ fn put_marks(
     while k != 0 {
         k -= 1;
         let w = words[k];
-        marks[3 * k + 2] = bodies[k];
-        marks[3 * k + 1] = blocks::way_in(w);
-        marks[3 * k] = height;
+        let first = 3 * k;
+        marks[first + 2] = bodies[k];
+        marks[first + 1] = blocks::way_in(w);
+        marks[first] = height;
         height = blocks::floor_in(w);
     }
 }

@@ -54,15 +54,7 @@ pub(crate) fn reach(
             return stopped(answer(d.code, d.place));
         }
         if body::is_last(d.entry, state.nest) {
-            return stopped(body::ending(
-                strip,
-                version,
-                at,
-                takes,
-                kinds,
-                state.depth,
-                state.dead,
-            ));
+            return stopped(body::ending(strip, version, at, takes, kinds, state.depth, state.dead));
         }
         let nest = state.nest;
         state = turns::turn(

@@ -31,7 +31,8 @@ use Rattle.standard.specs.Safety.{Safe}
 use Rattle.standard.proofs.Steps.{step-does}
 use Rattle.standard.proofs.Turn.{safe-step}
 use Rattle.standard.proofs.Never.{safe-unhalted}
-use Rattle.run.specs.Inner.Carried.{wayOf, LOOP, Marked, Carries, Seen, turnsAt, Leads, Led, leads-on, leads-out, Branching, Branched}
+use Rattle.checker.specs.Survey.{LOOP}
+use Rattle.run.specs.Inner.Carried.{wayOf, Marked, Carries, Seen, turnsAt, Leads, Led, leads-on, leads-out, Branching, Branched}
 use Rattle.run.proofs.HeaderBytes.{version-read}
 use Rattle.run.proofs.Marking.{count-under, rep-under, rep-same, part-bytes, marked-more, unhalted, unhalted-if}
 use Rattle.run.proofs.Leading.{sound-of, ended-many}

@@ -27,7 +27,8 @@ use Rattle.standard.proofs.Finishing.{out-of}
 use Rattle.standard.proofs.Unwinding.{Left, finds-end}
 use Rattle.run.specs.Inner.Ends.{Closable}
 use Rattle.run.proofs.Places.{late, early}
-use Rattle.run.specs.Inner.Carried.{wayOf, LOOP, Leads, Led, leads-on, leads-out}
+use Rattle.checker.specs.Survey.{LOOP}
+use Rattle.run.specs.Inner.Carried.{wayOf, Leads, Led, leads-on, leads-out}
 use Rattle.run.proofs.HeaderBytes.{version-read, result-count, Counts, counts-read}
 use Rattle.run.proofs.Marking.{count-under, rep-under, rep-same, part-bytes, unhalted, unhalted-if, nested-few, targets, Target, target}
 

@@ -22,3 +22,5 @@ pub mod Unique
 pub mod Exponents
 pub mod Slicing
 pub mod Answering
+pub mod Restoring
+pub mod Surveying

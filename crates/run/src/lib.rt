@@ -3,8 +3,10 @@ mod arguments;
 mod blocks;
 mod ends;
 mod questions;
+mod resuming;
 mod running;
 
+pub use resuming::resume;
 ghost use mathlib.Core.Path.{_≡_};
 ghost use mathlib.Core.Option.{none, some};
 ghost use Rattle.run.specs.Meter.{leaves};
@@ -29,9 +31,9 @@ pub(crate) struct Labels {
     pub marks: [usize; MARKS],
 }
 
-pub(crate) const OPEN: usize = 3 * limits::NEST;
+pub(crate) const MARKS: usize = checker::MARKS;
 
-pub(crate) const MARKS: usize = OPEN + 1;
+pub(crate) const OPEN: usize = MARKS - 1;
 
 // The ends of blocks that a branch has looked for.
 pub(crate) struct Closings {

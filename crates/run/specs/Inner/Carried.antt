@@ -1,7 +1,7 @@
 -- Inner: how the code holds a configuration of the standard's machine: one flat stack, whatever labels stand in it, and three numbers for each label.
 use Prim.Native.Nat.{ℕ, _+_, _*_, _≤_}
 use mathlib.Core.Path.{_≡_}
-use mathlib.Core.Bool.{Bool, true, cond, _||_}
+use mathlib.Core.Bool.{Bool, true, _||_}
 use mathlib.Core.List.{List, [], _∷_, _++_}
 use lib.Dec.{eqb, ltb}
 use lib.ListN.{length, getD}
@@ -16,18 +16,16 @@ use Rattle.machine.specs.Inner.Rep.{Rep}
 use Rattle.rules.specs.Header.{Header}
 use Rattle.rules.specs.Strip.{Reads, Valid}
 use Rattle.rules.specs.Typing.{Frame}
+use Rattle.checker.specs.Survey.{way}
 use Rattle.standard.specs.Standard.{Label, Config, Stage, going, ended, withStack, countUnder, underAll, wholeStack, branch}
 use Rattle.standard.specs.Safety.{Nested, Sound, Safe}
 use Rattle.run.specs.Run.{Slots}
 
 -- ---- labels
 
--- a loop, or how many values a branch to a block takes along
-abbrev pub LOOP : ℕ
-LOOP = 2
-
+-- what a branch to it does
 abbrev pub wayOf : Label → ℕ
-wayOf l = cond (l .loop) LOOP (length (l .results))
+wayOf l = way (l .loop) (l .results)
 
 -- of each label, the outermost first: how many values are under it, its way, and where its body begins
 abbrev pub Marked : List Label → List ℕ → Type 0

@@ -1,3 +1,4 @@
+-- Each open block's word says whether the code around it is dead.
 use Prim.Native.Nat.{ℕ, _≤_}
 use mathlib.Core.Path.{refl}
 use mathlib.Core.List.{List}
@@ -12,53 +13,46 @@ use Rattle.checker.specs.Walk.{OpenBlocks}
 use Rattle.checker.proofs.Marks.{tells-live, tells-dead, Outward, outward, dead-inner, all-live, one-dead, one-outward}
 use Rattle.checker.proofs.place.is_dead.Statement.{statement}
 use Rattle.checker.proofs.place.is_dead.Tie as tie
-use Rattle.checker.proofs.place.is_dead.Reads as reads
-use Rattle.checker.proofs.place.is_dead.Lts as lts
-use Rattle.checker.proofs.blocks.dead_in.Reads as dead-in-reads
 
 abbrev Inv-loop : tie.InvT-loop
-Inv-loop words nest dead k₀ k = (k ≤ nest) × ((rs : List Kind) (fs : List Frame) (floor : ℕ) → OpenBlocks rs words nest floor dead fs → length (allValues fs) ≤ stackLimit → Outward rs words k fs)
+Inv-loop words nest dead k₀ k =
+    (k ≤ nest) × ((rs : List Kind) (fs : List Frame) (floor : ℕ) → OpenBlocks rs words nest floor dead fs → length (allValues fs) ≤ stackLimit → Outward rs words k fs)
 
 abbrev μ-loop : tie.MeasureT-loop
 μ-loop words nest dead k₀ k = k
 
--- src/place.rt:99:9
 returns : tie.Need-returns Inv-loop μ-loop
 returns c = λ rs fs floor n l. tells-dead refl (dead-inner (c .if1 .taken) n)
 
--- src/place.rt:102:5
 loop-holds : tie.Need-loop-holds Inv-loop μ-loop
 loop-holds c = (search needs, λ rs fs floor n l. outward (c .if1 .left) n l)
 
--- src/place.rt:103:9
 sub-k : tie.Need-sub-k Inv-loop μ-loop
 sub-k c = omega (arith, pos-of-ne-zero (c .loop-test .taken))
 
--- src/place.rt:104:28
 mul-dead-in : tie.Need-mul-dead-in Inv-loop μ-loop
 mul-dead-in c = omega (arith, pos-of-ne-zero (c .loop-test .taken))
 
--- src/place.rt:104:28
 element-copy-out-dead-in : tie.Need-element-copy-out-dead-in Inv-loop μ-loop
 element-copy-out-dead-in c = omega (arith, pos-of-ne-zero (c .loop-test .taken))
 
--- src/place.rt:104:12
 dead-in-requires : tie.Need-dead-in-requires Inv-loop μ-loop
 dead-in-requires c κs = search needs
 
--- src/place.rt:105:13
 returns-2 : tie.Need-returns-2 Inv-loop μ-loop
-returns-2 c = λ rs fs floor n l. tells-dead refl (one-dead (c .before .before .before .before .loop .inv .1 rs fs floor n l) (pos-of-ne-zero (c .before .before .before .loop-test .taken)) (c .before .dead-in .ensures) (c .if2 .taken))
+returns-2 c = λ rs fs floor n l. tells-dead refl (one-dead (c .before .before .before .before .loop .inv .1 rs fs floor n l)
+    (pos-of-ne-zero (c .before .before .before .loop-test .taken)) (c .before .dead-in .ensures) (c .if2 .taken))
 
--- src/place.rt:102:5
 loop-less : tie.Need-loop-less Inv-loop μ-loop
 loop-less c = omega (arith, pos-of-ne-zero (c .before .before .before .loop-test .taken))
 
--- src/place.rt:102:5
 loop-again : tie.Need-loop-again Inv-loop μ-loop
-loop-again c = (omega arith, λ rs fs floor n l. one-outward (c .before .before .before .before .loop .inv .1 rs fs floor n l) (pos-of-ne-zero (c .before .before .before .loop-test .taken)) (c .before .dead-in .ensures) (c .if2 .left))
+loop-again c = (
+  omega arith,
+  λ rs fs floor n l. one-outward (c .before .before .before .before .loop .inv .1 rs fs floor n l)
+      (pos-of-ne-zero (c .before .before .before .loop-test .taken)) (c .before .dead-in .ensures) (c .if2 .left),
+)
 
--- src/place.rt:94:1
 returns-3 : tie.Need-returns-3 Inv-loop μ-loop
 returns-3 c = λ rs fs floor n l. tells-live refl (all-live (c .before .loop .inv .1 rs fs floor n l) (c .loop-test .left))
 

@@ -1,3 +1,4 @@
+-- From the last one on.
 use Prim.Native.Nat.{ℕ, _≤_}
 use mathlib.Core.Path.{_≡_, refl, sym, _∙_}
 use native.Mathlib.Nat.{pos-of-ne-zero}
@@ -9,8 +10,6 @@ use Rattle.checker.specs.Survey.{fronted}
 use Rattle.checker.proofs.Marks.{all-kinds, one-more-kind}
 use Rattle.checker.proofs.place.put_kinds.Statement.{statement}
 use Rattle.checker.proofs.place.put_kinds.Tie as tie
-use Rattle.checker.proofs.place.put_kinds.Reads as reads
-use Rattle.checker.proofs.place.put_kinds.Lts as lts
 
 abbrev Inv-loop : tie.InvT-loop
 Inv-loop from n kinds₀ k₀ kinds k = (k ≤ n) × (length kinds ≡ stackLimit) × (fronted (take k from) kinds ≡ fronted (take n from) kinds₀)
@@ -18,35 +17,32 @@ Inv-loop from n kinds₀ k₀ kinds k = (k ≤ n) × (length kinds ≡ stackLimi
 abbrev μ-loop : tie.MeasureT-loop
 μ-loop from n kinds₀ k₀ kinds k = k
 
--- src/place.rt:117:5
 loop-holds : tie.Need-loop-holds Inv-loop μ-loop
 loop-holds c = (search needs, c .pre .2, refl)
 
--- src/place.rt:118:9
 sub-k : tie.Need-sub-k Inv-loop μ-loop
 sub-k c = omega (arith, pos-of-ne-zero (c .loop-test .taken))
 
--- src/place.rt:119:20
 element-copy-out-kinds : tie.Need-element-copy-out-kinds Inv-loop μ-loop
 element-copy-out-kinds c = omega (arith, pos-of-ne-zero (c .loop-test .taken))
 
--- src/place.rt:119:9
 slice-write-kinds : tie.Need-slice-write-kinds Inv-loop μ-loop
 slice-write-kinds c = omega (arith, pos-of-ne-zero (c .before .loop-test .taken))
 
--- src/place.rt:117:5
 loop-less : tie.Need-loop-less Inv-loop μ-loop
 loop-less c = omega (arith, pos-of-ne-zero (c .before .loop-test .taken))
 
--- src/place.rt:117:5
 loop-again : tie.Need-loop-again Inv-loop μ-loop
-loop-again c = (omega arith, simp length-set (c .before .before .loop .inv .1), one-more-kind _ _ _ (pos-of-ne-zero (c .before .loop-test .taken)) (omega arith) (omega arith) ∙ c .before .before .loop .inv .2)
+loop-again c = (
+  omega arith,
+  simp length-set (c .before .before .loop .inv .1),
+  one-more-kind _ _ _ (pos-of-ne-zero (c .before .loop-test .taken))
+      (omega arith) (omega arith) ∙ c .before .before .loop .inv .2,
+)
 
--- src/place.rt:112:1
 same-length : tie.Need-same-length Inv-loop μ-loop
 same-length c = search needs
 
--- src/place.rt:112:1
 returns : tie.Need-returns Inv-loop μ-loop
 returns c = all-kinds _ _ (c .loop-test .left) ∙ c .before .loop .inv .2
 
