@@ -1,7 +1,8 @@
 /* Times both interpreters on long strips, side by side, after their answers, memory and results have been compared.
-     bench                    a table of nanoseconds an instruction, and one for loops
-     bench DOOR SIDE NUMBER   one call alone, for a tool that counts instructions: check, run or loop, plain or proved, a strip's number;
-                              prints the strip's name and how many instructions it has, or a loop how many are completed */
+     bench                    a table of nanoseconds an instruction, one for loops, and one for a loop in slices
+     bench DOOR SIDE NUMBER   one call alone, for a tool that counts instructions: check or run of a strip, loop (its run), loop_check or
+                              slices of a loop, plain or proved, the number of the strip or the loop; prints its name, how many
+                              instructions it has, or a loop how many are completed, and how many slices that were */
 #include <stdio.h>
 #include <stdlib.h>
 #include <string.h>
@@ -55,13 +56,14 @@ static const struct {
     LOOP("8 blocks left by br_if 7", EIGHT("\x02\x40") "\x20\x00\x0D\x07" EIGHT("\x0B") COUNT_ON, 4000, 17),
     LOOP("8 blocks left by their ends", EIGHT("\x02\x40") EIGHT("\x0B") COUNT_ON, 4000, 23),
 };
-enum { UNITS = sizeof units / sizeof *units, LOOPS = sizeof loops / sizeof *loops, BUDGET_MOST = 1000000, ROUNDS = 400 };
+enum { UNITS = sizeof units / sizeof *units, LOOPS = sizeof loops / sizeof *loops, BUDGET_MOST = 1000000, SLICE_STEPS = 1000, ROUNDS = 400 };
 
 static uint8_t strip[FILE_MOST];
 static size_t strip_len;
 static unsigned strip_instructions; /* that are completed */
-static uint8_t args[3 * SLOT], memory[MEMORY_MOST], results[SLOT];
+static uint8_t args[3 * SLOT], memory[MEMORY_MOST], results[SLOT], image[IMAGE_BYTES];
 static size_t memory_len;
+static unsigned slices; /* of the last run in slices */
 
 static void put(const void *bytes, size_t n)
 {
@@ -106,16 +108,47 @@ static void make_loop(int n)
     lend(MEMORY_MOST);
 }
 
+enum door { CHECK, RUN, SLICES };
+
 typedef uint64_t check_door(const uint8_t *, size_t);
 typedef uint64_t run_door(const uint8_t *, size_t, const uint8_t *, size_t, uint8_t *, size_t, uint8_t *, size_t, uint32_t);
+typedef uint64_t start_door(const uint8_t *, size_t, const uint8_t *, size_t, uint8_t *, size_t, uint8_t *, size_t, uint8_t *, size_t, uint32_t);
+typedef uint64_t resume_door(const uint8_t *, size_t, uint8_t *, size_t, uint8_t *, size_t, uint8_t *, size_t, uint32_t);
 static check_door *const check_doors[] = { plain_check, gevurlat_check };
 static run_door *const run_doors[] = { plain_run, gevurlat_run };
+static start_door *const start_doors[] = { plain_start, gevurlat_start };
+static resume_door *const resume_doors[] = { plain_resume, gevurlat_resume };
 static const char *const sides[] = { "plain", "proved" };
 
-static uint64_t call(int door, int side)
+/* Code and place of the last slice, the steps of all. */
+static uint64_t call_slices(int side)
 {
-    return door == 0 ? check_doors[side](strip, strip_len)
-                     : run_doors[side](strip, strip_len, args, sizeof args, memory, memory_len, results, sizeof results, BUDGET_MOST);
+    uint64_t a = start_doors[side](strip, strip_len, args, sizeof args, memory, memory_len, results, sizeof results, image, sizeof image,
+                                   SLICE_STEPS);
+    uint64_t steps = a >> 32;
+    for (slices = 1; (a & 0xFF) == BUDGET; slices++) {
+        a = resume_doors[side](strip, strip_len, memory, memory_len, results, sizeof results, image, sizeof image, SLICE_STEPS);
+        steps += a >> 32;
+    }
+    return (a & 0xFFFFFFFF) | steps << 32;
+}
+
+static uint64_t call(enum door door, int side)
+{
+    switch (door) {
+    case CHECK:
+        return check_doors[side](strip, strip_len);
+    case RUN:
+        return run_doors[side](strip, strip_len, args, sizeof args, memory, memory_len, results, sizeof results, BUDGET_MOST);
+    default:
+        return call_slices(side);
+    }
+}
+
+static void differ(const char *name)
+{
+    printf("%s: the two differ\n", name);
+    exit(1);
 }
 
 static void compare(void (*make_it)(int), int n, const char *name)
@@ -124,15 +157,28 @@ static void compare(void (*make_it)(int), int n, const char *name)
     uint64_t answers[2][2];
     for (int side = 0; side < 2; side++) {
         make_it(n);
-        answers[0][side] = call(0, side);
-        answers[1][side] = call(1, side);
+        answers[0][side] = call(CHECK, side);
+        answers[1][side] = call(RUN, side);
         memcpy(memories[side], memory, memory_len);
         memcpy(outs[side], results, SLOT);
     }
     if (answers[0][0] != answer(DONE, 0, 0) || answers[1][0] != answer(DONE, 0, strip_instructions) || answers[0][0] != answers[0][1]
-        || answers[1][0] != answers[1][1] || memcmp(memories[0], memories[1], memory_len) || memcmp(outs[0], outs[1], SLOT)) {
-        printf("%s: the two differ\n", name);
-        exit(1);
+        || answers[1][0] != answers[1][1] || memcmp(memories[0], memories[1], memory_len) || memcmp(outs[0], outs[1], SLOT))
+        differ(name);
+}
+
+/* In slices a loop leaves what it leaves at once. */
+static void compare_slices(int n)
+{
+    static uint8_t left[MEMORY_MOST], out[SLOT];
+    make_loop(n);
+    call(RUN, 0);
+    memcpy(left, memory, memory_len);
+    memcpy(out, results, SLOT);
+    for (int side = 0; side < 2; side++) {
+        make_loop(n);
+        if (call(SLICES, side) != answer(DONE, 0, strip_instructions) || memcmp(left, memory, memory_len) || memcmp(out, results, SLOT))
+            differ(loops[n].name);
     }
 }
 
@@ -143,42 +189,69 @@ static double now(void)
     return 1e9 * t.tv_sec + t.tv_nsec;
 }
 
+static void measure_one(enum door door, int side, double *best)
+{
+    const double from = now();
+    call(door, side);
+    const double took = now() - from;
+    if (took < *best)
+        *best = took;
+}
+
 /* The best of all rounds, the two sides by turns. */
-static void measure(int door, double best[2])
+static void measure(enum door door, double best[2])
 {
     best[0] = best[1] = 1e18;
     for (int round = 0; round < ROUNDS; round++)
+        for (int side = 0; side < 2; side++)
+            measure_one(door, side, &best[side]);
+}
+
+/* The same for a run at once and in slices, these by turns too. */
+static void measure_slices(double run[2], double sliced[2])
+{
+    run[0] = run[1] = sliced[0] = sliced[1] = 1e18;
+    for (int round = 0; round < ROUNDS; round++)
         for (int side = 0; side < 2; side++) {
-            const double from = now();
-            call(door, side);
-            const double took = now() - from;
-            if (took < best[side])
-                best[side] = took;
+            measure_one(RUN, side, &run[side]);
+            measure_one(SLICES, side, &sliced[side]);
         }
 }
 
 static int one(char **words)
 {
-    const int n = atoi(words[3]), loop = !strcmp(words[1], "loop");
-    if (n < 0 || (loop ? LOOPS : UNITS) <= n)
-        return 1;
-    (loop ? make_loop : make)(n);
-    call(strcmp(words[1], "check") != 0, !strcmp(words[2], sides[1]));
-    printf("%s/%u\n", loop ? loops[n].name : units[n].name, strip_instructions);
-    return 0;
+    static const struct {
+        const char *name;
+        enum door door;
+        int loop;
+    } doors[] = { { "check", CHECK, 0 }, { "run", RUN, 0 }, { "loop", RUN, 1 }, { "loop_check", CHECK, 1 }, { "slices", SLICES, 1 } };
+    const int n = atoi(words[3]);
+    for (size_t i = 0; i < sizeof doors / sizeof *doors; i++) {
+        const int loop = doors[i].loop;
+        if (strcmp(words[1], doors[i].name) || n < 0 || (loop ? LOOPS : UNITS) <= n)
+            continue;
+        (loop ? make_loop : make)(n);
+        call(doors[i].door, !strcmp(words[2], sides[1]));
+        printf("%s/%u", loop ? loops[n].name : units[n].name, strip_instructions);
+        if (doors[i].door == SLICES)
+            printf("/%u", slices);
+        printf("\n");
+        return 0;
+    }
+    return 1;
 }
 
 int main(int n, char **words)
 {
     if (n == 4)
         return one(words);
-    double check[2], run[2];
+    double check[2], run[2], sliced[2];
     printf("| unit of the strip | check: C ns | proved ns | ratio | run: C ns | proved ns | ratio |\n|---|---|---|---|---|---|---|\n");
     for (int u = 0; u < UNITS; u++) {
         compare(make, u, units[u].name);
         make(u);
-        measure(0, check);
-        measure(1, run);
+        measure(CHECK, check);
+        measure(RUN, run);
         const double k = strip_instructions;
         printf("| %s | %.2f | %.2f | %.2f | %.2f | %.2f | %.2f |\n", units[u].name, check[0] / k, check[1] / k, check[1] / check[0], run[0] / k,
                run[1] / k, run[1] / run[0]);
@@ -187,9 +260,16 @@ int main(int n, char **words)
     for (int i = 0; i < LOOPS; i++) {
         compare(make_loop, i, loops[i].name);
         make_loop(i);
-        measure(1, run);
+        measure(RUN, run);
         const double k = strip_instructions;
         printf("| %s | %.2f | %.2f | %.2f |\n", loops[i].name, run[0] / k, run[1] / k, run[1] / run[0]);
     }
+    compare_slices(0);
+    make_loop(0);
+    measure_slices(run, sliced);
+    printf("\n| %s, in slices of %d steps | at once: ns | in slices: ns | more for a slice: ns |\n|---|---|---|---|\n", loops[0].name,
+           SLICE_STEPS);
+    for (int side = 0; side < 2; side++)
+        printf("| %s | %.0f | %.0f | %.0f |\n", side ? "proved" : "C", run[side], sliced[side], (sliced[side] - run[side]) / (slices - 1));
     return 0;
 }

@@ -2,5 +2,5 @@
 
 uint64_t walk_1(const uint8_t *s, size_t len)
 {
-    return walk(1, s, len, NULL);
+    return walk(1, s, len, NULL, NULL);
 }

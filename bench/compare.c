@@ -1,26 +1,16 @@
-/* Holds the proved doors to the plain ones: answers of check and run, memory and results.
+/* Holds the proved doors to the plain ones: answers of check and run, memory and results; and runs in slices to one run.
      compare CASES SEED LISTER OFFICIAL..
    every strip of the official tests with its own arguments; strips as long as a file may be, and a byte longer; then CASES strips made by
-   chance, of both versions by turns: a third well typed, a third such ones spoilt, a third official ones spoilt. LISTER is the command
-   that starts the proved lister: it lists each official strip, the long ones and one in about a hundred of those made by chance. */
+   chance, of both versions by turns: a third well typed, a third such ones spoilt, a third official ones spoilt. Most are then run in
+   slices, whose images are at times damaged. LISTER is the command that starts the proved lister: it lists each official strip, the long
+   ones and one in about a hundred of those made by chance. */
 #include <stdio.h>
 #include <stdlib.h>
 #include <string.h>
 
-#include "blocks.h"
+#include "lent.h"
 
-enum { STRIPS = 4096, HEX_MOST = 2048, LOOP_BUDGET = 3000 };
-
-/* What a strip is run on. */
-struct lent {
-    uint8_t args[SLOT * PARAMETERS_MOST];
-    size_t args_len;
-    uint8_t memory[MEMORY_MOST + 1];
-    size_t memory_len;
-    uint8_t results[SLOT * RESULTS_MOST];
-    size_t results_len;
-    uint32_t budget;
-};
+enum { STRIPS = 4096, HEX_MOST = 2048 };
 
 static struct strip official[STRIPS];
 static size_t officials;
@@ -61,6 +51,93 @@ static uint64_t compared(const uint8_t *s, size_t len, struct lent *x)
         show("run", run, proved_run);
     }
     return run;
+}
+
+/* --- in slices ---------------------------------------------------------------------------------------------------- */
+
+static const struct doors plain = { plain_run, plain_start, plain_resume }, proved = { gevurlat_run, gevurlat_start, gevurlat_resume };
+static unsigned long cuts, slices, cut_otherwise, damaged_codes[256];
+
+static void otherwise(const char *what, const struct strip *s, const struct lent *x, uint32_t budget, uint64_t a, uint64_t b)
+{
+    cut_otherwise++;
+    printf("%s otherwise, budget %u, memory %zu:", what, budget, x->memory_len);
+    hex(s->bytes, s->len);
+    printf("  image of %zu bytes:", x->image_len);
+    hex(x->image, x->image_len);
+    show(what, a, b);
+}
+
+/* One slice by both, on x and y, which are the same and have to stay so. */
+static uint64_t slice(const struct strip *s, struct lent *x, struct lent *y, int first, uint32_t budget)
+{
+    static struct lent before;
+    copy(&before, x);
+    const uint64_t a = (first ? start : resume)(&plain, s, x, budget), b = (first ? start : resume)(&proved, s, y, budget);
+    slices++;
+    if (a != b || !same_left(x, y))
+        otherwise(first ? "started" : "resumed", s, &before, budget, a, b);
+    return b;
+}
+
+static void spoil(struct strip *s);
+
+/* From an image that is damaged, or of a strip that is. */
+static void resume_damaged(const struct strip *s, const struct lent *from)
+{
+    static struct lent x, y;
+    static struct strip t;
+    t = *s;
+    copy(&x, from);
+    if (below(8))
+        damage(&t, &x);
+    else
+        spoil(&t);
+    copy(&y, &x);
+    damaged_codes[code_of(slice(&t, &x, &y, 0, below(4) ? below(60) : 0))]++;
+}
+
+/* A budget in up to five slices, some of no steps: the last code and place, all steps, memory and results are those of one run. */
+static void cut(const struct strip *s, const struct lent *before, uint32_t budget, uint64_t run, const struct lent *after)
+{
+    static struct lent x, y;
+    uint64_t sum = answer(BUDGET, 0, 0);
+    uint32_t left = budget;
+    copy(&x, before);
+    copy(&y, before);
+    for (unsigned n = 0, last = below(5); n <= last && code_of(sum) == BUDGET; n++) {
+        uint32_t k = below(6) ? below(steps_of(run) + 2) : 0;
+        k = n == last || left < k ? left : k;
+        left -= k;
+        const uint64_t a = slice(s, &x, &y, n == 0, k);
+        sum = (a & 0xFFFFFFFF) + ((uint64_t)(steps_of(sum) + steps_of(a)) << 32);
+        if (code_of(a) == BUDGET && !below(3))
+            resume_damaged(s, &y);
+    }
+    cuts++;
+    if (code_of(sum) != SMALL && (sum != run || memcmp(y.memory, after->memory, y.memory_len) || memcmp(y.results, after->results, sizeof y.results)))
+        otherwise("cut", s, before, budget, run, sum);
+}
+
+/* Where a length is 0 the pointer may be NULL. */
+static void lend_nothing(void)
+{
+    static const struct strip s = { { 'W', 'G', 'P', 1, 0, 0, 0, 0, END }, 9 };
+    const struct doors *const sides[] = { &plain, &proved };
+    for (int side = 0; side < 2; side++) {
+        const struct doors *d = sides[side];
+        uint8_t image[IMAGE_BYTES] = { 0 };
+        if (d->run(s.bytes, s.len, NULL, 0, NULL, 0, NULL, 0, 9) != answer(DONE, 0, 1)
+            || d->start(s.bytes, s.len, NULL, 0, NULL, 0, NULL, 0, NULL, 0, 9) != answer(SMALL, 0, 0)
+            || d->resume(s.bytes, s.len, NULL, 0, NULL, 0, NULL, 0, 9) != answer(SMALL, 0, 0)
+            || d->start(s.bytes, s.len, NULL, 0, NULL, 0, NULL, 0, image, sizeof image, 0) != answer(BUDGET, 8, 0)
+            || d->resume(s.bytes, s.len, NULL, 0, NULL, 0, image, sizeof image, 9) != answer(DONE, 0, 1)
+            || d->run(NULL, 0, NULL, 0, NULL, 0, NULL, 0, 9) != answer(SHORT, 0, 0)
+            || d->resume(NULL, 0, NULL, 0, NULL, 0, NULL, 0, 9) != answer(SHORT, 0, 0)) {
+            cut_otherwise++;
+            printf("%s: nothing is lent, and the answer is another\n", side ? "proved" : "plain");
+        }
+    }
 }
 
 /* --- listings ----------------------------------------------------------------------------------------------------- */
@@ -105,7 +182,7 @@ static size_t unhex(const char *text, uint8_t *out)
 static void run_official(const char *path)
 {
     static char line[2 * HEX_MOST], word[16], first[HEX_MOST];
-    static struct lent x;
+    static struct lent x, before;
     FILE *f = fopen(path, "r");
     if (!f) {
         perror(path);
@@ -128,7 +205,10 @@ static void run_official(const char *path)
             x.args_len = *word == 'r' ? 0 : unhex(first, x.args);
             x.results_len = SLOT * strips[id].bytes[7];
             memset(x.results, 0xEE, sizeof x.results);
-            compared(strips[id].bytes, strips[id].len, &x);
+            x.image_len = IMAGE_BYTES;
+            copy(&before, &x);
+            const uint64_t run = compared(strips[id].bytes, strips[id].len, &x);
+            cut(&strips[id], &before, x.budget, run, &x);
         }
     }
     fclose(f);
@@ -218,38 +298,6 @@ static void spoil(struct strip *s)
     }
 }
 
-static void lend(const struct strip *s, struct lent *x)
-{
-    x->args_len = s->len < 8 ? 0 : SLOT * (s->bytes[5] % 17);
-    memset(x->args, 0, sizeof x->args);
-    for (size_t i = 0; i < x->args_len / SLOT; i++) {
-        const uint8_t kind = 8 + i < s->len ? s->bytes[8 + i] : V128;
-        for (int k = 0; k < (kind == I32 ? 4 : kind == I64 ? 8 : 16); k++)
-            x->args[SLOT * i + k] = some_byte();
-    }
-    x->results_len = s->len < 8 ? 0 : SLOT * (s->bytes[7] % 5);
-    memset(x->results, 0xEE, sizeof x->results);
-    for (size_t i = 0; i < x->memory_len; i++)
-        x->memory[i] = 151 * i + 7;
-    x->budget = !below(4) ? below(80) : s->len < 8 || s->bytes[3] == 1 ? 1000000 : LOOP_BUDGET;
-    switch (below(64)) {
-    case 0: x->args_len = SLOT * below(4); break;
-    case 1: x->results_len = SLOT * below(4); break;
-    case 2: x->args[below(x->args_len + 1)] ^= 1; break;
-    case 3: x->memory_len = MEMORY_MOST + 1; break;
-    }
-}
-
-static void copy(struct lent *to, const struct lent *from)
-{
-    memcpy(to->args, from->args, sizeof to->args);
-    memcpy(to->memory, from->memory, from->memory_len);
-    memcpy(to->results, from->results, sizeof to->results);
-    to->args_len = from->args_len;
-    to->memory_len = from->memory_len;
-    to->results_len = from->results_len;
-}
-
 /* Strips with blocks that were not spoilt: what came of them. More steps than instructions means that a loop turned, fewer that a branch
    passed over some. */
 static struct {
@@ -278,13 +326,6 @@ static const struct strip *some_official(uint8_t version)
     return s;
 }
 
-static size_t some_length(int calm)
-{
-    static const size_t sizes[] = { 0, 1, 7, 16, 100 };
-    const size_t i = below(calm ? 200 : 8);
-    return !below(200) ? MEMORY_MOST : i < sizeof sizes / sizeof *sizes ? sizes[i] : 1000;
-}
-
 /* Versions by turns: whole strips, strips that slip or are spoilt, official ones spoilt. In version 2 most strips have blocks. */
 static void run_chance(unsigned long n)
 {
@@ -309,6 +350,8 @@ static void run_chance(unsigned long n)
         copy(&again, &x);
         const uint64_t run = compared(s.bytes, s.len, &x);
         const int done = (run & 0xFF) == DONE;
+        if (version == 2 || !below(4))
+            cut(&s, &again, x.budget, run, &x);
         if (is_whole && !straight)
             note(&s, run);
         if (is_whole && straight && done)
@@ -323,6 +366,15 @@ static void run_chance(unsigned long n)
 
 static void report(void)
 {
+    unsigned long damaged = 0;
+    for (int c = 0; c < 256; c++)
+        damaged += damaged_codes[c];
+    printf("in slices: %lu runs, %lu slices, %lu differ; images or strips damaged in between: %lu, by code:", cuts, slices, cut_otherwise,
+           damaged);
+    for (int c = 0; c < 256; c++)
+        if (damaged_codes[c])
+            printf(" %d:%lu", c, damaged_codes[c]);
+    printf("\n");
     printf("listings: %lu, %lu differ\n", listings, listed_otherwise);
     printf("all: %lu cases, %lu differ\nby code:", cases, differing);
     for (int c = 0; c < 256; c++)
@@ -352,9 +404,10 @@ int main(int n, char **words)
     for (int i = 4; i < n; i++)
         run_official(words[i]);
     printf("official: %lu cases, %lu differ\n", cases, differing);
+    lend_nothing();
     for (size_t len = FILE_MOST - 2; len <= FILE_MOST + 1; len++)
         run_long(len);
     run_chance(strtoul(words[1], NULL, 10));
     report();
-    return differing != 0 || listed_otherwise != 0;
+    return differing != 0 || cut_otherwise != 0 || listed_otherwise != 0;
 }

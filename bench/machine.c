@@ -1,11 +1,8 @@
 /* The run: one switch over the instructions, one slot of sixteen bytes for each value, whatever its kind. */
-#include <string.h>
-
-#include "decode.h"
-#include "lanes.h"
+#include "machine.h"
 
 /* What a run asks when the strip is good. */
-static enum code lent(const uint8_t *s, const uint8_t *args, size_t args_len, size_t memory_len, size_t results_len)
+static enum code lent(const uint8_t *s, const uint8_t *args, size_t args_len, size_t memory_len, size_t results_len, size_t image_len)
 {
     if (MEMORY_MOST < memory_len)
         return ROOM;
@@ -13,11 +10,22 @@ static enum code lent(const uint8_t *s, const uint8_t *args, size_t args_len, si
         return ARGS;
     if (results_len != SLOT * (size_t)s[7])
         return OUT;
-    for (size_t i = 0; i < s[5]; i++)
-        for (size_t k = s[8 + i] == I32 ? 4 : s[8 + i] == I64 ? 8 : 16; k < SLOT; k++)
-            if (args[SLOT * i + k])
-                return FORM;
-    return DONE;
+    if (!formed(args, s + 8, s[5]))
+        return FORM;
+    return image_len < IMAGE_BYTES ? SMALL : DONE;
+}
+
+/* What a resume asks. */
+static enum code lent_again(const uint8_t *s, const struct survey *survey, size_t memory_len, size_t results_len, const uint8_t *image,
+                            size_t image_len)
+{
+    if (MEMORY_MOST < memory_len)
+        return ROOM;
+    if (results_len != SLOT * (size_t)s[7])
+        return OUT;
+    if (image_len < IMAGE_BYTES)
+        return SMALL;
+    return shows(image, s, survey) ? DONE : IMAGE;
 }
 
 /* In a case: the bytes that the access moves, at `address`, are in bounds. */
@@ -80,37 +88,22 @@ static enum code lent(const uint8_t *s, const uint8_t *args, size_t args_len, si
         sp--;                                \
         break;
 
-/* A block that is open: where a branch to it carries on, and how. */
-struct label {
-    union slot *under; /* the values under it end here */
-    uint32_t to;
-    uint8_t carries; /* values that the branch brings along */
-    uint8_t stays;   /* a loop is open after it, a block is not */
-};
-
-uint64_t plain_run(const uint8_t *s, size_t len, const uint8_t *args, size_t args_len, uint8_t *memory, size_t memory_len, uint8_t *results,
-                   size_t results_len, uint32_t budget)
+/* From where the machine stands, until the strip is left, an access traps or the budget is spent. */
+static uint64_t go_on(const uint8_t *s, size_t len, const uint16_t *ends, struct machine *m, uint8_t *memory, size_t memory_len,
+                      uint8_t *results, size_t results_len, uint8_t *image, uint32_t budget)
 {
-    uint16_t ends[FILE_MOST];
-    const uint64_t checked = plain_matched(s, len, ends);
-    if (checked)
-        return checked;
-    enum code code = lent(s, args, args_len, memory_len, results_len);
-    if (code)
-        return answer(code, 0, 0);
-
-    union slot stack[STACK_MOST] = { 0 }, locals[PARAMETERS_MOST + LOCALS_MOST] = { 0 };
-    union slot *sp = stack;
-    struct label labels[BLOCKS_MOST];
-    size_t blocks = 0;
-    if (args_len)
-        memcpy(locals, args, args_len);
-    size_t at = 8 + s[5] + s[6] + s[7];
+    union slot *const locals = m->locals, *sp = m->stack + m->depth;
+    struct label *const labels = m->labels;
+    size_t blocks = m->blocks, at = m->at;
     for (uint32_t steps = 0;; steps++) {
         struct instruction in;
         size_t place;
-        if (steps == budget)
+        enum code code;
+        if (steps == budget) {
+            if (image)
+                paint(image, at, m, sp - m->stack);
             return answer(BUDGET, at, steps);
+        }
         if ((code = decode(2, s, len, at, &in, &place))) /* the check has seen to it that version 1 has nothing of version 2 */
             return answer(code, place, 0);
         switch (in.op) {
@@ -268,4 +261,51 @@ uint64_t plain_run(const uint8_t *s, size_t len, const uint8_t *args, size_t arg
         }
         at = in.end;
     }
+}
+
+/* A run that is lent no image is asked for no room: `image` is NULL then. */
+static uint64_t begun(const uint8_t *s, size_t len, const uint8_t *args, size_t args_len, uint8_t *memory, size_t memory_len,
+                      uint8_t *results, size_t results_len, uint8_t *image, size_t image_len, uint32_t budget)
+{
+    uint16_t ends[FILE_MOST];
+    const uint64_t checked = plain_matched(s, len, ends);
+    if (checked)
+        return checked;
+    const enum code code = lent(s, args, args_len, memory_len, results_len, image_len);
+    if (code)
+        return answer(code, 0, 0);
+
+    struct machine m = { .at = 8 + s[5] + s[6] + s[7] };
+    if (args_len)
+        memcpy(m.locals, args, args_len);
+    return go_on(s, len, ends, &m, memory, memory_len, results, results_len, image, budget);
+}
+
+uint64_t plain_run(const uint8_t *s, size_t len, const uint8_t *args, size_t args_len, uint8_t *memory, size_t memory_len, uint8_t *results,
+                   size_t results_len, uint32_t budget)
+{
+    return begun(s, len, args, args_len, memory, memory_len, results, results_len, NULL, IMAGE_BYTES, budget);
+}
+
+uint64_t plain_start(const uint8_t *s, size_t len, const uint8_t *args, size_t args_len, uint8_t *memory, size_t memory_len,
+                     uint8_t *results, size_t results_len, uint8_t *image, size_t image_len, uint32_t budget)
+{
+    return begun(s, len, args, args_len, memory, memory_len, results, results_len, image, image_len, budget);
+}
+
+uint64_t plain_resume(const uint8_t *s, size_t len, uint8_t *memory, size_t memory_len, uint8_t *results, size_t results_len,
+                      uint8_t *image, size_t image_len, uint32_t budget)
+{
+    uint16_t ends[FILE_MOST];
+    struct survey survey = { .place = image_len < IMAGE_BYTES ? 0 : number_at(image, PLACE_AT, 4) };
+    const uint64_t checked = plain_surveyed(s, len, ends, &survey);
+    if (checked)
+        return checked;
+    const enum code code = lent_again(s, &survey, memory_len, results_len, image, image_len);
+    if (code)
+        return answer(code, 0, 0);
+
+    struct machine m;
+    stand(&m, image, s, &survey, ends);
+    return go_on(s, len, ends, &m, memory, memory_len, results, results_len, image, budget);
 }

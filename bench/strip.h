@@ -1,4 +1,4 @@
-/* What both interpreters answer (document 01, "Numbers on the inspector's card", and request C-13), and the doors of the plain one. */
+/* What both interpreters answer (document 01, "Numbers on the inspector's card", and requests C-13, C-14), and the doors of the plain one. */
 #ifndef STRIP_H
 #define STRIP_H
 
@@ -7,7 +7,7 @@
 
 enum code {
     DONE, LONG, SHORT, MARK, VERSION, COUNT, KIND, OPCODE, FLOAT, NUMBER, LANE, ALIGN, LOCAL, OPERAND, DEEP, RESULT, TRAILING, NEST, LABEL,
-    ROOM = 20, ARGS, OUT, FORM, SMALL,
+    ROOM = 20, ARGS, OUT, FORM, SMALL, IMAGE,
     TRAP = 30, BUDGET
 };
 
@@ -17,6 +17,10 @@ enum { FILE_MOST = 65536, MEMORY_MOST = 65536, STACK_MOST = 64, PARAMETERS_MOST 
 
 /* Blocks that may be open at once, the strip itself not counted. */
 enum { BLOCKS_MOST = 32 };
+
+/* An image (request C-14): "WGS", version, place and depth in 2, 4 and 2 bytes, least byte first; then the locals and the stack. */
+enum { PLACE_AT = 5, DEPTH_AT = 9, LOCALS_AT = 11, STACK_AT = LOCALS_AT + SLOT * (PARAMETERS_MOST + LOCALS_MOST),
+       IMAGE_BYTES = STACK_AT + SLOT * STACK_MOST };
 
 /* An instruction has a byte at least. Its line has less than 512: 64 kinds take 321, a name 29, sixteen bytes 64. */
 enum { LISTING_MOST = 512 * FILE_MOST };
@@ -36,6 +40,12 @@ uint64_t plain_matched(const uint8_t *strip, size_t strip_len, uint16_t *ends);
 uint64_t plain_run(const uint8_t *strip, size_t strip_len, const uint8_t *args, size_t args_len, uint8_t *memory, size_t memory_len,
                    uint8_t *results, size_t results_len, uint32_t budget);
 
+/* A run that leaves an image where its budget is spent, and the run that goes on from one (request C-14). */
+uint64_t plain_start(const uint8_t *strip, size_t strip_len, const uint8_t *args, size_t args_len, uint8_t *memory, size_t memory_len,
+                     uint8_t *results, size_t results_len, uint8_t *image, size_t image_len, uint32_t budget);
+uint64_t plain_resume(const uint8_t *strip, size_t strip_len, uint8_t *memory, size_t memory_len, uint8_t *results, size_t results_len,
+                      uint8_t *image, size_t image_len, uint32_t budget);
+
 /* The listing of request C-11; its length is where a run has its steps. Then what the command prints: the listing, or code and place;
    it answers how many bytes that is. */
 uint64_t plain_list(const uint8_t *strip, size_t strip_len, uint8_t *out, size_t out_len);
@@ -45,5 +55,9 @@ size_t plain_listing(const uint8_t *strip, size_t strip_len, uint8_t out[LISTING
 uint64_t gevurlat_check(const uint8_t *strip, size_t strip_len);
 uint64_t gevurlat_run(const uint8_t *strip, size_t strip_len, const uint8_t *args, size_t args_len, uint8_t *memory, size_t memory_len,
                       uint8_t *results, size_t results_len, uint32_t budget);
+uint64_t gevurlat_start(const uint8_t *strip, size_t strip_len, const uint8_t *args, size_t args_len, uint8_t *memory, size_t memory_len,
+                        uint8_t *results, size_t results_len, uint8_t *image, size_t image_len, uint32_t budget);
+uint64_t gevurlat_resume(const uint8_t *strip, size_t strip_len, uint8_t *memory, size_t memory_len, uint8_t *results, size_t results_len,
+                         uint8_t *image, size_t image_len, uint32_t budget);
 
 #endif

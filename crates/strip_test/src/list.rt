@@ -1,12 +1,12 @@
 // Strips listed (request C-11): what is answered, the text as it stands, and whether a byte beyond it was touched.
 ghost use Rattle.io.specs.Counts.{Counts};
-use crate::answer;
-use crate::decimal;
-use crate::end_line;
-use crate::name;
-use crate::text::bytes_in;
-use crate::text::length_in;
-use crate::text::number_in;
+use cases::answer;
+use cases::bytes_in;
+use cases::decimal;
+use cases::end_line;
+use cases::length_in;
+use cases::name;
+use cases::number_in;
 use libc::STDOUT_FILENO;
 
 // Every listing that is to be printed has room here.

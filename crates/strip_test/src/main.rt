@@ -3,16 +3,20 @@
 // listing stands in the lines below. stdout was worked out from documents 01, 02 and 002 and Core's table of opcodes by a check, a run, a rewriter
 // and a lister written for that in another language, with no use of this code, before this was first run.
 mod list;
-mod text;
 
-use libc::STDOUT_FILENO;
+use cases::answer;
+use cases::bytes_in;
+use cases::changes;
+use cases::decimal;
+use cases::end_line;
+use cases::fill;
+use cases::find;
+use cases::hex;
+use cases::length_in;
+use cases::name;
+use cases::number_in;
 use list::list;
 use list::rooms;
-use text::bytes_in;
-use text::field;
-use text::find;
-use text::length_in;
-use text::number_in;
 
 // One byte more than a strip or a memory may have.
 const ROOM: usize = 65537;
@@ -27,10 +31,10 @@ fn main() {
     let mut text = [0u8; 131072];
     let n = io::read_full(fd, &mut text);
     libc::close(fd);
-    cases(&text[..n]);
+    lines(&text[..n]);
 }
 
-fn cases(s: &[u8]) {
+fn lines(s: &[u8]) {
     let mut at = 0;
     while at < s.len() {
         let end = find(s, at, b'\n');
@@ -131,68 +135,4 @@ fn shorten_in(strip: &[u8], out: &mut [u8]) {
     answer(w.code, w.place, w.len);
     hex(out);
     end_line();
-}
-
-// What the memory holds before a run, at each address.
-fn before(i: usize) -> u8 {
-    (i % 256) as u8
-}
-
-fn fill(mem: &mut [u8]) {
-    let mut i = 0;
-    while i < mem.len() {
-        mem[i] = before(i);
-        i += 1;
-    }
-}
-
-// Each part of the memory that is not as it was: its first address and its bytes.
-fn changes(mem: &[u8]) {
-    let mut inside = false;
-    let mut i = 0;
-    while i < mem.len() {
-        let changed = mem[i] != before(i);
-        if changed {
-            if !inside {
-                blank();
-                io::print_decimal(STDOUT_FILENO, i as u64);
-                io::write_all(STDOUT_FILENO, b":");
-            }
-            hexadecimal::print_byte(mem[i]);
-        }
-        inside = changed;
-        i += 1;
-    }
-}
-
-fn name(line: &[u8]) {
-    let from = field(line, 1);
-    let to = find(line, from, b' ');
-    io::write_all(STDOUT_FILENO, &line[from..to]);
-}
-
-fn answer(code: u8, place: usize, last: usize) {
-    decimal(code as u64);
-    decimal(place as u64);
-    decimal(last as u64);
-}
-
-fn decimal(n: u64) {
-    blank();
-    io::print_decimal(STDOUT_FILENO, n);
-}
-
-fn hex(s: &[u8]) {
-    if 0 < s.len() {
-        blank();
-    }
-    hexadecimal::print(s);
-}
-
-fn blank() {
-    io::write_all(STDOUT_FILENO, b" ");
-}
-
-fn end_line() {
-    io::write_all(STDOUT_FILENO, b"\n");
 }
