@@ -15,7 +15,7 @@ ghost use Rattle.checker.specs.Inner.Blocks.{topFirst, Labelled};
 const EMPTY: u32 = opcode::kind::EMPTY as u32;
 
 // What a branch to a loop does; a block's number is that of its results.
-const LOOP: usize = 2;
+pub const LOOP: usize = 2;
 
 fn bit_of(b: bool) -> u32
     ensures { λ r. ⌜ r ≡ bit b ⌝ }

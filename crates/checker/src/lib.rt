@@ -10,6 +10,7 @@ mod turns;
 mod typing;
 mod walk;
 
+pub use blocks::LOOP;
 pub use place::MARKS;
 pub use place::OPEN;
 pub use place::Surveyed;

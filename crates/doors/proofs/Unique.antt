@@ -23,8 +23,7 @@ one-run κs a e e′ r r′ p q =
 pub one-start : (κs : _) (a : _) (e e′ : _) (r r′ : ℕ) → start.Post κs a r e → start.Post κs a r′ e′
     → (r ≡ r′) × (now (e .1 .1 .0) ≡ now (e′ .1 .1 .0)) × (now (e .1 .1 .1 .0) ≡ now (e′ .1 .1 .1 .0)) × (now (e .1 .1 .1 .1 .0) ≡ now (e′ .1 .1 .1 .1 .0))
 one-start κs a e e′ r r′ p q =
-    let same = runs-once _ _ _ _ _ _ p q in
-    (
+    let same = runs-once _ _ _ _ _ _ p q in (
       number-once r r′ (ap (λ (x : Left). x .answer) same),
       ap (λ (x : Left). x .memory) same,
       ap (λ (x : Left). x .results) same,
@@ -34,8 +33,7 @@ one-start κs a e e′ r r′ p q =
 pub one-resume : (κs : _) (a : _) (e e′ : _) (r r′ : ℕ) → resume.Post κs a r e → resume.Post κs a r′ e′
     → (r ≡ r′) × (now (e .1 .0) ≡ now (e′ .1 .0)) × (now (e .1 .1 .0) ≡ now (e′ .1 .1 .0)) × (now (e .1 .1 .1 .0) ≡ now (e′ .1 .1 .1 .0))
 one-resume κs a e e′ r r′ p q =
-    let same = resumes-once _ _ _ _ _ p q in
-    (
+    let same = resumes-once _ _ _ _ _ p q in (
       number-once r r′ (ap (λ (x : Left). x .answer) same),
       ap (λ (x : Left). x .memory) same,
       ap (λ (x : Left). x .results) same,

@@ -12,9 +12,10 @@ use Rattle.rules.proofs.Headers.{declares-once}
 use Rattle.rules.proofs.Onward.{declared}
 use Rattle.checker.specs.Check.{Checked}
 use Rattle.checker.proofs.Exact.{done-exact}
-use Rattle.standard.specs.Standard.{halted, runs, begin}
-use Rattle.standard.specs.Safety.{Safe}
-use Rattle.standard.proofs.Never.{never-stuck-from-begin, safe-unhalted}
+use Rattle.standard.specs.Standard.{Config, halted, runs, begin}
+use Rattle.standard.specs.Safety.{Sound, Safe}
+use Rattle.standard.proofs.Never.{never-stuck, never-stuck-from-begin, safe-unhalted}
+use Rattle.run.specs.Resume.{Pictures}
 use Rattle.image.specs.Slots.{InSlots}
 
 -- the check answered 0; the strip declares this header, the arguments are of the form that it declares, and the memory is bytes, few or many
@@ -36,3 +37,21 @@ module _ {s : List ℕ} {r : Answer} (checked : Checked s r) (passed : r .code �
 
   pub checked-never-halted : (k : ℕ) → runs s h k (begin h vs mem) ≡ halted → ⊥
   checked-never-halted k = safe-unhalted (checked-never-stuck k)
+
+-- DEMAND 3 from any image that passes (02, C-14): the state that it shows is sound, so the machine is not stuck from there on either
+module _ {s : List ℕ} {r : Answer} (checked : Checked s r) (passed : r .code ≡ DONE) {h : Header} (declares : Declares s h) {mem buffer : List ℕ} {c : Config}
+    (pictures : Pictures s h mem buffer c) where
+  pub resumed-never-stuck : (k : ℕ) → Safe s h c (runs s h k c)
+  resumed-never-stuck k = subst Reached same (λ sound. never-stuck v c sound k) (pictures .sound)
+    where
+      v : Valid s
+      v = done-exact checked .0 passed
+
+      same : v .header ≡ h
+      same = declares-once s (v .header) h (declared (v .reached)) declares
+
+      Reached : Header → Type 0
+      Reached x = Sound s x c → Safe s x c (runs s x k c)
+
+  pub resumed-never-halted : (k : ℕ) → runs s h k c ≡ halted → ⊥
+  resumed-never-halted k = safe-unhalted (resumed-never-stuck k)

@@ -83,7 +83,7 @@ module _ (code place depth : ℕ) (held stack buffer : List ℕ) where
 pub went-left : {s : List ℕ} {h : Header} {budget : ℕ} {c : Config} {out : List ℕ} {code place steps depth : ℕ} {mem results stack marks held : List ℕ}
     → Went s h budget c out code place steps depth mem results stack marks held → (count : ℕ) → count ≡ length (locals h) → (buffer : List ℕ)
     → leaves code place steps mem results (lent (pictured code place depth (take (slot * count) held) (take (slot * depth) stack) buffer))
-      ≡ meter s h budget 0 c out (lent buffer)
+    ≡ meter s h budget 0 c out (lent buffer)
 went-left {code = code} {place} {steps} {depth} {mem} {results} {stack} {marks} {held} (stops ne same) count e buffer =
     ap (λ (b : List ℕ). leaves code place steps mem results (lent b)) (pictured-else code place depth (take (slot * count) held) (take (slot * depth) stack) buffer ne)
     ∙ same (lent buffer)

@@ -1,25 +1,28 @@
 -- AN IMAGE IS OF ONE STATE, and a state has one image.
 use Prim.Native.Nat.{ℕ, _+_, _≤_, _<_, _^_}
-use mathlib.Core.Path.{_≡_, refl, ap, sym, _∙_, subst}
+use mathlib.Core.Path.{_≡_, refl, ap, ap₂, sym, _∙_, subst}
 use mathlib.Core.List.{List, _∷_, _++_, map, reverse, reverse-reverse}
+use mathlib.Core.Logic.{_↔_}
 use native.Mathlib.Omega.{arith}
 use lib.ListN.{length, take, drop, length-append, length-map, length-reverse}
 use lib.Seq.{take-at}
 use Rattle.limits.specs.Limits.{fileLimit, stackLimit, localCount}
+use Rattle.leb128.specs.Bytes.{bytes}
 use Rattle.opcode.specs.Kind.{Kind}
 use Rattle.machine.specs.Value.{Value, kindOf, AllInRange}
-use Rattle.image.specs.Image.{imageBytes, placeIn, Shows}
+use Rattle.image.specs.Image.{imageBytes, imageOf, placeIn, Shows}
 use Rattle.image.proofs.Laws.{image-long, shown-parts, shows-once}
 use Rattle.rules.specs.Header.{Header, locals}
 use Rattle.rules.specs.Typing.{Frame, allValues}
 use Rattle.rules.specs.Strip.{Reaches}
 use Rattle.rules.proofs.Onward.{declared, reached-within, reached-once}
+use Rattle.rules.proofs.Arounds.{around-reached}
 use Rattle.standard.specs.Standard.{Config, wholeStack}
 use Rattle.standard.specs.Safety.{Sound, Placed}
 use Rattle.standard.proofs.ValueKinds.{reverse-kinds, reverse-range}
-use Rattle.standard.proofs.Rebuilding.{whole-kinds, whole-range, whole-many, sound-once}
+use Rattle.standard.proofs.Rebuilding.{whole-kinds, whole-range, whole-many, Rebuilt, sound-some, sound-once}
 use Rattle.run.specs.Meter.{pictureOf}
-use Rattle.run.specs.Resume.{Pictures}
+use Rattle.run.specs.Resume.{Pictures, Passes}
 use Rattle.run.proofs.Places.{reached-inside}
 
 -- what is known of a sound state
@@ -95,3 +98,46 @@ module _ {s : List ℕ} {h : Header} {mem a : List ℕ} {c : Config} (p : Pictur
       (place-small (p .sound)) (place-small (q .sound)) in
       sound-once c d (p .sound) (p .placed) (q .sound) (q .placed) here
       (sym (reverse-reverse (wholeStack c)) ∙ ap reverse (values .2) ∙ reverse-reverse (wholeStack d)) (values .1) (p .memory ∙ sym (q .memory))
+
+-- ---- what 02 asks of an image, and no more
+
+-- a state that was rebuilt from the values that a buffer shows
+pub rebuilt-pictures : {s : List ℕ} {h : Header} {p : ℕ} {bs : List ℕ} {us ws : List Value} {mem buffer : List ℕ} {ls vs : List Kind}
+    (b : Rebuilt s h p bs (reverse ws) us mem) → p ≡ placeIn buffer → Shows ls vs buffer (placeIn buffer) us ws → Pictures s h mem buffer (b .config)
+rebuilt-pictures {us = us} {ws} b e sh =
+    let values : reverse (wholeStack (b .config)) ≡ ws = ap reverse (b .stack-is) ∙ reverse-reverse ws in
+    record {
+      sound = b .sound;
+      placed = b .placed;
+      memory = b .memory-is;
+      rest = sh .rest;
+      bytes =
+          sh .begins
+          ∙ ap (λ (x : List ℕ). x ++ sh .rest)
+          (ap (λ (x : ℕ). imageOf x us ws) (sym (b .place-is ∙ e)) ∙ ap₂ (λ (x y : List Value). imageOf (b .config .place) x y) (sym (b .locals-are)) (sym values));
+    }
+
+-- 25 IS ANSWERED FOR NOTHING ELSE
+pub pictured-exact : {s : List ℕ} {h : Header} {mem buffer : List ℕ} → bytes mem → ((c : Config) × Pictures s h mem buffer c) ↔ Passes s h buffer
+pictured-exact {s} {h} {mem} {buffer} m = (λ p. passes (p .0) (p .1), λ p. pictures p)
+  where
+    passes : (c : Config) → Pictures s h mem buffer c → Passes s h buffer
+    passes c p =
+        let here = sym (place-in (p .sound) buffer (p .rest) (p .bytes)) in
+        record {
+          frames = frames (p .sound);
+          reached = subst (λ (x : ℕ). Reaches s h x (frames (p .sound))) here (p .sound .reached);
+          live = p .sound .live;
+          local-values = c .state .locals;
+          stack-values = lowest-first (p .sound);
+          shows =
+              subst (λ (x : ℕ). Shows (locals h) (allValues (frames (p .sound))) buffer x (c .state .locals) (lowest-first (p .sound))) here
+              (sound-shows (p .sound) buffer (p .rest) (p .bytes));
+        }
+
+    pictures : Passes s h buffer → (c : Config) × Pictures s h mem buffer c
+    pictures p =
+        let ws = p .stack-values in
+        let b = sound-some (p .reached) (p .live) (around-reached (p .reached) .1) (reverse ws) (p .local-values) mem
+        (reverse-kinds ws ∙ ap reverse (p .shows .stack-kinds)) (reverse-range ws (p .shows .stack-range)) (p .shows .local-kinds) (p .shows .local-range) m in
+        (b .config, rebuilt-pictures b refl (p .shows))

@@ -1,13 +1,14 @@
 -- What 01 and 02 promise of every run and of every resume, whatever comes in. That a memory is bytes is what every lent one is.
 use Prim.Native.Nat.{ℕ, suc, _≤_, _<_}
 use mathlib.Core.Path.{_≡_, refl, ap, sym, _∙_, subst}
-use mathlib.Core.List.{List}
+use mathlib.Core.List.{List, _++_}
 use mathlib.Core.Logic.{inl, inr}
 use mathlib.Core.Option.{Option, none, some}
 use native.Mathlib.Omega.{arith}
-use lib.ListN.{length}
-use Rattle.card.specs.Card.{DONE, LONG, LABEL, ROOM, SMALL, TRAP, BUDGET, IMAGE}
+use lib.ListN.{length, drop, length-append, length-drop}
+use Rattle.card.specs.Card.{DONE, LONG, LABEL, TRAP, BUDGET}
 use Rattle.limits.specs.Limits.{fileLimit}
+use Rattle.image.specs.Image.{imageBytes}
 use Rattle.leb128.specs.Bytes.{bytes}
 use Rattle.machine.specs.Value.{Value}
 use Rattle.rules.specs.Header.{Header}
@@ -19,13 +20,14 @@ use Rattle.standard.specs.Safety.{Sound, Safe, safe-going, safe-ended}
 use Rattle.standard.proofs.Begin.{begin-sound}
 use Rattle.standard.proofs.Never.{never-stuck}
 use Rattle.standard.proofs.Along.{one-more}
-use Rattle.run.specs.Meter.{Left, paused}
+use Rattle.run.specs.Meter.{Left, pictureOf, paused}
 use Rattle.run.specs.Call.{Fails, AllWell, Asks, breaks, fails, Calls, refused, metered}
-use Rattle.run.specs.Run.{Slots, runAsks, Begins, Runs}
-use Rattle.run.specs.Resume.{Pictures, resumeAsks, Resumes}
-use Rattle.run.specs.Told.{Told, told-done, told-trap, told-budget, OnCard, Called, turned-away, told}
+use Rattle.run.specs.Run.{Slots, Roomy, runAsks, Begins}
+use Rattle.run.specs.Resume.{Pictures, resumeAsks}
+use Rattle.run.specs.Told.{Told, told-done, told-trap, told-budget, OneOf, OnCard, runCodes, resumeCodes, Called, turned-away, told, Orderly}
 use Rattle.run.proofs.Places.{reached-inside}
 use Rattle.run.proofs.Metered.{metered-tells}
+use Rattle.run.proofs.Picturing.{picture-long}
 
 pub breach-range : {s : List ℕ} {c p : ℕ} → Breach s c p → (LONG ≤ c) × (c ≤ LABEL)
 breach-range (long g) = (omega arith, omega arith)
@@ -87,10 +89,10 @@ module _ {s : List ℕ} {h : Header} {b : Config} {out : List ℕ} {img : Option
   told-steps (told-trap k l e f g) = omega arith
   told-steps (told-budget e) = omega arith
 
-  told-code : {last : ℕ} {x : Left} → Told s h b out img budget x → OnCard last (x .answer .code)
-  told-code (told-done k l e f g w) = inl (omega arith)
-  told-code (told-trap k l e f g) = inr (inr (inl refl))
-  told-code (told-budget e) = inr (inr (inr refl))
+  told-code : (codes : List ℕ) {x : Left} → Told s h b out img budget x → OnCard codes (x .answer .code)
+  told-code codes (told-done k l e f g w) = inl (omega arith)
+  told-code codes (told-trap k l e f g) = inr (inr (inl refl))
+  told-code codes (told-budget e) = inr (inr (inr refl))
 
   told-results : {x : Left} → Told s h b out img budget x → (x .answer .code ≡ DONE → ⊥) → x .results ≡ out
   told-results (told-done k l e f g w) ne = absurd (ne refl)
@@ -109,14 +111,8 @@ module _ {s : List ℕ} {h : Header} {b : Config} {out : List ℕ} {img : Option
 
 -- ---- of every call
 
--- what is so of where a call's machine starts, and of its questions
-pub record Orderly (s mem out : List ℕ) (asks : Asks) (Starts : Header → Config → Type 0) (last : ℕ) : Type 0 where
-  pub sound : (v : Valid s) (c : Config) → Starts (v .header) c → Sound s (v .header) c × (c .state .memory ≡ mem)
-  pub slots : (v : Valid s) → AllWell (asks (v .header)) → Slots (v .header .results) out
-  pub coded : (v : Valid s) (c : ℕ) → Fails (asks (v .header)) c → (ROOM ≤ c) × (c ≤ last)
-
-module _ {s mem out : List ℕ} {img : Option (List ℕ)} {budget : ℕ} {asks : Asks} {Starts : Header → Config → Type 0} {last : ℕ}
-    (call : Orderly s mem out asks Starts last) where
+module _ {s mem out : List ℕ} {img : Option (List ℕ)} {budget : ℕ} {asks : Asks} {Starts : Header → Config → Type 0} {codes : List ℕ}
+    (call : Orderly s mem out img asks Starts codes) where
   -- turned away with everything as it was, or the standard's machine
   pub call-told : {x : Left} → Calls s mem out img budget asks Starts x → Called s mem out img budget asks Starts x
   call-told (refused t) = turned-away t
@@ -124,13 +120,13 @@ module _ {s mem out : List ℕ} {img : Option (List ℕ)} {budget : ℕ} {asks :
 
   module _ {x : Left} (r : Calls s mem out img budget asks Starts x) where
     -- DEMAND 1: an answer from the card
-    pub on-card : OnCard last (x .answer .code)
+    pub on-card : OnCard codes (x .answer .code)
     on-card = by (call-told r)
       where
-        by : {x : Left} → Called s mem out img budget asks Starts x → OnCard last (x .answer .code)
+        by : {x : Left} → Called s mem out img budget asks Starts x → OnCard codes (x .answer .code)
         by (turned-away (breaks b)) = inl (breach-range b .1)
         by (turned-away (fails {c} v f)) = inr (inl (call .coded v c f))
-        by (told v c well e t) = told-code t
+        by (told v c well e t) = told-code codes t
 
     -- DEMAND 1: all below 30 have steps 0 and change nothing
     pub refusal-changes-nothing : (x .answer .code ≡ DONE → ⊥) → x .answer .code < TRAP
@@ -174,6 +170,24 @@ module _ {s mem out : List ℕ} {img : Option (List ℕ)} {budget : ℕ} {asks :
             let long = told-long v c (call .sound v c e .0) out img budget (call .slots v well) t in
             (long .0 ∙ ap length (call .sound v c e .1), long .1)
 
+    -- and so does the image's buffer
+    pub same-image-length : (a b : List ℕ) → img ≡ some a → x .image ≡ some b → length b ≡ length a
+    same-image-length a b e f = by (call-told r) f
+      where
+        by : {x : Left} → Called s mem out img budget asks Starts x → x .image ≡ some b → length b ≡ length a
+        by (turned-away t) g = let h : some b ≡ some a = sym g ∙ e in let z : b ≡ a = cc (h) in ap length z
+        by (told v c well st t) g = told-image-long t g
+          where
+            told-image-long : {x : Left} → Told s (v .header) c out img budget x → x .image ≡ some b → length b ≡ length a
+            told-image-long (told-done k l p q w n) g = let h : some b ≡ some a = sym g ∙ e in let z : b ≡ a = cc (h) in ap length z
+            told-image-long (told-trap k l p q w) g = let h : some b ≡ some a = sym g ∙ e in let z : b ≡ a = cc (h) in ap length z
+            told-image-long (told-budget {c = d} p) g =
+                let there = sound-at v c (call .sound v c st .0) out img budget budget p .0 in
+                let same : some b ≡ some (pictureOf d ++ drop imageBytes a) = sym g ∙ ap (paused d) e in
+                let z : b ≡ pictureOf d ++ drop imageBytes a = cc (same) in
+                let room : imageBytes ≤ length a = subst Roomy e (call .roomy v well) in
+                ap length z ∙ length-append (pictureOf d) (drop imageBytes a) ∙ omega (arith, room, picture-long there, length-drop imageBytes a)
+
     -- 24 bits hold every place
     pub place-most : bytes s → x .answer .place ≤ fileLimit
     place-most b = by (call-told r)
@@ -185,7 +199,7 @@ module _ {s mem out : List ℕ} {img : Option (List ℕ)} {budget : ℕ} {asks :
 
 -- ---- a run is one, and a resume
 
-pub run-call : {s args mem out : List ℕ} (img : Option (List ℕ)) → bytes mem → Orderly s mem out (runAsks args mem out img) (Begins args mem) SMALL
+pub run-call : {s args mem out : List ℕ} (img : Option (List ℕ)) → bytes mem → Orderly s mem out img (runAsks args mem out img) (Begins args mem) (runCodes img)
 run-call {s} {args} {mem} {out} img m =
     record {
       sound = λ v c b. (
@@ -193,28 +207,58 @@ run-call {s} {args} {mem} {out} img m =
         ap (λ (x : Config). x .state .memory) (b .begins),
       );
       slots = λ v well. well .1 .1 .0;
-      coded = λ v. run-coded (v .header);
+      roomy = λ v well. well .1 .1 .1 .1 .0;
+      coded = λ v. run-coded img (v .header);
+      early = λ v c f. run-early img c (run-coded img (v .header) c f);
     }
   where
-    run-coded : (h : Header) (c : ℕ) → Fails (runAsks args mem out img h) c → (ROOM ≤ c) × (c ≤ SMALL)
-    run-coded h c (inl f) = (omega (arith, f .1), omega (arith, f .1))
-    run-coded h c (inr (a, inl f)) = (omega (arith, f .1), omega (arith, f .1))
-    run-coded h c (inr (a, inr (b, inl f))) = (omega (arith, f .1), omega (arith, f .1))
-    run-coded h c (inr (a, inr (b, inr (d, inl f)))) = (omega (arith, f .1), omega (arith, f .1))
-    run-coded h c (inr (a, inr (b, inr (d, inr (e, inl f))))) = (omega (arith, f .1), omega (arith, f .1))
-    run-coded h c (inr (a, inr (b, inr (d, inr (e, inr f))))) = absurd (f .1)
+    run-coded : (img : Option (List ℕ)) (h : Header) (c : ℕ) → Fails (runAsks args mem out img h) c → OneOf (runCodes img) c
+    run-coded none h c (inl f) = inl (f .1)
+    run-coded none h c (inr (a, inl f)) = inr (inl (f .1))
+    run-coded none h c (inr (a, inr (b, inl f))) = inr (inr (inl (f .1)))
+    run-coded none h c (inr (a, inr (b, inr (d, inl f)))) = inr (inr (inr (inl (f .1))))
+    run-coded none h c (inr (a, inr (b, inr (d, inr (e, inl f))))) = absurd (f .0 tt)
+    run-coded none h c (inr (a, inr (b, inr (d, inr (e, inr f))))) = absurd (f .1)
+    run-coded (some x) h c (inl f) = inl (f .1)
+    run-coded (some x) h c (inr (a, inl f)) = inr (inl (f .1))
+    run-coded (some x) h c (inr (a, inr (b, inl f))) = inr (inr (inl (f .1)))
+    run-coded (some x) h c (inr (a, inr (b, inr (d, inl f)))) = inr (inr (inr (inl (f .1))))
+    run-coded (some x) h c (inr (a, inr (b, inr (d, inr (e, inl f))))) = inr (inr (inr (inr (inl (f .1)))))
+    run-coded (some x) h c (inr (a, inr (b, inr (d, inr (e, inr f))))) = absurd (f .1)
 
-pub resume-call : {s mem out buffer : List ℕ} → Orderly s mem out (resumeAsks s mem out buffer) (λ h c. Pictures s h mem buffer c) IMAGE
+    run-early : (img : Option (List ℕ)) (c : ℕ) → OneOf (runCodes img) c → c < TRAP
+    run-early none c (inl e) = omega (arith, e)
+    run-early none c (inr (inl e)) = omega (arith, e)
+    run-early none c (inr (inr (inl e))) = omega (arith, e)
+    run-early none c (inr (inr (inr (inl e)))) = omega (arith, e)
+    run-early none c (inr (inr (inr (inr e)))) = absurd e
+    run-early (some x) c (inl e) = omega (arith, e)
+    run-early (some x) c (inr (inl e)) = omega (arith, e)
+    run-early (some x) c (inr (inr (inl e))) = omega (arith, e)
+    run-early (some x) c (inr (inr (inr (inl e)))) = omega (arith, e)
+    run-early (some x) c (inr (inr (inr (inr (inl e))))) = omega (arith, e)
+    run-early (some x) c (inr (inr (inr (inr (inr e))))) = absurd e
+
+pub resume-call : {s mem out buffer : List ℕ} → Orderly s mem out (some buffer) (resumeAsks s mem out buffer) (λ h c. Pictures s h mem buffer c) resumeCodes
 resume-call {s} {mem} {out} {buffer} =
     record {
       sound = λ v c p. (p .sound, p .memory);
       slots = λ v well. well .1 .0;
+      roomy = λ v well. well .1 .1 .0;
       coded = λ v. resume-coded (v .header);
+      early = λ v c f. resume-early c (resume-coded (v .header) c f);
     }
   where
-    resume-coded : (h : Header) (c : ℕ) → Fails (resumeAsks s mem out buffer h) c → (ROOM ≤ c) × (c ≤ IMAGE)
-    resume-coded h c (inl f) = (omega (arith, f .1), omega (arith, f .1))
-    resume-coded h c (inr (a, inl f)) = (omega (arith, f .1), omega (arith, f .1))
-    resume-coded h c (inr (a, inr (b, inl f))) = (omega (arith, f .1), omega (arith, f .1))
-    resume-coded h c (inr (a, inr (b, inr (d, inl f)))) = (omega (arith, f .1), omega (arith, f .1))
+    resume-coded : (h : Header) (c : ℕ) → Fails (resumeAsks s mem out buffer h) c → OneOf resumeCodes c
+    resume-coded h c (inl f) = inl (f .1)
+    resume-coded h c (inr (a, inl f)) = inr (inl (f .1))
+    resume-coded h c (inr (a, inr (b, inl f))) = inr (inr (inl (f .1)))
+    resume-coded h c (inr (a, inr (b, inr (d, inl f)))) = inr (inr (inr (inl (f .1))))
     resume-coded h c (inr (a, inr (b, inr (d, inr f)))) = absurd (f .1)
+
+    resume-early : (c : ℕ) → OneOf resumeCodes c → c < TRAP
+    resume-early c (inl e) = omega (arith, e)
+    resume-early c (inr (inl e)) = omega (arith, e)
+    resume-early c (inr (inr (inl e))) = omega (arith, e)
+    resume-early c (inr (inr (inr (inl e)))) = omega (arith, e)
+    resume-early c (inr (inr (inr (inr e)))) = absurd e

@@ -87,8 +87,7 @@ marks-of {s} {h} (inside {f = f} {g = g} {fs = fs} {l = l} {ls = ls} a b c d e n
     let three : List ℕ = length (allValues (g ∷ fs)) ∷ way (f .loop) (f .results) ∷ l .body ∷ [] in
     let all : (before ++ three) ++ rest ≡ before ++ (three ++ rest) = append-assoc before three rest in
     let at : (k : ℕ) → getD ((before ++ three) ++ rest) (3 * length ls + k) 0 ≡ getD (three ++ rest) k 0 =
-    λ k. ap₂ (λ (x : List ℕ) (j : ℕ). getD x (j + k) 0) all (sym (marks-many n)) ∙ getD-append-add before (three ++ rest) k 0 in
-    (
+    λ k. ap₂ (λ (x : List ℕ) (j : ℕ). getD x (j + k) 0) all (sym (marks-many n)) ∙ getD-append-add before (three ++ rest) k 0 in (
       ap (λ (j : ℕ). getD ((before ++ three) ++ rest) j 0) (omega arith) ∙ at 0 ∙ sym (nested-under (inside {f = f} {g = g} {fs = fs} {l = l} {ls = ls} a b c d e n)),
       at 1 ∙ ap₂ way (sym a) (sym b),
       at 2,
@@ -104,11 +103,10 @@ slots-of (v ∷ vs) rest r =
     let low = allBytes (reverse vs) in
     let all : allBytes (reverse (v ∷ vs)) ++ rest ≡ low ++ (bytesOf v ++ rest) =
     ap (λ (ws : List Value). allBytes ws ++ rest) (reverse-cons v vs)
-    ∙ ap (λ (bs : List ℕ). bs ++ rest) (all-append (reverse vs) (v ∷ []) ∙ ap (λ (bs : List ℕ). low ++ bs) (all-one v)) ∙ append-assoc low (bytesOf v) rest in
-    (
+    ∙ ap (λ (bs : List ℕ). bs ++ rest) (all-append (reverse vs) (v ∷ []) ∙ ap (λ (bs : List ℕ). low ++ bs) (all-one v)) ∙ append-assoc low (bytesOf v) rest in (
       ap (λ (bs : List ℕ). slotAt bs (length vs)) all
-      ∙ ap (take slot) (drop-at low (bytesOf v ++ rest) (slot * length vs) (all-long (reverse vs) (reverse-range vs (r .1)) ∙ ap (λ (n : ℕ). slot * n) (length-reverse vs)))
-      ∙ take-at (bytesOf v) rest slot (sixteen-bytes v (r .0) .long),
+          ∙ ap (take slot) (drop-at low (bytesOf v ++ rest) (slot * length vs) (all-long (reverse vs) (reverse-range vs (r .1)) ∙ ap (λ (n : ℕ). slot * n) (length-reverse vs)))
+          ∙ take-at (bytesOf v) rest slot (sixteen-bytes v (r .0) .long),
       subst (Slots vs) (sym all) (slots-of vs (bytesOf v ++ rest) (r .1)),
     )
 

@@ -1,12 +1,12 @@
 -- SLICES: however a budget is cut, the last code and place, the results, the memory and the sum of the steps are those of one run.
-use Prim.Native.Nat.{ℕ, zero, suc, _+_, _≤_}
+use Prim.Native.Nat.{ℕ, _+_, _≤_, _<_}
 use mathlib.Core.Path.{_≡_, refl, ap, sym, _∙_, subst}
 use mathlib.Core.List.{List, [], _∷_, _++_}
 use mathlib.Core.Option.{Option, none, some}
 use native.Mathlib.Nat.{add-zero, zero-add}
 use native.Mathlib.Omega.{arith}
 use lib.ListN.{length, drop}
-use Rattle.card.specs.Card.{BUDGET, IMAGE}
+use Rattle.card.specs.Card.{TRAP, BUDGET}
 use Rattle.limits.specs.Limits.{memoryLimit}
 use Rattle.leb128.specs.Bytes.{bytes}
 use Rattle.image.specs.Image.{imageBytes}
@@ -21,20 +21,12 @@ use Rattle.run.specs.Meter.{Left, leaves, pictureOf, paused, meter}
 use Rattle.run.specs.Call.{Fails, Asks, TurnsAway, breaks, fails, refused, metered}
 use Rattle.run.specs.Run.{Slots, Runs}
 use Rattle.run.specs.Resume.{Pictures, Resumes}
-use Rattle.run.specs.Slices.{sum, Slices, no-slice, over, slice}
+use Rattle.run.specs.Slices.{sum, Slices, no-slice, over, slice, Together}
 use Rattle.run.proofs.Metered.{meter-along, budget-exact}
 use Rattle.run.proofs.Parting.{Further, meter-further, meter-over, meter-spent}
 use Rattle.run.proofs.Picturing.{pictured-room, pictures-once}
 use Rattle.run.proofs.Promises.{breach-range, run-call}
 use Rattle.run.proofs.Unique.{runs-once, resumes-once}
-
--- w is left by one run: with the last code and place, the memory and the results of z, and with the steps of x and n more
-pub record Together (x z : Left) (n : ℕ) (w : Left) : Type 0 where
-  pub code : w .answer .code ≡ z .answer .code
-  pub place : w .answer .place ≡ z .answer .place
-  pub steps : w .answer .steps ≡ x .answer .steps + n
-  pub memory : w .memory ≡ z .memory
-  pub results : w .results ≡ z .results
 
 -- no slice after x
 alone : {x w : Left} → w ≡ x → Together x x 0 w
@@ -111,14 +103,14 @@ module _ {s : List ℕ} (v : Valid s) (out : List ℕ) (o : Slots (v .header .re
 -- ---- from the run on
 
 -- a call that is turned away spends no budget
-unspent : {s : List ℕ} {asks : Asks} {c p : ℕ} → ((v : Valid s) → (c : ℕ) → Fails (asks (v .header)) c → c ≤ IMAGE) → TurnsAway s asks c p → c ≡ BUDGET → ⊥
-unspent coded (breaks b) e = omega (arith, breach-range b .1, e)
-unspent coded (fails {c} v f) e = omega (arith, coded v c f, e)
+unspent : {s : List ℕ} {asks : Asks} {c p : ℕ} → ((v : Valid s) → (c : ℕ) → Fails (asks (v .header)) c → c < TRAP) → TurnsAway s asks c p → c ≡ BUDGET → ⊥
+unspent early (breaks b) e = omega (arith, breach-range b .1, e)
+unspent early (fails {c} v f) e = omega (arith, early v c f, e)
 
 pub slices : {s args mem out buffer : List ℕ} {k n : ℕ} {ks : List ℕ} {x z w : Left} → bytes mem → Runs s args mem out (some buffer) k x → Slices s x ks z n
     → Runs s args mem out (some buffer) (k + sum ks) w → Together x z n w
 slices {s} {args} {mem} {out} {buffer} {k} {n} {ks} {x} {z} {w} m (refused t) sl r =
-    by sl (unspent (λ v c f. omega (arith, run-call {s = s} {args = args} {mem = mem} {out = out} (some buffer) m .coded v c f .1)) t)
+    by sl (unspent (run-call {s = s} {args = args} {mem = mem} {out = out} (some buffer) m .early) t)
     (runs-once s args mem out (some buffer) (k + sum ks) r (refused t))
   where
     by : {ks : List ℕ} {x z : Left} {n : ℕ} → Slices s x ks z n → (x .answer .code ≡ BUDGET → ⊥) → w ≡ x → Together x z n w

@@ -15,7 +15,7 @@ use Rattle.limits.specs.Limits.{slot, memoryLimit, stackLimit, nestLimit}
 use Rattle.opcode.specs.Kind.{Kind, kindByte}
 use Rattle.machine.specs.Value.{Value, kindOf}
 use Rattle.image.specs.Slots.{Tells}
-use Rattle.image.specs.Image.{imageBytes, imageOf, placeIn, Shows}
+use Rattle.image.specs.Image.{imageBytes, placeIn, Shows}
 use Rattle.image.proofs.Judging.{told-yes, told-no}
 use Rattle.rules.specs.Header.{Header, locals}
 use Rattle.rules.specs.Typing.{Frame, allValues, Live}
@@ -24,7 +24,9 @@ use Rattle.rules.specs.Around.{Around}
 use Rattle.rules.proofs.Onward.{declared, reached-within, reached-once}
 use Rattle.rules.proofs.Verdicts.{breach-coded}
 use Rattle.checker.specs.declared.place.Surveyed.{Surveyed}
-use Rattle.checker.specs.Survey.{way, marksOf, fronted, Surveys, breaks, misses, finds}
+use Rattle.checker.specs.Survey.{marksOf, fronted, Surveys, breaks, misses, finds}
+use Rattle.checker.proofs.Marks.{marks-many}
+use Rattle.checker.proofs.Surveys.{Found, survey-found, survey-nowhere}
 use Rattle.standard.specs.Standard.{Label, Config, wholeStack}
 use Rattle.standard.specs.Safety.{Nested, bodies}
 use Rattle.standard.proofs.Nestings.{nested-many}
@@ -39,7 +41,7 @@ use Rattle.run.specs.Inner.Steps.{lent, Resumable, Resumed}
 use Rattle.run.proofs.HeaderBytes.{Counts, counts-read, inside, local-count, local-kinds}
 use Rattle.run.proofs.Asking.{results-told}
 use Rattle.run.proofs.Marking.{marked-kept}
-use Rattle.run.proofs.Picturing.{frames, value-kinds, lowest-first, sound-shows, place-in, pictured-room}
+use Rattle.run.proofs.Picturing.{frames, lowest-first, sound-shows, place-in, rebuilt-pictures}
 use Rattle.run.proofs.Pausing.{lent-some}
 use Rattle.run.proofs.Restoring.{reached-one, marks-of, bodies-many}
 use Rattle.run.proofs.Unique.{header-once}
@@ -47,28 +49,8 @@ use Rattle.run.proofs.Answering.{turned-call}
 
 -- ---- what a survey tells of a strip that keeps the rules
 
-pub record Found (s : List ℕ) (place depth nest : ℕ) (kinds₀ marks₀ kinds marks : List ℕ) : Type 0 where
-  pub valid : Valid s
-  pub frames-there : List Frame
-  pub around-there : List ℕ
-  pub reached : Reaches s (valid .header) place frames-there
-  pub live : Live frames-there
-  pub around : Around s (valid .header) place around-there
-  pub depth-is : depth ≡ length (allValues frames-there)
-  pub nest-is : nest ≡ length around-there
-  pub kinds-are : kinds ≡ fronted (map kindByte (allValues frames-there)) kinds₀
-  pub marks-are : marks ≡ fronted (marksOf frames-there around-there) marks₀
-
 fronted-long : (xs old : List ℕ) → length xs ≤ length old → length (fronted xs old) ≡ length old
 fronted-long xs old l = length-append xs (drop (length xs) old) ∙ omega (arith, l, length-drop (length xs) old)
-
-marks-most : (fs : List Frame) (bs : List ℕ) → length (marksOf fs bs) ≤ 3 * length fs
-marks-most [] bs = omega arith
-marks-most (f ∷ fs) [] = omega arith
-marks-most (f ∷ fs) (b ∷ bs) = omega (arith, length-append (marksOf fs bs) (length (allValues fs) ∷ way (f .loop) (f .results) ∷ b ∷ []), marks-most fs bs)
-
-differ : {A : Type 0} → true ≡ false → A
-differ e = absurd (let z : _≡_ {A = ℕ} 0 1 = cc (e) in omega arith)
 
 module _ {s : List ℕ} {place : ℕ} {kinds₀ marks₀ kinds marks : List ℕ} {w : Surveyed} (sv : Surveys s place kinds₀ marks₀ w kinds marks) where
   pub survey-valid : w .code ≡ DONE → Valid s
@@ -79,27 +61,6 @@ module _ {s : List ℕ} {place : ℕ} {kinds₀ marks₀ kinds marks : List ℕ}
       by (misses v never) e = v
       by (finds v r l a) e = v
 
-  pub survey-found : w .code ≡ DONE → w .found ≡ true → Found s place (w .depth) (w .nest) kinds₀ marks₀ kinds marks
-  survey-found done is-so = by sv done is-so
-    where
-      by : {w : Surveyed} {kinds marks : List ℕ} → Surveys s place kinds₀ marks₀ w kinds marks → w .code ≡ DONE → w .found ≡ true
-          → Found s place (w .depth) (w .nest) kinds₀ marks₀ kinds marks
-      by (breaks b) e f = absurd (breach-coded b e)
-      by (misses v never) e f = differ (sym f)
-      by (finds v {fs} {bs} r l a) e f =
-          record {
-            valid = v;
-            frames-there = fs;
-            around-there = bs;
-            reached = r;
-            live = l;
-            around = a;
-            depth-is = refl;
-            nest-is = refl;
-            kinds-are = refl;
-            marks-are = refl;
-          }
-
   -- the counts in the header, and the kind bytes that they count
   pub survey-counts : (done : w .code ≡ DONE) → Counts (declared (survey-valid done .reached))
   survey-counts done = counts-read (declared (survey-valid done .reached))
@@ -108,33 +69,23 @@ module _ {s : List ℕ} {place : ℕ} {kinds₀ marks₀ kinds marks : List ℕ}
   survey-inside done = omega (arith, survey-counts done .body, inside (declared (survey-valid done .reached)))
 
   -- the stack holds the values that it tells
-  pub survey-deep : w .code ≡ DONE → w .found ≡ true → w .depth ≤ stackLimit
-  survey-deep done is-so = let f = survey-found done is-so in omega (arith, f .depth-is, reached-within (f .reached) .values)
+  pub survey-deep : w .found ≡ true → w .depth ≤ stackLimit
+  survey-deep is-so = let f = survey-found sv is-so in omega (arith, f .depth-is, reached-within (f .reached) .values)
 
   -- no array grows
-  pub survey-kinds : w .code ≡ DONE → w .found ≡ true → length kinds₀ ≡ stackLimit → length kinds ≡ stackLimit
-  survey-kinds done is-so e =
-      let f = survey-found done is-so in
-      let front = map kindByte (allValues (f .frames-there)) in
+  pub survey-kinds : w .found ≡ true → length kinds₀ ≡ stackLimit → length kinds ≡ stackLimit
+  survey-kinds is-so e =
+      let f = survey-found sv is-so in
+      let front = map kindByte (allValues (f .frames)) in
       ap length (f .kinds-are)
-      ∙ fronted-long front kinds₀ (omega (arith, e, length-map (allValues (f .frames-there)) kindByte, reached-within (f .reached) .values)) ∙ e
+      ∙ fronted-long front kinds₀ (omega (arith, e, length-map (allValues (f .frames)) kindByte, reached-within (f .reached) .values)) ∙ e
 
-  pub survey-marks : w .code ≡ DONE → w .found ≡ true → length marks₀ ≡ 3 * nestLimit + 1 → length marks ≡ 3 * nestLimit + 1
-  survey-marks done is-so e =
-      let f = survey-found done is-so in
+  pub survey-marks : w .found ≡ true → length marks₀ ≡ 3 * nestLimit + 1 → length marks ≡ 3 * nestLimit + 1
+  survey-marks is-so e =
+      let f = survey-found sv is-so in
       ap length (f .marks-are)
-      ∙ fronted-long (marksOf (f .frames-there) (f .around-there)) marks₀
-      (omega (arith, e, marks-most (f .frames-there) (f .around-there), reached-within (f .reached) .blocks)) ∙ e
-
-  -- of the header of v
-  pub survey-missed : (v : Valid s) → w .code ≡ DONE → w .found ≡ false → (fs : List Frame) → Reaches s (v .header) place fs → Live fs → ⊥
-  survey-missed v done is-not = by sv done is-not
-    where
-      by : {w : Surveyed} {kinds marks : List ℕ} → Surveys s place kinds₀ marks₀ w kinds marks → w .code ≡ DONE → w .found ≡ false
-          → (fs : List Frame) → Reaches s (v .header) place fs → Live fs → ⊥
-      by (breaks b) e f = absurd (breach-coded b e)
-      by (misses u never) e f = λ fs r l. never fs (subst (λ (h : Header). Reaches s h place fs) (header-once v u) r) l
-      by (finds u r l a) e f = differ f
+      ∙ fronted-long (marksOf (f .frames) (f .begun)) marks₀
+      (omega (arith, e, marks-many (f .frames) (f .begun) (f .many), f .many, reached-within (f .reached) .blocks)) ∙ e
 
   -- ---- the questions
 
@@ -180,9 +131,9 @@ module _ {s : List ℕ} {place : ℕ} {kinds₀ marks₀ kinds marks : List ℕ}
             pub no-place : (r : Answer) → (r .code ≡ IMAGE) × (r .place ≡ 0) × (r .steps ≡ 0) → w .found ≡ false → Answers r
             no-place r e is-not =
                 not-pictured (survey-valid done) r e
-                (λ c p. survey-missed (survey-valid done) done is-not (frames (p .sound)) (there (survey-valid done) c p) (p .sound .live))
+                (λ c p. survey-nowhere sv is-not (survey-valid done) (frames (p .sound)) (there (survey-valid done) c p) (p .sound .live))
 
-            module _ (f : Found s place (w .depth) (w .nest) kinds₀ marks₀ kinds marks) where
+            module _ (f : Found s place kinds₀ marks₀ w kinds marks) where
               abbrev v : Valid s
               v = f .valid
 
@@ -192,30 +143,32 @@ module _ {s : List ℕ} {place : ℕ} {kinds₀ marks₀ kinds marks : List ℕ}
               abbrev count : ℕ
               count = getD s 5 0 + getD s 6 0
 
-              stack-kinds : take (w .depth) kinds ≡ map kindByte (allValues (f .frames-there))
+              stack-kinds : take (w .depth) kinds ≡ map kindByte (allValues (f .frames))
               stack-kinds =
                   ap (take (w .depth)) (f .kinds-are)
-                  ∙ take-at (map kindByte (allValues (f .frames-there))) _ (w .depth) (length-map (allValues (f .frames-there)) kindByte ∙ sym (f .depth-is))
+                  ∙ take-at (map kindByte (allValues (f .frames))) _ (w .depth) (length-map (allValues (f .frames)) kindByte ∙ sym (f .depth-is))
 
               abbrev Shown : Type 0
-              Shown = (us ws : List Value) × Shows (locals h) (allValues (f .frames-there)) buffer (placeIn buffer) us ws
+              Shown = (us ws : List Value) × Shows (locals h) (allValues (f .frames)) buffer (placeIn buffer) us ws
 
               -- what is told of the image by those kinds
               module _ {t : Bool}
                   (shown : (ls vs : List Kind) → take (8 + count - 8) (drop 8 s) ≡ map kindByte ls → take (w .depth) kinds ≡ map kindByte vs
                   → Tells ((us ws : List Value) × Shows ls vs buffer (placeIn buffer) us ws) t) where
                 told : Tells Shown t
-                told = shown (locals h) (allValues (f .frames-there)) (local-kinds (declared (v .reached)) (8 + count - 8) (omega arith)) stack-kinds
+                told = shown (locals h) (allValues (f .frames)) (local-kinds (declared (v .reached)) (8 + count - 8) (omega arith)) stack-kinds
 
                 pub other-values : (r : Answer) → (r .code ≡ IMAGE) × (r .place ≡ 0) × (r .steps ≡ 0) → t ≡ false → Answers r
                 other-values r e is-not =
                     not-pictured v r e
-                    (λ c p. told-no told is-not
-                    (c .state .locals, lowest-first (p .sound),
-                    subst (λ (fs : List Frame). Shows (locals h) (allValues fs) buffer (placeIn buffer) (c .state .locals) (lowest-first (p .sound)))
-                    (reached-once (there v c p) (f .reached))
-                    (subst (λ (x : ℕ). Shows (locals h) (allValues (frames (p .sound))) buffer x (c .state .locals) (lowest-first (p .sound)))
-                    (sym (place-in (p .sound) buffer (p .rest) (p .bytes))) (sound-shows (p .sound) buffer (p .rest) (p .bytes)))))
+                    (λ c p. told-no told is-not (
+                      c .state .locals,
+                      lowest-first (p .sound),
+                      subst (λ (fs : List Frame). Shows (locals h) (allValues fs) buffer (placeIn buffer) (c .state .locals) (lowest-first (p .sound)))
+                          (reached-once (there v c p) (f .reached))
+                          (subst (λ (x : ℕ). Shows (locals h) (allValues (frames (p .sound))) buffer x (c .state .locals) (lowest-first (p .sound)))
+                          (sym (place-in (p .sound) buffer (p .rest) (p .bytes))) (sound-shows (p .sound) buffer (p .rest) (p .bytes))),
+                    ))
 
                 -- the state that it shows
                 module _ (m : bytes mem) (is-so : t ≡ true) (long-marks : length marks ≡ 3 * nestLimit + 1) where
@@ -228,7 +181,7 @@ module _ {s : List ℕ} {place : ℕ} {kinds₀ marks₀ kinds marks : List ℕ}
                   abbrev ws : List Value
                   ws = sh .1
 
-                  rebuilt : Rebuilt s h place (f .around-there) (reverse ws) us mem
+                  rebuilt : Rebuilt s h place (f .begun) (reverse ws) us mem
                   rebuilt =
                       sound-some (f .reached) (f .live) (f .around) (reverse ws) us mem (reverse-kinds ws ∙ ap reverse (sh .2 .stack-kinds))
                       (reverse-range ws (sh .2 .stack-range)) (sh .2 .local-kinds) (sh .2 .local-range) m
@@ -236,28 +189,11 @@ module _ {s : List ℕ} {place : ℕ} {kinds₀ marks₀ kinds marks : List ℕ}
                   abbrev c : Config
                   c = rebuilt .config
 
-                  values-are : reverse (wholeStack c) ≡ ws
-                  values-are = ap reverse (rebuilt .stack-is) ∙ reverse-reverse ws
-
-                  pictures : Pictures s h mem buffer c
-                  pictures =
-                      record {
-                        sound = rebuilt .sound;
-                        placed = rebuilt .placed;
-                        memory = rebuilt .memory-is;
-                        rest = sh .2 .rest;
-                        bytes =
-                            sh .2 .begins
-                            ∙ ap (λ (x : List ℕ). x ++ sh .2 .rest)
-                            (ap (λ (x : ℕ). imageOf x us ws) (sym (rebuilt .place-is ∙ read))
-                            ∙ ap₂ (λ (x y : List Value). imageOf (c .place) x y) (sym (rebuilt .locals-are)) (sym values-are));
-                      }
-
                   depth-there : length (wholeStack c) ≡ w .depth
                   depth-there =
                       ap length (rebuilt .stack-is) ∙ length-reverse ws ∙ sym (length-map ws kindOf) ∙ ap length (sh .2 .stack-kinds) ∙ sym (f .depth-is)
 
-                  same-frames : frames (rebuilt .sound) ≡ f .frames-there
+                  same-frames : frames (rebuilt .sound) ≡ f .frames
                   same-frames = reached-once (subst (λ (x : ℕ). Reaches s h x (frames (rebuilt .sound))) (rebuilt .place-is) (rebuilt .sound .reached)) (f .reached)
 
                   nested : Nested s h (frames (rebuilt .sound)) (c .labels)
@@ -272,16 +208,16 @@ module _ {s : List ℕ} {place : ℕ} {kinds₀ marks₀ kinds marks : List ℕ}
                   marks-there : Marked (c .labels) marks
                   marks-there =
                       subst (Marked (c .labels))
-                      (ap₂ (λ (fs : List Frame) (bs : List ℕ). marksOf fs bs ++ drop (length (marksOf (f .frames-there) (f .around-there))) marks₀) same-frames (rebuilt .bodies-are)
+                      (ap₂ (λ (fs : List Frame) (bs : List ℕ). marksOf fs bs ++ drop (length (marksOf (f .frames) (f .begun))) marks₀) same-frames (rebuilt .bodies-are)
                       ∙ sym (f .marks-are))
-                      (marks-of nested (reached-one (rebuilt .sound .reached)) (drop (length (marksOf (f .frames-there) (f .around-there))) marks₀))
+                      (marks-of nested (reached-one (rebuilt .sound .reached)) (drop (length (marksOf (f .frames) (f .begun))) marks₀))
 
                   pub resumable : Resumable s mem out buffer (set marks (3 * nestLimit) (w .nest)) place (w .depth) count
                   resumable =
                       record {
                         valid = v;
                         config = c;
-                        pictures = pictures;
+                        pictures = rebuilt-pictures rebuilt read (sh .2);
                         place-is = rebuilt .place-is;
                         depth-is = depth-there;
                         counted = local-count (declared (v .reached));

@@ -21,6 +21,7 @@ use Rattle.run.specs.Resume.{resumeAsks, Resumes}
 use Rattle.run.proofs.Picturing.{pictures-once}
 use Rattle.run.proofs.run.Reads as run
 use Rattle.run.proofs.run_once.Reads as run-once
+use Rattle.run.proofs.resuming.resume.Reads as resume
 
 -- a strip that keeps the rules has one header
 pub header-once : {s : List ℕ} (v w : Valid s) → v .header ≡ w .header
@@ -96,8 +97,7 @@ buffer-once e = cc (e)
 pub one-run : (κs : _) (a : _) (e e′ : _) (r r′ : Answer) → run.Post κs a r e → run.Post κs a r′ e′
     → (r ≡ r′) × (now (e .1 .1 .0) ≡ now (e′ .1 .1 .0)) × (now (e .1 .1 .1 .0) ≡ now (e′ .1 .1 .1 .0)) × (now (e .1 .1 .1 .1 .0) ≡ now (e′ .1 .1 .1 .1 .0))
 one-run κs a e e′ r r′ p q =
-    let same = runs-once _ _ _ _ _ _ p q in
-    (
+    let same = runs-once _ _ _ _ _ _ p q in (
       ap (λ (x : Left). x .answer) same,
       ap (λ (x : Left). x .memory) same,
       ap (λ (x : Left). x .results) same,
@@ -109,3 +109,13 @@ pub one-run-once : (κs : _) (a : _) (e e′ : _) (r r′ : Answer) → run-once
 one-run-once κs a e e′ r r′ p q =
     let same = runs-once _ _ _ _ _ _ p q in
     (ap (λ (x : Left). x .answer) same, ap (λ (x : Left). x .memory) same, ap (λ (x : Left). x .results) same)
+
+pub one-resume : (κs : _) (a : _) (e e′ : _) (r r′ : Answer) → resume.Post κs a r e → resume.Post κs a r′ e′
+    → (r ≡ r′) × (now (e .1 .0) ≡ now (e′ .1 .0)) × (now (e .1 .1 .0) ≡ now (e′ .1 .1 .0)) × (now (e .1 .1 .1 .0) ≡ now (e′ .1 .1 .1 .0))
+one-resume κs a e e′ r r′ p q =
+    let same = resumes-once _ _ _ _ _ p q in (
+      ap (λ (x : Left). x .answer) same,
+      ap (λ (x : Left). x .memory) same,
+      ap (λ (x : Left). x .results) same,
+      buffer-once (ap (λ (x : Left). x .image) same),
+    )

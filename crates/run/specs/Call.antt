@@ -13,7 +13,6 @@ use Rattle.run.specs.Meter.{Left, leaves, meter}
 
 -- P has to be so, or else the answer is this code
 infix 20 _or_
-
 pub data Question : Type 1 where
   _or_ : Type 0 → ℕ → Question
 

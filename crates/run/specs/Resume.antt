@@ -6,7 +6,11 @@ use mathlib.Core.Option.{some}
 use lib.ListN.{length}
 use Rattle.card.specs.Card.{ROOM, OUT, SMALL, IMAGE}
 use Rattle.limits.specs.Limits.{memoryLimit}
-use Rattle.rules.specs.Header.{Header}
+use Rattle.machine.specs.Value.{Value}
+use Rattle.image.specs.Image.{placeIn, Shows}
+use Rattle.rules.specs.Header.{Header, locals}
+use Rattle.rules.specs.Typing.{Frame, allValues, Live}
+use Rattle.rules.specs.Strip.{Reaches}
 use Rattle.standard.specs.Standard.{Config}
 use Rattle.standard.specs.Safety.{Sound, Placed}
 use Rattle.run.specs.Meter.{Left, pictureOf}
@@ -21,6 +25,16 @@ pub record Pictures (s : List ℕ) (h : Header) (mem buffer : List ℕ) (c : Con
   pub memory : c .state .memory ≡ mem
   pub rest : List ℕ
   pub bytes : buffer ≡ pictureOf c ++ rest
+
+-- the same in the words of 02, part by part: at the place that it tells stands an instruction, in no dead code; mark and version are right, the depth
+-- is that of the values known there, and what the kinds of the locals and of those values do not use is zero (Picturing.pictured-exact)
+pub record Passes (s : List ℕ) (h : Header) (buffer : List ℕ) : Type 0 where
+  pub frames : List Frame
+  pub reached : Reaches s h (placeIn buffer) frames
+  pub live : Live frames
+  pub local-values : List Value
+  pub stack-values : List Value
+  pub shows : Shows (locals h) (allValues frames) buffer (placeIn buffer) local-values stack-values
 
 -- what is asked of a strip that keeps every rule
 abbrev pub resumeAsks : List ℕ → List ℕ → List ℕ → List ℕ → Asks

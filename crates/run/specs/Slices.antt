@@ -18,3 +18,11 @@ pub data Slices (s : List ℕ) : Left → List ℕ → Left → ℕ → Type 0 w
   over : {x : Left} {ks : List ℕ} → (x .answer .code ≡ BUDGET → ⊥) → Slices s x ks x 0
   slice : {x y z : Left} {k n : ℕ} {ks buffer : List ℕ} → x .answer .code ≡ BUDGET → x .image ≡ some buffer
       → Resumes s (x .memory) (x .results) buffer k y → Slices s y ks z n → Slices s x (k ∷ ks) z (y .answer .steps + n)
+
+-- w is left by one run: with the last code and place, the memory and the results of z, and with the steps of x and n more
+pub record Together (x z : Left) (n : ℕ) (w : Left) : Type 0 where
+  pub code : w .answer .code ≡ z .answer .code
+  pub place : w .answer .place ≡ z .answer .place
+  pub steps : w .answer .steps ≡ x .answer .steps + n
+  pub memory : w .memory ≡ z .memory
+  pub results : w .results ≡ z .results

@@ -2,19 +2,20 @@
 -- left is what it has left.
 use Prim.Native.Nat.{ℕ, suc, _*_, _≤_, _<_}
 use mathlib.Core.Path.{_≡_}
-use mathlib.Core.List.{List}
+use mathlib.Core.List.{List, [], _∷_}
 use mathlib.Core.Logic.{_⊎_}
-use mathlib.Core.Option.{Option}
+use mathlib.Core.Option.{Option, none, some}
 use lib.ListN.{length}
-use Rattle.card.specs.Card.{DONE, LABEL, ROOM, TRAP, BUDGET}
+use Rattle.card.specs.Card.{DONE, LABEL, ROOM, ARGS, OUT, FORM, SMALL, IMAGE, TRAP, BUDGET}
 use Rattle.limits.specs.Limits.{slot}
 use Rattle.machine.specs.Value.{Value, allBytes}
 use Rattle.rules.specs.Header.{Header}
 use Rattle.rules.specs.Strip.{Valid}
 use Rattle.standard.specs.Standard.{Config, going, ended, trapped, step, runs}
-use Rattle.standard.specs.Safety.{Strays, Finishes}
+use Rattle.standard.specs.Safety.{Strays, Finishes, Sound}
 use Rattle.run.specs.Meter.{Left, leaves, paused}
-use Rattle.run.specs.Call.{AllWell, Asks, TurnsAway}
+use Rattle.run.specs.Call.{Fails, AllWell, Asks, TurnsAway}
+use Rattle.run.specs.Run.{Slots, Roomy}
 
 -- the machine starts from b; the results' buffer was out, the image's img
 module _ (s : List ℕ) (h : Header) (b : Config) (out : List ℕ) (img : Option (List ℕ)) (budget : ℕ) where
@@ -28,12 +29,33 @@ module _ (s : List ℕ) (h : Header) (b : Config) (out : List ℕ) (img : Option
     -- with the image of where it is
     told-budget : {c : Config} → runs s h budget b ≡ going c → Told (leaves BUDGET (c .place) budget (c .state .memory) out (paused c img))
 
--- a code of the card that a call answers, whose questions have codes from ROOM up to this one
-abbrev pub OnCard : ℕ → ℕ → Type 0
-OnCard last c = (c ≤ LABEL) ⊎ ((ROOM ≤ c) × (c ≤ last)) ⊎ (c ≡ TRAP) ⊎ (c ≡ BUDGET)
+-- one of these codes
+abbrev pub OneOf : List ℕ → ℕ → Type 0
+OneOf [] c = ⊥
+OneOf (k ∷ ks) c = (c ≡ k) ⊎ OneOf ks c
+
+-- a code of the card that a call answers, whose questions have these
+abbrev pub OnCard : List ℕ → ℕ → Type 0
+OnCard codes c = (c ≤ LABEL) ⊎ OneOf codes c ⊎ (c ≡ TRAP) ⊎ (c ≡ BUDGET)
+
+abbrev pub runCodes : Option (List ℕ) → List ℕ
+runCodes none = ROOM ∷ ARGS ∷ OUT ∷ FORM ∷ []
+runCodes (some buffer) = ROOM ∷ ARGS ∷ OUT ∷ FORM ∷ SMALL ∷ []
+
+abbrev pub resumeCodes : List ℕ
+resumeCodes = ROOM ∷ OUT ∷ SMALL ∷ IMAGE ∷ []
 
 -- turned away, for its breach or by what is asked then, with everything as it was; or all was in order, and this is told of the machine
 module _ (s mem out : List ℕ) (img : Option (List ℕ)) (budget : ℕ) (asks : Asks) (Starts : Header → Config → Type 0) where
   pub data Called : Left → Type 0 where
     turned-away : {code place : ℕ} → TurnsAway s asks code place → Called (leaves code place 0 mem out img)
     told : (v : Valid s) (c : Config) {x : Left} → AllWell (asks (v .header)) → Starts (v .header) c → Told s (v .header) c out img budget x → Called x
+
+-- what is so of a run and of a resume: the machine starts in a sound state over the memory that is lent, the buffers are asked for, and the questions
+-- have codes below those of the machine
+pub record Orderly (s mem out : List ℕ) (img : Option (List ℕ)) (asks : Asks) (Starts : Header → Config → Type 0) (codes : List ℕ) : Type 0 where
+  pub sound : (v : Valid s) (c : Config) → Starts (v .header) c → Sound s (v .header) c × (c .state .memory ≡ mem)
+  pub slots : (v : Valid s) → AllWell (asks (v .header)) → Slots (v .header .results) out
+  pub roomy : (v : Valid s) → AllWell (asks (v .header)) → Roomy img
+  pub coded : (v : Valid s) (c : ℕ) → Fails (asks (v .header)) c → OneOf codes c
+  pub early : (v : Valid s) (c : ℕ) → Fails (asks (v .header)) c → c < TRAP

@@ -14,9 +14,7 @@ ghost use Rattle.standard.specs.Standard.{Config, step};
 ghost use Rattle.run.specs.Inner.Carried.{openIn, Carries, Stacked, Seen, Led, turnsAt, Branching, Branched};
 ghost use Rattle.run.specs.Inner.Ends.{Kept};
 use crate::ends::end_of;
-
-// What a branch to a loop does; a block's number is that of its results.
-const LOOP: usize = 2;
+use checker::LOOP;
 
 // Where the strip goes on, and the values there. Place 0: it is left, with its results from the slot `depth` on.
 pub(crate) struct Next {

@@ -31,9 +31,9 @@ pub(crate) struct Labels {
     pub marks: [usize; MARKS],
 }
 
-pub(crate) const MARKS: usize = checker::MARKS;
+pub(crate) const OPEN: usize = checker::OPEN;
 
-pub(crate) const OPEN: usize = MARKS - 1;
+pub(crate) const MARKS: usize = checker::MARKS;
 
 // The ends of blocks that a branch has looked for.
 pub(crate) struct Closings {

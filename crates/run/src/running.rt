@@ -85,7 +85,13 @@ pub(crate) fn pause(
     if stop.code == card::BUDGET {
         let values = limits::SLOT * stop.depth;
         let held = limits::SLOT * count;
-        image::write(image, stop.place, stop.depth, &locals[..held], &stack[..values]);
+        image::write(
+            image,
+            stop.place,
+            stop.depth,
+            &locals[..held],
+            &stack[..values],
+        );
     }
     Answer {
         code: stop.code,

@@ -39,9 +39,9 @@ copy-requires c κs = search needs
 -- src/resuming.rt:126:1
 returns : tie.Need-returns
 returns c = (
-      part-fills (c .before .before .before .before .before .args .image .now) (replicate localBytes 0) frontBytes (frontBytes + localBytes) localBytes refl (omega (arith, c .before .before .before .before .before .pre)) (length-replicate {A = ℕ} localBytes 0) (c .before .copy .ensures .1),
-      refl,
-    )
+  part-fills (c .before .before .before .before .before .args .image .now) (replicate localBytes 0) frontBytes (frontBytes + localBytes) localBytes refl (omega (arith, c .before .before .before .before .before .pre)) (length-replicate {A = ℕ} localBytes 0) (c .before .copy .ensures .1),
+  refl,
+)
 
 pub locals-in-spec : {M : Type 1} → statement M
 locals-in-spec =

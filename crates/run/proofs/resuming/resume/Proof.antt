@@ -2,7 +2,8 @@ use mathlib.Core.Path.{_≡_, refl, sym, _∙_}
 use native.Mathlib.Omega.{arith}
 use borrow.Author.Tests.{not-true, not-false}
 use lib.Seq.{length-take-le}
-use Rattle.run.proofs.Surveying.{survey-kinds, survey-marks, survey-counts, survey-inside, survey-deep, survey-found, checked-first, no-room, other-out, no-image, no-place, other-values, resumable, resumed}
+use Rattle.checker.proofs.Surveys.{survey-found}
+use Rattle.run.proofs.Surveying.{survey-kinds, survey-marks, survey-counts, survey-inside, survey-deep, checked-first, no-room, other-out, no-image, no-place, other-values, resumable, resumed}
 use borrow.Author.Needs.{needs}
 use Rattle.run.proofs.resuming.resume.Statement.{statement}
 use Rattle.run.proofs.resuming.resume.Tie as tie
@@ -128,11 +129,11 @@ part-shows-end c = omega (arith, survey-inside (c .before .before .before .befor
 
 -- src/resuming.rt:59:45
 array-share-prefix-kinds : tie.Need-array-share-prefix-kinds
-array-share-prefix-kinds c = let n = survey-kinds (c .before .before .before .before .before .before .before .before .before .before .before .before .survey .ensures) (c .before .before .before .before .before .before .before .before .before .before .if1 .left) (not-false _ (c .before .before .before .before .if5 .left)) refl in omega (arith, n, survey-deep (c .before .before .before .before .before .before .before .before .before .before .before .before .survey .ensures) (c .before .before .before .before .before .before .before .before .before .before .if1 .left) (not-false _ (c .before .before .before .before .if5 .left)))
+array-share-prefix-kinds c = let n = survey-kinds (c .before .before .before .before .before .before .before .before .before .before .before .before .survey .ensures) (not-false _ (c .before .before .before .before .if5 .left)) refl in omega (arith, n, survey-deep (c .before .before .before .before .before .before .before .before .before .before .before .before .survey .ensures) (not-false _ (c .before .before .before .before .if5 .left)))
 
 -- src/resuming.rt:59:45
 slice-aggregate-shows : tie.Need-slice-aggregate-shows
-slice-aggregate-shows c = let n = survey-kinds (c .before .before .before .before .before .before .before .before .before .before .before .before .before .survey .ensures) (c .before .before .before .before .before .before .before .before .before .before .before .if1 .left) (not-false _ (c .before .before .before .before .before .if5 .left)) refl in sym (length-take-le _ _ (omega (arith, n, survey-deep (c .before .before .before .before .before .before .before .before .before .before .before .before .before .survey .ensures) (c .before .before .before .before .before .before .before .before .before .before .before .if1 .left) (not-false _ (c .before .before .before .before .before .if5 .left)))))
+slice-aggregate-shows c = let n = survey-kinds (c .before .before .before .before .before .before .before .before .before .before .before .before .before .survey .ensures) (not-false _ (c .before .before .before .before .before .if5 .left)) refl in sym (length-take-le _ _ (omega (arith, n, survey-deep (c .before .before .before .before .before .before .before .before .before .before .before .before .before .survey .ensures) (not-false _ (c .before .before .before .before .before .if5 .left)))))
 
 -- src/resuming.rt:59:9
 shows-requires : tie.Need-shows-requires
@@ -148,7 +149,7 @@ same-length-6 c = search needs
 
 -- src/resuming.rt:60:9
 returns-6 : tie.Need-returns-6
-returns-6 c = other-values (c .before .before .before .before .before .before .before .before .before .before .before .before .before .before .before .before .survey .ensures) (c .before .before .before .before .before .before .before .before .before .before .before .before .before .before .before .before .before .before .before .before .before .before .before .before .before .args .mem .now) (c .before .before .before .before .before .before .before .before .before .before .before .before .before .before .before .before .before .before .before .before .before .before .before .before .before .args .results .now) (c .before .before .before .before .before .before .before .before .before .before .before .before .before .before .before .before .before .before .before .before .before .before .before .before .before .args .image .now) (c .before .before .before .before .before .before .before .before .before .before .before .before .before .before .before .before .before .before .before .before .before .before .before .before .before .args .budget) (c .before .before .before .before .before .before .before .before .before .before .before .before .before .before .if1 .left) (c .before .before .before .before .before .before .before .before .before .before .before .before .before .if2 .left) (c .before .before .before .before .before .before .before .before .before .before .before .if3 .left) (c .before .before .before .before .before .before .before .before .before .before .if4 .left) (c .before .before .before .before .before .before .before .before .before .before .before .before .before .before .before .before .before .before .before .place-in .ensures) (survey-found (c .before .before .before .before .before .before .before .before .before .before .before .before .before .before .before .before .survey .ensures) (c .before .before .before .before .before .before .before .before .before .before .before .before .before .before .if1 .left) (not-false _ (c .before .before .before .before .before .before .before .before .if5 .left))) (c .before .before .shows .ensures) _ (c .refused5 .ensures) (not-true _ (c .before .if6 .taken))
+returns-6 c = other-values (c .before .before .before .before .before .before .before .before .before .before .before .before .before .before .before .before .survey .ensures) (c .before .before .before .before .before .before .before .before .before .before .before .before .before .before .before .before .before .before .before .before .before .before .before .before .before .args .mem .now) (c .before .before .before .before .before .before .before .before .before .before .before .before .before .before .before .before .before .before .before .before .before .before .before .before .before .args .results .now) (c .before .before .before .before .before .before .before .before .before .before .before .before .before .before .before .before .before .before .before .before .before .before .before .before .before .args .image .now) (c .before .before .before .before .before .before .before .before .before .before .before .before .before .before .before .before .before .before .before .before .before .before .before .before .before .args .budget) (c .before .before .before .before .before .before .before .before .before .before .before .before .before .before .if1 .left) (c .before .before .before .before .before .before .before .before .before .before .before .before .before .if2 .left) (c .before .before .before .before .before .before .before .before .before .before .before .if3 .left) (c .before .before .before .before .before .before .before .before .before .before .if4 .left) (c .before .before .before .before .before .before .before .before .before .before .before .before .before .before .before .before .before .before .before .place-in .ensures) (survey-found (c .before .before .before .before .before .before .before .before .before .before .before .before .before .before .before .before .survey .ensures) (not-false _ (c .before .before .before .before .before .before .before .before .if5 .left))) (c .before .before .shows .ensures) _ (c .refused5 .ensures) (not-true _ (c .before .if6 .taken))
 
 -- src/resuming.rt:62:5
 element-write-labels : tie.Need-element-write-labels
@@ -156,8 +157,8 @@ element-write-labels c = search needs
 
 -- src/resuming.rt:63:5
 carry-on-requires : tie.Need-carry-on-requires
-carry-on-requires c κs = let n = survey-marks (c .before .before .before .before .before .before .before .before .before .before .before .before .before .before .before .before .before .before .before .survey .ensures) (c .before .before .before .before .before .before .before .before .before .before .before .before .before .before .before .before .before .if1 .left) (not-false _ (c .before .before .before .before .before .before .before .before .before .before .before .if5 .left)) refl in
-    resumable (c .before .before .before .before .before .before .before .before .before .before .before .before .before .before .before .before .before .before .before .survey .ensures) (c .before .before .before .before .before .before .before .before .before .before .before .before .before .before .before .before .before .before .before .before .before .before .before .before .before .before .before .before .args .mem .now) (c .before .before .before .before .before .before .before .before .before .before .before .before .before .before .before .before .before .before .before .before .before .before .before .before .before .before .before .before .args .results .now) (c .before .before .before .before .before .before .before .before .before .before .before .before .before .before .before .before .before .before .before .before .before .before .before .before .before .before .before .before .args .image .now) (c .before .before .before .before .before .before .before .before .before .before .before .before .before .before .before .before .before .before .before .before .before .before .before .before .before .before .before .before .args .budget) (c .before .before .before .before .before .before .before .before .before .before .before .before .before .before .before .before .before .if1 .left) (c .before .before .before .before .before .before .before .before .before .before .before .before .before .before .before .before .if2 .left) (c .before .before .before .before .before .before .before .before .before .before .before .before .before .before .if3 .left) (c .before .before .before .before .before .before .before .before .before .before .before .before .before .if4 .left) (c .before .before .before .before .before .before .before .before .before .before .before .before .before .before .before .before .before .before .before .before .before .before .place-in .ensures) (survey-found (c .before .before .before .before .before .before .before .before .before .before .before .before .before .before .before .before .before .before .before .survey .ensures) (c .before .before .before .before .before .before .before .before .before .before .before .before .before .before .before .before .before .if1 .left) (not-false _ (c .before .before .before .before .before .before .before .before .before .before .before .if5 .left))) (c .before .before .before .before .before .shows .ensures) (λ k. c .before .before .before .before .before .before .before .before .before .before .before .before .before .before .before .before .before .before .before .before .before .before .before .before .before .before .slice-known .given k .fits) (not-false _ (c .before .before .before .before .if6 .left)) n
+carry-on-requires c κs = let n = survey-marks (c .before .before .before .before .before .before .before .before .before .before .before .before .before .before .before .before .before .before .before .survey .ensures) (not-false _ (c .before .before .before .before .before .before .before .before .before .before .before .if5 .left)) refl in
+    resumable (c .before .before .before .before .before .before .before .before .before .before .before .before .before .before .before .before .before .before .before .survey .ensures) (c .before .before .before .before .before .before .before .before .before .before .before .before .before .before .before .before .before .before .before .before .before .before .before .before .before .before .before .before .args .mem .now) (c .before .before .before .before .before .before .before .before .before .before .before .before .before .before .before .before .before .before .before .before .before .before .before .before .before .before .before .before .args .results .now) (c .before .before .before .before .before .before .before .before .before .before .before .before .before .before .before .before .before .before .before .before .before .before .before .before .before .before .before .before .args .image .now) (c .before .before .before .before .before .before .before .before .before .before .before .before .before .before .before .before .before .before .before .before .before .before .before .before .before .before .before .before .args .budget) (c .before .before .before .before .before .before .before .before .before .before .before .before .before .before .before .before .before .if1 .left) (c .before .before .before .before .before .before .before .before .before .before .before .before .before .before .before .before .if2 .left) (c .before .before .before .before .before .before .before .before .before .before .before .before .before .before .if3 .left) (c .before .before .before .before .before .before .before .before .before .before .before .before .before .if4 .left) (c .before .before .before .before .before .before .before .before .before .before .before .before .before .before .before .before .before .before .before .before .before .before .place-in .ensures) (survey-found (c .before .before .before .before .before .before .before .before .before .before .before .before .before .before .before .before .before .before .before .survey .ensures) (not-false _ (c .before .before .before .before .before .before .before .before .before .before .before .if5 .left))) (c .before .before .before .before .before .shows .ensures) (λ k. c .before .before .before .before .before .before .before .before .before .before .before .before .before .before .before .before .before .before .before .before .before .before .before .before .before .before .slice-known .given k .fits) (not-false _ (c .before .before .before .before .if6 .left)) n
 
 -- src/resuming.rt:22:1
 same-length-7 : tie.Need-same-length-7

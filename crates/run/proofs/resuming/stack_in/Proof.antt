@@ -43,9 +43,9 @@ copy-requires c κs = search needs
 -- src/resuming.rt:114:1
 returns : tie.Need-returns
 returns c = (
-      part-fills (c .before .before .before .before .before .args .image .now) (replicate stackBytes 0) (frontBytes + localBytes) ((frontBytes + localBytes) + stackBytes) stackBytes refl (omega (arith, c .before .before .before .before .before .pre)) (length-replicate {A = ℕ} stackBytes 0) (c .before .copy .ensures .1),
-      refl,
-    )
+  part-fills (c .before .before .before .before .before .args .image .now) (replicate stackBytes 0) (frontBytes + localBytes) ((frontBytes + localBytes) + stackBytes) stackBytes refl (omega (arith, c .before .before .before .before .before .pre)) (length-replicate {A = ℕ} stackBytes 0) (c .before .copy .ensures .1),
+  refl,
+)
 
 pub stack-in-spec : {M : Type 1} → statement M
 stack-in-spec =

@@ -56,9 +56,9 @@ add-at-2 c = omega (arith, counts-read (declared (c .before .before .before .bef
 -- src/running.rt:51:9
 go-on-requires : tie.Need-go-on-requires
 go-on-requires c κs = let counts = counts-read (declared (c .before .before .before .before .before .before .before .before .before .before .before .before .before .before .before .pre .valid .reached)) in (
-      may-begin (c .before .before .before .before .before .before .before .before .before .before .before .before .before .before .before .pre) (λ k. c .before .before .before .before .before .before .before .before .before .before .before .before .slice-known .given k) (c .before .before .before .before .before .before .before .locals-of .ensures .0) (omega (arith, c .before .before .before .before .before .before .before .locals-of .ensures .1, counts .body)),
-      none-kept _,
-    )
+  may-begin (c .before .before .before .before .before .before .before .before .before .before .before .before .before .before .before .pre) (λ k. c .before .before .before .before .before .before .before .before .before .before .before .before .slice-known .given k) (c .before .before .before .before .before .before .before .locals-of .ensures .0) (omega (arith, c .before .before .before .before .before .before .before .locals-of .ensures .1, counts .body)),
+  none-kept _,
+)
 
 -- src/running.rt:63:5
 pause-requires : tie.Need-pause-requires
