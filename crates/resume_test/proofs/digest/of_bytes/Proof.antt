@@ -14,4 +14,5 @@ abbrev μ-loop : tie.MeasureT-loop
 pub of-bytes-spec : {M : Type 1} → statement M
 of-bytes-spec =
     tie.close
-    (tie.spec Inv-loop μ-loop (λ c. tt) (λ c. search needs) (λ c κs. search needs) (λ c. search needs) (λ c. search needs) (λ c. tt) (λ c. search needs))
+    (tie.spec Inv-loop μ-loop (λ c. tt) (λ c. search needs) (λ c κs. search needs) (λ c. search needs) (λ c. search needs) (λ c. tt)
+    (λ c. search needs))

@@ -8,7 +8,8 @@ use Rattle.resume_test.proofs.judging.every_byte.Statement.{statement}
 use Rattle.resume_test.proofs.judging.every_byte.Tie as tie
 
 abbrev Inv-loop : tie.InvT-loop
-Inv-loop flip strip mem₀ results₀ image₀ at₀ mem results image at = (length mem ≡ length mem₀) × (length results ≡ length results₀) × (length image ≡ length image₀)
+Inv-loop flip strip mem₀ results₀ image₀ at₀ mem results image at =
+    (length mem ≡ length mem₀) × (length results ≡ length results₀) × (length image ≡ length image₀)
 
 abbrev μ-loop : tie.MeasureT-loop
 μ-loop flip strip mem₀ results₀ image₀ at₀ mem results image at = length image - at
@@ -16,4 +17,5 @@ abbrev μ-loop : tie.MeasureT-loop
 pub every-byte-spec : {M : Type 1} → statement M
 every-byte-spec =
     tie.close
-    (tie.spec Inv-loop μ-loop (λ c. (omega arith, omega arith, omega arith)) (λ c κs. search needs) (λ c. omega arith) (λ c. omega arith) (λ c. (omega arith, omega arith, omega arith)) (λ c. omega arith) (λ c. omega arith) (λ c. omega arith) (λ c. search needs))
+    (tie.spec Inv-loop μ-loop (λ c. (omega arith, omega arith, omega arith)) (λ c κs. search needs) (λ c. omega arith) (λ c. omega arith)
+    (λ c. (omega arith, omega arith, omega arith)) (λ c. omega arith) (λ c. omega arith) (λ c. omega arith) (λ c. search needs))

@@ -8,7 +8,8 @@ use Rattle.resume_test.proofs.judging.every_place.Statement.{statement}
 use Rattle.resume_test.proofs.judging.every_place.Tie as tie
 
 abbrev Inv-loop : tie.InvT-loop
-Inv-loop line strip mem₀ results₀ image₀ place₀ mem results image place = (length mem ≡ length mem₀) × (length results ≡ length results₀) × (length image ≡ length image₀)
+Inv-loop line strip mem₀ results₀ image₀ place₀ mem results image place =
+    (length mem ≡ length mem₀) × (length results ≡ length results₀) × (length image ≡ length image₀)
 
 abbrev μ-loop : tie.MeasureT-loop
 μ-loop line strip mem₀ results₀ image₀ place₀ mem results image place = length strip + 1 - place
@@ -16,4 +17,6 @@ abbrev μ-loop : tie.MeasureT-loop
 pub every-place-spec : {M : Type 1} → statement M
 every-place-spec =
     tie.close
-    (tie.spec Inv-loop μ-loop (λ c. (omega arith, omega arith, omega arith)) (λ c κs. search needs) (λ c κs. search needs) (λ c κs. search needs) (λ c. omega arith) (λ c. omega arith) (λ c. (omega arith, omega arith, omega arith)) (λ c. omega arith) (λ c. omega arith) (λ c. omega arith) (λ c. search needs))
+    (tie.spec Inv-loop μ-loop (λ c. (omega arith, omega arith, omega arith)) (λ c κs. search needs) (λ c κs. search needs) (λ c κs. search needs)
+    (λ c. omega arith) (λ c. omega arith) (λ c. (omega arith, omega arith, omega arith)) (λ c. omega arith) (λ c. omega arith) (λ c. omega arith)
+    (λ c. search needs))

@@ -15,4 +15,5 @@ abbrev μ-loop : tie.MeasureT-loop
 pub print-image-spec : {M : Type 1} → statement M
 print-image-spec =
     tie.close
-    (tie.spec Inv-loop μ-loop (λ c. tt) (λ c κs. search needs) (λ c. search needs) (λ c. search needs) (λ c κs. search needs) (λ c. omega arith) (λ c. tt) (λ c. search needs))
+    (tie.spec Inv-loop μ-loop (λ c. tt) (λ c κs. search needs) (λ c. search needs) (λ c. search needs) (λ c κs. search needs) (λ c. omega arith)
+    (λ c. tt) (λ c. search needs))

@@ -15,4 +15,5 @@ abbrev μ-loop : tie.MeasureT-loop
 pub row-spec : {M : Type 1} → statement M
 row-spec =
     tie.close
-    (tie.spec Inv-loop μ-loop (λ c. omega arith) (λ c. omega arith) (λ c. (omega arith, omega arith)) (λ c. search needs) (λ c. (omega arith, omega arith)) (λ c. omega arith) (λ c. omega arith) (λ c. (omega arith, omega arith)) (λ c. (omega arith, omega arith)))
+    (tie.spec Inv-loop μ-loop (λ c. omega arith) (λ c. omega arith) (λ c. (omega arith, omega arith)) (λ c. search needs)
+    (λ c. (omega arith, omega arith)) (λ c. omega arith) (λ c. omega arith) (λ c. (omega arith, omega arith)) (λ c. (omega arith, omega arith)))
