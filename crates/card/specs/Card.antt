@@ -98,7 +98,7 @@ FORM = 23
 abbrev pub SMALL : ℕ
 SMALL = 24
 
--- no image of a run of this strip
+-- an image that shows no sound state of the strip
 abbrev pub IMAGE : ℕ
 IMAGE = 25
 

@@ -20,7 +20,7 @@ use Rattle.rules.specs.Strip.{Valid}
 use Rattle.rules.proofs.Onward.{declared}
 use Rattle.standard.specs.Closing.{close}
 use Rattle.standard.specs.Inner.{ClosesIn}
-use Rattle.standard.specs.Standard.{Label, Config, going, ended, withStack, along, resume, jump, branch, underAll}
+use Rattle.standard.specs.Standard.{Label, Config, going, ended, withStack, along, beyond, jump, branch, underAll}
 use Rattle.standard.specs.Safety.{Sound, Safe, safe-going, safe-ended}
 use Rattle.standard.proofs.ValueKinds.{fit-kinds}
 use Rattle.standard.proofs.Finishing.{out-of}
@@ -155,7 +155,7 @@ module _ {s : List ℕ} (v : Valid s) {σ : State} {ls : List Label} {index dept
         let again : Config = record { place = l .body; state = withStack σ []; labels = l ∷ rest } in
         let is-loop : l .loop ≡ true = loop-by (l .loop) (length (l .results)) (T .marked .3) (sym way-is ∙ e) in
         let there : jump s h σ l rest ≡ going again =
-        ap (λ (t : Bool). cond t (going again) (along (l .results) (σ .stack) (λ vs. resume σ l rest vs (close (h .version) s (l .body))))) is-loop in
+        ap (λ (t : Bool). cond t (going again) (along (l .results) (σ .stack) (λ vs. beyond σ l rest vs (close (h .version) s (l .body))))) is-loop in
         leads-on (T .jumps ∙ there)
         (record {
           place = sym body-is;
@@ -203,23 +203,23 @@ module _ {s : List ℕ} (v : Valid s) {σ : State} {ls : List Label} {index dept
       abbrev next : Config
       next = record { place = to .place; state = withStack σ (taken ++ l .under); labels = rest }
 
-      block-jump : jump s h σ l rest ≡ along (l .results) (σ .stack) (λ vs. resume σ l rest vs (close (h .version) s (l .body)))
+      block-jump : jump s h σ l rest ≡ along (l .results) (σ .stack) (λ vs. beyond σ l rest vs (close (h .version) s (l .body)))
       block-jump =
           let again : Config = record { place = l .body; state = withStack σ []; labels = l ∷ rest } in
-          ap (λ (t : Bool). cond t (going again) (along (l .results) (σ .stack) (λ vs. resume σ l rest vs (close (h .version) s (l .body)))))
+          ap (λ (t : Bool). cond t (going again) (along (l .results) (σ .stack) (λ vs. beyond σ l rest vs (close (h .version) s (l .body)))))
           no-loop
 
-      safe-along : Safe s h (L .from) (along (l .results) (σ .stack) (λ vs. resume σ l rest vs (close (h .version) s (l .body))))
+      safe-along : Safe s h (L .from) (along (l .results) (σ .stack) (λ vs. beyond σ l rest vs (close (h .version) s (l .body))))
       safe-along = subst (Safe s h (L .from)) block-jump safe-jump
 
       there : jump s h σ l rest ≡ going next
-      there = block-jump ∙ unhalted {s = s} {h = h} {b = L .from} (ofKinds taken (reverse (l .results))) safe-along ∙ ap (resume σ l rest taken) (to .found)
+      there = block-jump ∙ unhalted {s = s} {h = h} {b = L .from} (ofKinds taken (reverse (l .results))) safe-along ∙ ap (beyond σ l rest taken) (to .found)
 
       taken-many : length taken ≡ length (l .results)
       taken-many =
           sym (length-map taken kindOf)
           ∙ ap length (fit-kinds taken (reverse (l .results))
-          (unhalted-if {s = s} {h = h} {b = L .from} (ofKinds taken (reverse (l .results))) (resume σ l rest taken (close (h .version) s (l .body)))
+          (unhalted-if {s = s} {h = h} {b = L .from} (ofKinds taken (reverse (l .results))) (beyond σ l rest taken (close (h .version) s (l .body)))
           safe-along))
           ∙ length-reverse (l .results)
 

@@ -11,7 +11,7 @@ use Rattle.rules.specs.Header.{Header, locals}
 use Rattle.rules.specs.Typing.{Frame, opened, holding, branchKinds, Target, innermost, outer, Live}
 use Rattle.rules.specs.Strip.{Reaches, Valid}
 use Rattle.standard.specs.Closing.{close}
-use Rattle.standard.specs.Standard.{Label, Config, Stage, going, ended, halted, withStack, along, resume, jump, branch}
+use Rattle.standard.specs.Standard.{Label, Config, Stage, going, ended, halted, withStack, along, beyond, jump, branch}
 use Rattle.standard.specs.Safety.{Nested, outermost, inside, Fits, Sound, Finishes, Safe, safe-going, safe-ended}
 use Rattle.standard.proofs.ValueKinds.{reverse-kinds, reverse-range, kinds-fit}
 use Rattle.standard.proofs.Along.{no-steps}
@@ -78,11 +78,11 @@ module _ {s : List ℕ} (v : Valid s) (b : Config) (sound : Sound s (v .header) 
 
     -- a block is left
     leaves : map kindOf (take (length (l .results)) (σ .stack)) ≡ reverse (l .results)
-        → Good (along (l .results) (σ .stack) (λ vs. resume σ l ls vs (close (h .version) s (l .body))))
+        → Good (along (l .results) (σ .stack) (λ vs. beyond σ l ls vs (close (h .version) s (l .body))))
     leaves top =
         let vs = take (length (l .results)) (σ .stack) in
         let to = finds-end v e in
-        subst Good (sym (goes-along (l .results) (σ .stack) (λ vs. resume σ l ls vs (close (h .version) s (l .body))) top ∙ ap (resume σ l ls vs) (to .found)))
+        subst Good (sym (goes-along (l .results) (σ .stack) (λ vs. beyond σ l ls vs (close (h .version) s (l .body))) top ∙ ap (beyond σ l ls vs) (to .found)))
         (safe-going (record {
           frame = holding g (g .values ++ f .results);
           outer = fs;
@@ -98,7 +98,7 @@ module _ {s : List ℕ} (v : Valid s) (b : Config) (sound : Sound s (v .header) 
     jumps below top = by (l .loop) refl
       where
         by : (t : Bool) → l .loop ≡ t
-            → Good (cond t (going (record { place = l .body; state = withStack σ []; labels = l ∷ ls })) (along (l .results) (σ .stack) (λ vs. resume σ l ls vs (close (h .version) s (l .body)))))
+            → Good (cond t (going (record { place = l .body; state = withStack σ []; labels = l ∷ ls })) (along (l .results) (σ .stack) (λ vs. beyond σ l ls vs (close (h .version) s (l .body)))))
         by true q = again
         by false q =
             let taken : branchKinds f ≡ l .results = ap₂ (λ (t : Bool) (ks : List Kind). cond t [] ks) (sym a ∙ q) (sym r) in

@@ -21,7 +21,7 @@ use Rattle.machine.proofs.Outcomes.{done-ends}
 use Rattle.rules.specs.Header.{Header}
 use Rattle.rules.specs.Strip.{Reads}
 use Rattle.standard.specs.Closing.{isEnd, close}
-use Rattle.standard.specs.Standard.{Label, Config, Stage, going, ended, trapped, halted, withStack, countUnder, after, leave, along, resume, branch, branchIf, stepPlain, stepCode, step}
+use Rattle.standard.specs.Standard.{Label, Config, Stage, going, ended, trapped, halted, withStack, countUnder, after, leave, along, beyond, branch, branchIf, stepPlain, stepCode, step}
 use Rattle.standard.specs.Safety.{Exits, by-end, by-br, by-br-if, Finishes}
 use Rattle.standard.proofs.ValueKinds.{reverse-kinds, kinds-fit, fit-kinds}
 use Rattle.standard.proofs.Steps.{step-does, of-step}
@@ -58,9 +58,9 @@ module _ (s : List ℕ) (h : Header) (ws : List Value) (m : List ℕ) where
   either true x y = x
   either false x y = y
 
-  on-resume : (σ : State) (l : Label) (ls : List Label) (vs : List Value) (q : Option ℕ) → Unended (resume σ l ls vs q)
-  on-resume σ l ls vs none = on-halted
-  on-resume σ l ls vs (some q) = on-going _
+  on-beyond : (σ : State) (l : Label) (ls : List Label) (vs : List Value) (q : Option ℕ) → Unended (beyond σ l ls vs q)
+  on-beyond σ l ls vs none = on-halted
+  on-beyond σ l ls vs (some q) = on-going _
 
   -- ---- what ends
 
@@ -102,7 +102,7 @@ module _ (s : List ℕ) (h : Header) (ws : List Value) (m : List ℕ) where
   branch-out σ zero (l ∷ ls) e =
       absurd (either (l .loop) (on-going _)
       (either (ofKinds (take (length (l .results)) (σ .stack)) (reverse (l .results)))
-      (on-resume σ l ls (take (length (l .results)) (σ .stack)) (close (h .version) s (l .body))) on-halted) e)
+      (on-beyond σ l ls (take (length (l .results)) (σ .stack)) (close (h .version) s (l .body))) on-halted) e)
   branch-out σ (suc n) (l ∷ ls) e = let deeper = branch-out σ n ls e in (ap suc (deeper .0), deeper .1)
 
   -- an instruction of this code, over so many labels and this stack

@@ -19,7 +19,7 @@ use Rattle.rules.proofs.Typings.{end-untyped, control-untyped}
 use Rattle.rules.proofs.Sorts.{opens-control, branches-plain, opens-branches}
 use Rattle.rules.proofs.Arounds.{Bodies, around-bodies}
 use Rattle.standard.specs.Closing.{Closes, closed, goes-on as on-with, over-block, close}
-use Rattle.standard.specs.Standard.{Label, Config, Stage, going, ended, trapped, halted, withStack, countUnder, after, enter, along, resume}
+use Rattle.standard.specs.Standard.{Label, Config, Stage, going, ended, trapped, halted, withStack, countUnder, after, enter, along, beyond}
 use Rattle.standard.specs.Standard.{branch, branchIf, stepPlain, stepCode, step, onward, runs, begin}
 use Rattle.standard.specs.Safety.{Nested, outermost, inside, Sound, Safe, safe-going, bodies, Placed}
 use Rattle.standard.proofs.Steps.{step-does, does-ordinary}
@@ -66,8 +66,8 @@ module _ {s : List ℕ} (v : Valid s) where
   branch-placed σ zero (inside {l = l} {ls = ls} a b c d e w) at =
       let to = finds-end v e in
       either (l .loop) _ _ (at .0)
-      (along-placed (l .results) (σ .stack) (λ vs. resume σ l ls vs (close (h .version) s (l .body)))
-      (λ vs. subst Good (ap (resume σ l ls vs) (sym (to .found))) (closes-around (at .0) (to .closes-there))))
+      (along-placed (l .results) (σ .stack) (λ vs. beyond σ l ls vs (close (h .version) s (l .body)))
+      (λ vs. subst Good (ap (beyond σ l ls vs) (sym (to .found))) (closes-around (at .0) (to .closes-there))))
   branch-placed σ (suc n) (inside a b c d e w) at = branch-placed σ n w (at .1)
 
   -- ---- one instruction

@@ -18,7 +18,7 @@ use Rattle.rules.specs.Header.{Header, locals}
 use Rattle.rules.specs.Typing.{Frame, Types, ordinary, branches, may-branch, opens-block, opens-loop, closes}
 use Rattle.rules.specs.Strip.{Reads, Reaches, front, past, Valid}
 use Rattle.standard.specs.Closing.{isEnd, close}
-use Rattle.standard.specs.Standard.{Label, Config, Stage, going, ended, trapped, halted, withStack, after, leave, along, resume, jump, branch, branchIf, stepPlain, stepCode, step, onward, runs}
+use Rattle.standard.specs.Standard.{Label, Config, Stage, going, ended, trapped, halted, withStack, after, leave, along, beyond, jump, branch, branchIf, stepPlain, stepCode, step, onward, runs}
 use Rattle.standard.specs.Safety.{Nested, outermost, inside, Fits, Sound, Safe, safe-going}
 use Rattle.standard.specs.Exponents.{Realigned}
 use Rattle.standard.proofs.Steps.{step-does}
@@ -69,7 +69,7 @@ module _ {s t : List ℕ} (v : Valid s) (r : Realigned s t (v .header)) where
   branch-alike σ (suc n) (outermost a b) = refl
   branch-alike σ zero (inside {l = l} {ls} a b c d e w) =
       let again : Config = record { place = l .body; state = withStack σ []; labels = l ∷ ls } in
-      ap (λ (q : Option ℕ). cond (l .loop) (going again) (along (l .results) (σ .stack) (λ vs. resume σ l ls vs q))) (ends-alike e)
+      ap (λ (q : Option ℕ). cond (l .loop) (going again) (along (l .results) (σ .stack) (λ vs. beyond σ l ls vs q))) (ends-alike e)
   branch-alike σ (suc n) (inside a b c d e w) = branch-alike σ n w
 
   if-alike : (c : Config) (n x : ℕ) {fs : List Frame} → Nested s h fs (c .labels) → (vs : List Value) → branchIf t h c n x vs ≡ branchIf s h c n x vs

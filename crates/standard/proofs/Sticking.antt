@@ -12,7 +12,7 @@ use Rattle.machine.specs.Exec.{State, ofKinds}
 use Rattle.rules.specs.Header.{Header}
 use Rattle.rules.specs.Typing.{Frame, branchKinds, Target, innermost, outer}
 use Rattle.standard.specs.Closing.{close}
-use Rattle.standard.specs.Standard.{Label, Config, Stage, going, ended, halted, withStack, along, resume, jump, branch, branchIf}
+use Rattle.standard.specs.Standard.{Label, Config, Stage, going, ended, halted, withStack, along, beyond, jump, branch, branchIf}
 use Rattle.standard.specs.Safety.{Nested, outermost, inside}
 use Rattle.standard.proofs.ValueKinds.{fit-kinds}
 use Rattle.standard.proofs.Nestings.{no-target}
@@ -44,13 +44,13 @@ module _ (s : List ℕ) (h : Header) (σ : State) where
     no-jump g l ls a b never = by (l .loop) refl
       where
         by : (t : Bool) → l .loop ≡ t
-            → cond t (going (record { place = l .body; state = withStack σ []; labels = l ∷ ls })) (along (l .results) (σ .stack) (λ vs. resume σ l ls vs (close (h .version) s (l .body)))) ≡ halted
+            → cond t (going (record { place = l .body; state = withStack σ []; labels = l ∷ ls })) (along (l .results) (σ .stack) (λ vs. beyond σ l ls vs (close (h .version) s (l .body)))) ≡ halted
         by true q =
             let taken : branchKinds g ≡ [] = ap (λ (t : Bool). cond t [] (g .results)) (sym a ∙ q) in
             absurd (never values (sym (append-nil values) ∙ ap (λ (ks : List Kind). values ++ ks) (sym taken)))
         by false q =
             let taken : branchKinds g ≡ l .results = ap₂ (λ (t : Bool) (ks : List Kind). cond t [] ks) (sym a ∙ q) (sym b) in
-            stays (l .results) (λ vs. resume σ l ls vs (close (h .version) s (l .body))) (λ below e. never below (e ∙ ap (λ (ks : List Kind). below ++ ks) (sym taken)))
+            stays (l .results) (λ vs. beyond σ l ls vs (close (h .version) s (l .body))) (λ below e. never below (e ∙ ap (λ (ks : List Kind). below ++ ks) (sym taken)))
 
     pub lacking-branch : {fs : List Frame} {ls : List Label} {n : ℕ} {g : Frame} → Nested s h fs ls → Target fs n g → Lacks g → branch s h σ n ls ≡ halted
     lacking-branch {g = g} (outermost a b) innermost never =

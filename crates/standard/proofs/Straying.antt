@@ -21,7 +21,7 @@ use Rattle.machine.proofs.Traps.{traps-exact}
 use Rattle.rules.specs.Header.{Header}
 use Rattle.rules.specs.Strip.{Reads}
 use Rattle.standard.specs.Closing.{isEnd, close}
-use Rattle.standard.specs.Standard.{Label, Config, Stage, going, ended, trapped, halted, withStack, countUnder, after, leave, along, resume, branch, branchIf, stepPlain, stepCode, step}
+use Rattle.standard.specs.Standard.{Label, Config, Stage, going, ended, trapped, halted, withStack, countUnder, after, leave, along, beyond, branch, branchIf, stepPlain, stepCode, step}
 use Rattle.standard.specs.Safety.{Strays}
 use Rattle.standard.proofs.Steps.{step-does, of-step}
 
@@ -55,15 +55,15 @@ module _ (s : List ℕ) (h : Header) (a m : ℕ) where
   calm-along : (ks : List Kind) (vs : List Value) (f : List Value → Stage) → ((ws : List Value) → Calm (f ws)) → Calm (along ks vs f)
   calm-along ks vs f next = either (ofKinds (take (length ks) vs) (reverse ks)) (next (take (length ks) vs)) calm-halted
 
-  calm-resume : (σ : State) (l : Label) (ls : List Label) (vs : List Value) (q : Option ℕ) → Calm (resume σ l ls vs q)
-  calm-resume σ l ls vs none = calm-halted
-  calm-resume σ l ls vs (some q) = calm-going _
+  calm-beyond : (σ : State) (l : Label) (ls : List Label) (vs : List Value) (q : Option ℕ) → Calm (beyond σ l ls vs q)
+  calm-beyond σ l ls vs none = calm-halted
+  calm-beyond σ l ls vs (some q) = calm-going _
 
   calm-branch : (σ : State) (n : ℕ) (ls : List Label) → Calm (branch s h σ n ls)
   calm-branch σ zero [] = calm-along (h .results) (σ .stack) _ (λ vs. calm-ended (reverse vs) (σ .memory))
   calm-branch σ (suc n) [] = calm-halted
   calm-branch σ zero (l ∷ ls) =
-      either (l .loop) (calm-going _) (calm-along (l .results) (σ .stack) _ (λ vs. calm-resume σ l ls vs (close (h .version) s (l .body))))
+      either (l .loop) (calm-going _) (calm-along (l .results) (σ .stack) _ (λ vs. calm-beyond σ l ls vs (close (h .version) s (l .body))))
   calm-branch σ (suc n) (l ∷ ls) = calm-branch σ n ls
 
   calm-if : (c : Config) (n x : ℕ) (vs : List Value) → Calm (branchIf s h c n x vs)

@@ -94,16 +94,16 @@ abbrev pub along : List Kind → List Value → (List Value → Stage) → Stage
 along ks vs f = cond (ofKinds (take (length ks) vs) (reverse ks)) (f (take (length ks) vs)) halted
 
 -- past the `end` of a block, whose label goes
-abbrev pub resume : State → Label → List Label → List Value → Option ℕ → Stage
-resume σ l ls vs none = halted
-resume σ l ls vs (some q) = going (record { place = q; state = withStack σ (vs ++ l .under); labels = ls })
+abbrev pub beyond : State → Label → List Label → List Value → Option ℕ → Stage
+beyond σ l ls vs none = halted
+beyond σ l ls vs (some q) = going (record { place = q; state = withStack σ (vs ++ l .under); labels = ls })
 
 -- to a label: a loop begins again, after `loop`, and keeps its label; a block is left
 abbrev pub jump : List ℕ → Header → State → Label → List Label → Stage
 jump s h σ l ls =
     cond (l .loop)
     (going (record { place = l .body; state = withStack σ []; labels = l ∷ ls }))
-    (along (l .results) (σ .stack) (λ vs. resume σ l ls vs (close (h .version) s (l .body))))
+    (along (l .results) (σ .stack) (λ vs. beyond σ l ls vs (close (h .version) s (l .body))))
 
 -- to the label of this number; past the last label it is the strip that is left, as at its `end`, and past that there is no target
 abbrev pub branch : List ℕ → Header → State → ℕ → List Label → Stage
