@@ -42,8 +42,8 @@ pub extern "C" fn gevurlat_start(
 ) -> u64
     ensures { λ r. ⌜ Runs (now (strip .entry)) (now (args .entry)) (now (memory .entry)) (now (results .entry)) (some (now (image .entry))) budget (leaves (codeOf r) (placeOf r) (stepsOf r) (now (memory .exit)) (now (results .exit)) (some (now (image .exit)))) ⌝ }
 {
-    let ran = run::run(strip, args, memory, results, image, budget);
-    pack(ran.code, ran.place, ran.steps)
+    let started = run::run(strip, args, memory, results, image, budget);
+    pack(started.code, started.place, started.steps)
 }
 
 #[no_mangle]
@@ -56,8 +56,8 @@ pub extern "C" fn gevurlat_resume(
 ) -> u64
     ensures { λ r. ⌜ Resumes (now (strip .entry)) (now (memory .entry)) (now (results .entry)) (now (image .entry)) budget (leaves (codeOf r) (placeOf r) (stepsOf r) (now (memory .exit)) (now (results .exit)) (some (now (image .exit)))) ⌝ }
 {
-    let ran = run::resume(strip, memory, results, image, budget);
-    pack(ran.code, ran.place, ran.steps)
+    let resumed = run::resume(strip, memory, results, image, budget);
+    pack(resumed.code, resumed.place, resumed.steps)
 }
 
 // Code in bits 0-7, place in 8-31, steps in 32-63.
