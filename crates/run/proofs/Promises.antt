@@ -6,6 +6,7 @@ use mathlib.Core.Logic.{inl, inr}
 use mathlib.Core.Option.{Option, none, some}
 use native.Mathlib.Omega.{arith}
 use lib.ListN.{length, drop, length-append, length-drop}
+use lib.Seq.{drop-at}
 use Rattle.card.specs.Card.{DONE, LONG, LABEL, TRAP, BUDGET}
 use Rattle.limits.specs.Limits.{fileLimit}
 use Rattle.image.specs.Image.{imageBytes}
@@ -13,18 +14,20 @@ use Rattle.leb128.specs.Bytes.{bytes}
 use Rattle.machine.specs.Value.{Value}
 use Rattle.rules.specs.Header.{Header}
 use Rattle.rules.specs.Strip.{Valid}
+use Rattle.rules.proofs.Onward.{declared}
 use Rattle.rules.specs.Breach.{Breach, long, stub, unmarked, other-version, parameters, further, results, kind, kinds-short, short, block-type, opcode, float, number, lane, align, local, nest, label, operand, deep, result, trailing, breach}
 use Rattle.checker.proofs.Exact as Exact
 use Rattle.standard.specs.Standard.{Config, going, ended, step, runs, begin}
-use Rattle.standard.specs.Safety.{Sound, Safe, safe-going, safe-ended}
+use Rattle.standard.specs.Safety.{Sound, Placed, Safe, safe-going, safe-ended}
 use Rattle.standard.proofs.Begin.{begin-sound}
 use Rattle.standard.proofs.Never.{never-stuck}
 use Rattle.standard.proofs.Along.{one-more}
+use Rattle.standard.proofs.Placed.{begin-placed, runs-placed}
 use Rattle.run.specs.Meter.{Left, pictureOf, paused}
 use Rattle.run.specs.Call.{Fails, AllWell, Asks, breaks, fails, Calls, refused, metered}
 use Rattle.run.specs.Run.{Slots, Roomy, runAsks, Begins}
 use Rattle.run.specs.Resume.{Pictures, resumeAsks}
-use Rattle.run.specs.Told.{Told, told-done, told-trap, told-budget, OneOf, OnCard, runCodes, resumeCodes, Called, turned-away, told, Orderly}
+use Rattle.run.specs.Told.{Told, told-done, told-trap, told-budget, OneOf, OnCard, runCodes, resumeCodes, Called, turned-away, told, Orderly, Pauses}
 use Rattle.run.proofs.Places.{reached-inside}
 use Rattle.run.proofs.Metered.{metered-tells}
 use Rattle.run.proofs.Picturing.{picture-long}
@@ -188,6 +191,36 @@ module _ {s mem out : List ℕ} {img : Option (List ℕ)} {budget : ℕ} {asks :
                 let room : imageBytes ≤ length a = subst Roomy e (call .roomy v well) in
                 ap length z ∙ length-append (pictureOf d) (drop imageBytes a) ∙ omega (arith, room, picture-long there, length-drop imageBytes a)
 
+    -- what BUDGET leaves in it passes a resume, and no byte beyond is touched
+    pub pause-pictures : (a b : List ℕ) → img ≡ some a → x .answer .code ≡ BUDGET → x .image ≡ some b → Pauses s (x .memory) a b
+    pause-pictures a b e is f = by (call-told r) (call .early) is f
+      where
+        by : {x : Left} → Called s mem out img budget asks Starts x → ((v : Valid s) (c : ℕ) → Fails (asks (v .header)) c → c < TRAP) → x .answer .code ≡ BUDGET
+            → x .image ≡ some b → Pauses s (x .memory) a b
+        by (turned-away (breaks q)) early is g = absurd (let z : ⊥ = omega (arith, breach-range q .1, is) in z)
+        by (turned-away (fails {c} v q)) early is g = absurd (let z : ⊥ = omega (arith, early v c q, is) in z)
+        by (told v c well st t) early is g = told-paused t is g
+          where
+            told-paused : {x : Left} → Told s (v .header) c out img budget x → x .answer .code ≡ BUDGET → x .image ≡ some b → Pauses s (x .memory) a b
+            told-paused (told-done k l p q w n) is g = absurd (let z : ⊥ = omega (arith, is) in z)
+            told-paused (told-trap k l p q w) is g = absurd (let z : ⊥ = omega (arith, is) in z)
+            told-paused (told-budget {c = d} p) is g =
+                let there = sound-at v c (call .sound v c st .0) out img budget budget p .0 in
+                let same : some b ≡ some (pictureOf d ++ drop imageBytes a) = sym g ∙ ap (paused d) e in
+                let z : b ≡ pictureOf d ++ drop imageBytes a = cc (same) in
+                record {
+                  valid = v;
+                  config = d;
+                  pictures = record {
+                    sound = there;
+                    placed = runs-placed v c d (call .sound v c st .0) (call .placed v c st) budget p;
+                    memory = refl;
+                    rest = drop imageBytes a;
+                    bytes = z;
+                  };
+                  untouched = ap (drop imageBytes) z ∙ drop-at (pictureOf d) (drop imageBytes a) imageBytes (picture-long there);
+                }
+
     -- 24 bits hold every place
     pub place-most : bytes s → x .answer .place ≤ fileLimit
     place-most b = by (call-told r)
@@ -206,6 +239,7 @@ run-call {s} {args} {mem} {out} img m =
         subst (Sound s (v .header)) (sym (b .begins)) (begin-sound v (b .values) mem (record { kinds = b .given .kinds; range = b .given .range; bytes = m })),
         ap (λ (x : Config). x .state .memory) (b .begins),
       );
+      placed = λ v c b. subst (Placed s (v .header)) (sym (b .begins)) (begin-placed (declared (v .reached)) (b .values) mem);
       slots = λ v well. well .1 .1 .0;
       roomy = λ v well. well .1 .1 .1 .1 .0;
       coded = λ v. run-coded img (v .header);
@@ -243,6 +277,7 @@ pub resume-call : {s mem out buffer : List ℕ} → Orderly s mem out (some buff
 resume-call {s} {mem} {out} {buffer} =
     record {
       sound = λ v c p. (p .sound, p .memory);
+      placed = λ v c p. p .placed;
       slots = λ v well. well .1 .0;
       roomy = λ v well. well .1 .1 .0;
       coded = λ v. resume-coded (v .header);

@@ -5,17 +5,19 @@ use mathlib.Core.Path.{_≡_}
 use mathlib.Core.List.{List, [], _∷_}
 use mathlib.Core.Logic.{_⊎_}
 use mathlib.Core.Option.{Option, none, some}
-use lib.ListN.{length}
+use lib.ListN.{length, drop}
 use Rattle.card.specs.Card.{DONE, LABEL, ROOM, ARGS, OUT, FORM, SMALL, IMAGE, TRAP, BUDGET}
 use Rattle.limits.specs.Limits.{slot}
 use Rattle.machine.specs.Value.{Value, allBytes}
+use Rattle.image.specs.Image.{imageBytes}
 use Rattle.rules.specs.Header.{Header}
 use Rattle.rules.specs.Strip.{Valid}
 use Rattle.standard.specs.Standard.{Config, going, ended, trapped, step, runs}
-use Rattle.standard.specs.Safety.{Strays, Finishes, Sound}
+use Rattle.standard.specs.Safety.{Strays, Finishes, Sound, Placed}
 use Rattle.run.specs.Meter.{Left, leaves, paused}
 use Rattle.run.specs.Call.{Fails, AllWell, Asks, TurnsAway}
 use Rattle.run.specs.Run.{Slots, Roomy}
+use Rattle.run.specs.Resume.{Pictures}
 
 -- the machine starts from b; the results' buffer was out, the image's img
 module _ (s : List ℕ) (h : Header) (b : Config) (out : List ℕ) (img : Option (List ℕ)) (budget : ℕ) where
@@ -51,11 +53,19 @@ module _ (s mem out : List ℕ) (img : Option (List ℕ)) (budget : ℕ) (asks :
     turned-away : {code place : ℕ} → TurnsAway s asks code place → Called (leaves code place 0 mem out img)
     told : (v : Valid s) (c : Config) {x : Left} → AllWell (asks (v .header)) → Starts (v .header) c → Told s (v .header) c out img budget x → Called x
 
--- what is so of a run and of a resume: the machine starts in a sound state over the memory that is lent, the buffers are asked for, and the questions
--- have codes below those of the machine
+-- what is so of a run and of a resume: the machine starts in a sound state over the memory that is lent, with the labels of its place; the buffers are
+-- asked for, and the questions have codes below those of the machine
 pub record Orderly (s mem out : List ℕ) (img : Option (List ℕ)) (asks : Asks) (Starts : Header → Config → Type 0) (codes : List ℕ) : Type 0 where
   pub sound : (v : Valid s) (c : Config) → Starts (v .header) c → Sound s (v .header) c × (c .state .memory ≡ mem)
+  pub placed : (v : Valid s) (c : Config) → Starts (v .header) c → Placed s (v .header) c
   pub slots : (v : Valid s) → AllWell (asks (v .header)) → Slots (v .header .results) out
   pub roomy : (v : Valid s) → AllWell (asks (v .header)) → Roomy img
   pub coded : (v : Valid s) (c : ℕ) → Fails (asks (v .header)) c → OneOf codes c
   pub early : (v : Valid s) (c : ℕ) → Fails (asks (v .header)) c → c < TRAP
+
+-- the buffer a has become b, which begins with the image of where a run is that has left the memory mem; beyond the image it is as it was
+pub record Pauses (s mem a b : List ℕ) : Type 0 where
+  pub valid : Valid s
+  pub config : Config
+  pub pictures : Pictures s (valid .header) mem b config
+  pub untouched : drop imageBytes b ≡ drop imageBytes a
