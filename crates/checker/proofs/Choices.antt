@@ -1,23 +1,26 @@
 -- Which instruction it is, by its group.
 use Prim.Native.Nat.{ℕ, _≤_, _<_}
 use mathlib.Core.Path.{_≡_, refl, sym, ap, subst, _∙_}
-use mathlib.Core.Bool.{Bool, true}
+use mathlib.Core.Bool.{Bool, true, false, _&&_}
 use mathlib.Core.List.{List}
 use mathlib.Core.Logic.{_⊎_, inl, inr}
 use native.Mathlib.Nat.{eq-or-lt-of-le}
 use native.Mathlib.Omega.{arith}
+use borrow.Author.Tests.{ne-eqb}
 use lib.Dec.{eqb}
+use lib.ListN.{drop}
 use Rattle.opcode.specs.Kind.{Kind}
 use Rattle.opcode.specs.BlockType.{isBlockType}
 use Rattle.opcode.specs.Table.{End, Control, Block, Loop, Br, BrIf, Code, plain, control, carried}
 use Rattle.opcode.specs.Number.{groupOfCode}
-use Rattle.opcode.specs.Entry.{groupIn}
+use Rattle.opcode.specs.Entry.{entryOf, groupIn}
 use Rattle.opcode.proofs.Entries.{group-in}
 use Rattle.opcode.proofs.Groups.{by-group, row-group-small}
 use Rattle.instr.specs.declared.Instr.{Instr}
 use Rattle.rules.specs.Typing.{Frame, Opens, block-opens, loop-opens, br-branches, if-branches}
 use Rattle.rules.proofs.Sorts.{opens-control, opens-branches}
-use Rattle.checker.specs.Inner.Judging.{opener, brancher, Ordinary, Judges, Faces}
+use Rattle.checker.specs.Walk.{KindBytes, Framed}
+use Rattle.checker.specs.Inner.Judging.{opener, brancher, Ordinary, Judges, Faces, TellsStraight}
 
 module _ {s : List ℕ} {locals results entry index : ℕ} {kinds blocks : List ℕ} {depth nest floor : ℕ} {dead : Bool} {c : Code} {i : Instr} {ls rs : List Kind} {fs : List Frame}
     (x : Faces s locals results entry index kinds blocks depth nest floor dead c i ls rs fs) {g : ℕ} (told : g ≡ groupIn entry) where
@@ -96,3 +99,26 @@ module _ {s : List ℕ} {locals results entry index : ℕ} {kinds blocks : List 
 
     pub named : index ≡ i .index
     named = x .names (λ o. let k = opens-control o in never-control (k .0) (k .1))
+
+-- an ordinary one is judged as such
+pub straight-judges : {s : List ℕ} {locals results entry index : ℕ} {kinds blocks kinds′ : List ℕ} {depth nest floor depth′ nest′ floor′ code : ℕ} {dead dead′ : Bool}
+    → (0 < groupIn entry) × (groupIn entry < 25)
+    → ((c : Code) (i : Instr) (ls rs : List Kind) (fs : List Frame) (blocks : List ℕ) → entry ≡ entryOf (carried c) → Ordinary c → index ≡ i .index
+    → KindBytes (drop 8 s) locals ls → Framed rs kinds blocks depth nest floor dead fs → Judges ls rs i c fs kinds′ blocks depth′ nest′ floor′ dead′ code)
+    → (c : Code) (i : Instr) (ls rs : List Kind) (fs : List Frame) → Faces s locals results entry index kinds blocks depth nest floor dead c i ls rs fs
+    → Judges ls rs i c fs kinds′ blocks depth′ nest′ floor′ dead′ code
+straight-judges {entry = entry} {blocks = blocks} g j c i ls rs fs x =
+    let some : groupIn entry ≡ 0 → ⊥ = λ e. omega (arith, e, g .0) in
+    j c i ls rs fs blocks (x .row) (is-ordinary x refl some (g .1)) (named x refl some (g .1)) (x .locals-are) (x .framed)
+
+-- and is no `end`
+pub straight-other : (entry nest : ℕ) → 0 < groupIn entry → (eqb nest 0 && eqb (groupIn entry) 0) ≡ false
+straight-other entry nest l = ap (λ (x : Bool). eqb nest 0 && x) (ne-eqb (groupIn entry) 0 (λ e. omega (arith, e, l))) ∙ and-false (eqb nest 0)
+  where
+    and-false : (b : Bool) → (b && false) ≡ false
+    and-false true = refl
+    and-false false = refl
+
+-- another goes by blocks
+pub as-turn : {entry : ℕ} {r : Bool} → r ≡ false → TellsStraight entry r → TellsStraight entry false
+as-turn {entry} e t = subst (TellsStraight entry) e t

@@ -1,11 +1,12 @@
--- The walk up to a place, and the blocks around it.
+-- The walk toward a place, and the blocks around it.
 use Prim.Native.Nat.{ℕ, suc, _+_, _≤_, _<_}
 use mathlib.Core.Path.{_≡_, refl, sym, ap, subst, _∙_}
-use mathlib.Core.Bool.{Bool, true, false, _&&_}
+use mathlib.Core.Bool.{Bool, true, false, _&&_, cond}
 use mathlib.Core.List.{List, [], _∷_}
 use mathlib.Core.Logic.{⊎-elim}
 use native.Mathlib.Nat.{eq-or-lt-of-le}
 use native.Mathlib.Omega.{arith}
+use borrow.Author.Tests.{eqb-true, eqb-false}
 use lib.Dec.{eqb}
 use lib.ListN.{length, getD, set, length-set}
 use lib.Seq.{getD-set-same, getD-set-other}
@@ -31,12 +32,12 @@ use Rattle.rules.proofs.Headers.{declares-once}
 use Rattle.rules.proofs.Onward.{declared, reads-once, reached-beyond}
 use Rattle.rules.proofs.Verdicts.{valid-no-breach}
 use Rattle.checker.specs.declared.turns.State.{State}
-use Rattle.checker.specs.declared.reach.Stop.{Stop}
+use Rattle.checker.specs.declared.body.Walked.{Walked}
 use Rattle.checker.specs.Check.{Checked}
 use Rattle.checker.specs.Walk.{Framed, outset}
 use Rattle.checker.specs.Inner.Judging.{Judges, Faces}
 use Rattle.checker.specs.Inner.Going.{Begins, Going}
-use Rattle.checker.specs.Inner.Reach.{Noted, Coming, Reached}
+use Rattle.checker.specs.Inner.Coming.{Noted, Coming, Stood}
 use Rattle.checker.proofs.Nests.{nested-many}
 use Rattle.checker.proofs.Counted.{checked}
 use Rattle.checker.proofs.Goings.{first-going, gone-on, coded, is-end, stepped}
@@ -114,20 +115,22 @@ module _ {s : List ℕ} {v n takes : ℕ} {kinds blocks bodies : List ℕ} {dept
 
 -- ---- toward a place
 
--- if it is reached at all, then not before this one
-pub record Toward (s : List ℕ) (v n takes place : ℕ) (kinds blocks bodies : List ℕ) (depth nest floor : ℕ) (dead : Bool) (at : ℕ) : Type 0 where
-  pub coming : Coming s v n takes kinds blocks bodies depth nest floor dead at
-  pub not-before : (h : Header) (fs : List Frame) → Reaches s h place fs → at ≤ place
+-- what is known at the place, if the walk stood there; if not, the place is not reached before this one
+pub record Toward (s : List ℕ) (v n takes place least : ℕ) (kinds blocks bodies : List ℕ) (state : State) (at : ℕ) (held words begun : List ℕ) (there : State) : Type 0 where
+  pub coming : Coming s v n takes kinds blocks bodies (state .depth) (state .nest) (state .floor) (state .dead) at
+  pub well : state .code ≡ DONE
+  pub known : there .code ≡ DONE → Coming s v n takes held words begun (there .depth) (there .nest) (there .floor) (there .dead) place
+  pub not-before : (there .code ≡ DONE → ⊥) → (h : Header) (fs : List Frame) → Reaches s h place fs → least ≤ place
 
 after-header : {s : List ℕ} {h : Header} {p : ℕ} {fs : List Frame} → Reaches s h p fs → length (headerBytes h) ≤ p
 after-header (front d) = omega arith
 after-header (past r q t w) = omega (arith, after-header r)
 
-pub toward-first : {s : List ℕ} {v n takes start : ℕ} (place : ℕ) (kinds blocks bodies : List ℕ) → length kinds ≡ stackLimit → length blocks ≡ nestLimit
-    → length bodies ≡ nestLimit → Begins s v n takes start → {o : State} → o ≡ outset
-    → Toward s v n takes place kinds blocks bodies (o .depth) (o .nest) (o .floor) (o .dead) start
-toward-first {s} {v} {n} {takes} {start} place kinds blocks bodies lk lb ld b e =
-    subst (λ (x : State). Toward s v n takes place kinds blocks bodies (x .depth) (x .nest) (x .floor) (x .dead) start) (sym e)
+pub toward-first : {s : List ℕ} {v n takes start : ℕ} (place : ℕ) (kinds blocks bodies held words starts : List ℕ) → length kinds ≡ stackLimit
+    → length blocks ≡ nestLimit → length bodies ≡ nestLimit → Begins s v n takes start → {o there : State} → o ≡ outset → (there .code ≡ DONE → ⊥)
+    → Toward s v n takes place start kinds blocks bodies o start held words starts there
+toward-first {s} {v} {n} {takes} {start} place kinds blocks bodies held words starts lk lb ld b {there = there} e z =
+    subst (λ (x : State). Toward s v n takes place start kinds blocks bodies x start held words starts there) (sym e)
     (record {
       coming =
           record {
@@ -138,25 +141,61 @@ toward-first {s} {v} {n} {takes} {start} place kinds blocks bodies lk lb ld b e 
             noted = tt;
             bodies-long = ld;
           };
-      not-before = λ h fs r.
+      well = refl;
+      known = λ x. absurd (z x);
+      not-before = λ x h fs r.
           let one : h ≡ b .header = declares-once s h (b .header) (declared r) (b .setting .declares) in
           omega (arith, after-header r, ap (λ (x : Header). length (headerBytes x)) one, b .start-is);
     })
 
-module _ {s : List ℕ} {v n takes place : ℕ} {kinds blocks bodies : List ℕ} {depth nest floor : ℕ} {dead : Bool} {at : ℕ}
-    (w : Toward s v n takes place kinds blocks bodies depth nest floor dead at) (apart : at ≡ place → ⊥) where
-  abbrev going : Going s v n takes kinds blocks depth nest floor dead at
+-- the walk stands at the place now, or not yet, or no more
+module _ {s : List ℕ} {v n takes place : ℕ} {kinds blocks bodies : List ℕ} {state : State} {at : ℕ} {held words begun : List ℕ} {there : State}
+    (w : Toward s v n takes place at kinds blocks bodies state at held words begun there) where
+  abbrev Now : Bool → Type 0
+  Now b = Toward s v n takes place (suc at) kinds blocks bodies state at (cond b kinds held) (cond b blocks words) (cond b bodies begun) (cond b state there)
+
+  now : (b : Bool) → eqb at place ≡ b → Now b
+  now true e =
+      record {
+        coming = w .coming;
+        well = w .well;
+        known = λ x.
+            subst (Coming s v n takes kinds blocks bodies (state .depth) (state .nest) (state .floor) (state .dead)) (eqb-true at place e) (w .coming);
+        not-before = λ z. absurd (z (w .well));
+      }
+  now false e =
+      record {
+        coming = w .coming;
+        well = w .well;
+        known = w .known;
+        not-before = λ z h fs r. ⊎-elim (λ x. absurd (eqb-false at place e x)) (λ l. l) (eq-or-lt-of-le (w .not-before z h fs r));
+      }
+
+  pub noted-now : {held′ words′ begun′ : List ℕ} {there′ : State}
+      → (held′ ≡ cond (eqb at place) kinds held) × (words′ ≡ cond (eqb at place) blocks words) × (begun′ ≡ cond (eqb at place) bodies begun)
+      × (there′ ≡ cond (eqb at place) state there)
+      → Toward s v n takes place (suc at) kinds blocks bodies state at held′ words′ begun′ there′
+  noted-now {held′} {words′} {begun′} {there′} e =
+      let here : Bool = eqb at place in
+      subst (λ (x : List ℕ). Toward s v n takes place (suc at) kinds blocks bodies state at x words′ begun′ there′) (sym (e .0))
+      (subst (λ (x : List ℕ). Toward s v n takes place (suc at) kinds blocks bodies state at (cond here kinds held) x begun′ there′) (sym (e .1))
+      (subst (λ (x : List ℕ). Toward s v n takes place (suc at) kinds blocks bodies state at (cond here kinds held) (cond here blocks words) x there′) (sym (e .2))
+      (subst (Toward s v n takes place (suc at) kinds blocks bodies state at (cond here kinds held) (cond here blocks words) (cond here bodies begun)) (sym (e .3)) (now here refl))))
+
+module _ {s : List ℕ} {v n takes place : ℕ} {kinds blocks bodies : List ℕ} {state : State} {at : ℕ} {held words begun : List ℕ} {there : State}
+    (w : Toward s v n takes place (suc at) kinds blocks bodies state at held words begun there) where
+  abbrev going : Going s v n takes kinds blocks (state .depth) (state .nest) (state .floor) (state .dead) at
   going = w .coming .going
 
   -- an instruction that is read before the place ends before it
-  passes-by : {i : Instr} {c : Code} {len : ℕ} → Reads (going .header .version) s at i c len → (h : Header) (fs : List Frame) → Reaches s h place fs → at + len ≤ place
-  passes-by r h fs there =
-      let one : h ≡ going .header = declares-once s h (going .header) (declared there) (going .setting .declares) in
-      reached-beyond (going .reached) r (subst (λ (x : Header). Reaches s x place fs) one there)
-      (⊎-elim (λ e. absurd (apart e)) (λ l. l) (eq-or-lt-of-le (w .not-before h fs there)))
+  passes-by : {i : Instr} {c : Code} {len : ℕ} → Reads (going .header .version) s at i c len → (there .code ≡ DONE → ⊥) → (h : Header) (fs : List Frame)
+      → Reaches s h place fs → at + len ≤ place
+  passes-by r z h fs x =
+      let one : h ≡ going .header = declares-once s h (going .header) (declared x) (going .setting .declares) in
+      reached-beyond (going .reached) r (subst (λ (y : Header). Reaches s y place fs) one x) (w .not-before z h fs x)
 
   -- and the strip's own `end` is the last
-  module _ (d : Scanned) (is : d ≡ scanOf (decodeIn v s at)) (b : bytes s) (z : d .code ≡ DONE) (e : (eqb nest 0 && eqb (groupIn (d .entry)) 0) ≡ true) where
+  module _ (d : Scanned) (is : d ≡ scanOf (decodeIn v s at)) (b : bytes s) (z : d .code ≡ DONE) (e : (eqb (state .nest) 0 && eqb (groupIn (d .entry)) 0) ≡ true) where
     ends-file : (k : Valid s) → at + d .len ≡ length s
     ends-file k = by (ahead k reached)
       where
@@ -176,57 +215,55 @@ module _ {s : List ℕ} {v n takes place : ℕ} {kinds blocks bodies : List ℕ}
             let it = is-end going d is b z e in
             absurd (typed-inner u (reads-once r its .1 ∙ it .1) (omega (arith, nested-many (going .framed .nested), it .0)))
 
-    pub not-after : (k : Valid s) (fs : List Frame) → Reaches s (k .header) place fs → ⊥
-    not-after k fs there =
-        let inside : place < length s = reached-inside k there in
-        let past : at + d .len ≤ place = passes-by (coded going d is b z .1) (k .header) fs there in
-        omega (arith, ends-file k)
+    pub ended-there : Stood s v n takes place held words begun there
+    ended-there =
+        record {
+          known = w .known;
+          nowhere = λ x k fs r.
+              let inside : place < length s = reached-inside k r in
+              let past : at + d .len ≤ place = passes-by (coded going d is b z .1) x (k .header) fs r in
+              omega (arith, ends-file k);
+        }
+
+  -- a strip that breaks a rule
+  pub broken-there : {code p : ℕ} → Breach s code p → Stood s v n takes place held words begun there
+  broken-there b = record { known = w .known; nowhere = λ x k fs r. valid-no-breach k b }
 
   -- and another is passed
-  module _ (d : Scanned) (is : d ≡ scanOf (decodeIn v s at)) (b : bytes s) (z : d .code ≡ DONE) (other : (eqb nest 0 && eqb (groupIn (d .entry)) 0) ≡ false)
-      {kinds′ blocks′ : List ℕ} {depth′ nest′ floor′ code : ℕ} {dead′ : Bool}
-      (j : (c : Code) (i : Instr) (ls rs : List Kind) (fs : List Frame) → Faces s n takes (d .entry) (d .immediate) kinds blocks depth nest floor dead c i ls rs fs
-      → Judges ls rs i c fs kinds′ blocks′ depth′ nest′ floor′ dead′ code) (e : code ≡ DONE) where
-    pub room-in : nest < nest′ → nest < nestLimit
+  module _ (d : Scanned) (is : d ≡ scanOf (decodeIn v s at)) (b : bytes s) (z : d .code ≡ DONE) (other : (eqb (state .nest) 0 && eqb (groupIn (d .entry)) 0) ≡ false)
+      {kinds′ blocks′ : List ℕ} {state′ : State}
+      (j : (c : Code) (i : Instr) (ls rs : List Kind) (fs : List Frame)
+      → Faces s n takes (d .entry) (d .immediate) kinds blocks (state .depth) (state .nest) (state .floor) (state .dead) c i ls rs fs
+      → Judges ls rs i c fs kinds′ blocks′ (state′ .depth) (state′ .nest) (state′ .floor) (state′ .dead) (state′ .code)) (e : state′ .code ≡ DONE) where
+    pub room-in : state .nest < state′ .nest → state .nest < nestLimit
     room-in more = let g = stepped going d is b z other j e in omega (arith, nested-many (g .2 .nested), g .2 .within .blocks, more)
 
     module _ (lk : length kinds′ ≡ stackLimit) (lb : length blocks′ ≡ nestLimit) where
-      pub toward-in : nest < nest′ → Toward s v n takes place kinds′ blocks′ (set bodies nest (at + d .len)) depth′ nest′ floor′ dead′ (at + d .len)
-      toward-in more =
-          let r = coded going d is b z .1 in
-          let g = stepped going d is b z other j e in
-          record { coming = comes-in (w .coming) r (g .1) (g .2) lk lb more; not-before = passes-by r }
+      onward : {bodies′ : List ℕ} → Coming s v n takes kinds′ blocks′ bodies′ (state′ .depth) (state′ .nest) (state′ .floor) (state′ .dead) (at + d .len)
+          → Toward s v n takes place (at + d .len) kinds′ blocks′ bodies′ state′ (at + d .len) held words begun there
+      onward c = record { coming = c; well = e; known = w .known; not-before = passes-by (coded going d is b z .1) }
 
-      pub toward-on : nest′ ≤ nest → Toward s v n takes place kinds′ blocks′ bodies depth′ nest′ floor′ dead′ (at + d .len)
-      toward-on most =
-          let r = coded going d is b z .1 in
-          let g = stepped going d is b z other j e in
-          record { coming = comes-on (w .coming) r (g .1) (g .2) lk lb most; not-before = passes-by r }
+      pub toward-in : state .nest < state′ .nest
+          → Toward s v n takes place (at + d .len) kinds′ blocks′ (set bodies (state .nest) (at + d .len)) state′ (at + d .len) held words begun there
+      toward-in more = let g = stepped going d is b z other j e in onward (comes-in (w .coming) (coded going d is b z .1) (g .1) (g .2) lk lb more)
 
--- ---- where the walk stops
+      pub toward-on : state′ .nest ≤ state .nest → Toward s v n takes place (at + d .len) kinds′ blocks′ bodies state′ (at + d .len) held words begun there
+      toward-on most = let g = stepped going d is b z other j e in onward (comes-on (w .coming) (coded going d is b z .1) (g .1) (g .2) lk lb most)
 
-module _ {s : List ℕ} {v n takes place : ℕ} {kinds blocks bodies : List ℕ} {r : Stop} where
-  pub reached-there : {at : ℕ} {state : State} → at ≡ place → Coming s v n takes kinds blocks bodies (state .depth) (state .nest) (state .floor) (state .dead) at
-      → r .short ≡ false → r .state ≡ state → Reached s v n takes place kinds blocks bodies r
-  reached-there {state = state} here c e it =
-      record {
-        at-place = λ x.
-            subst (λ (y : State). Coming s v n takes kinds blocks bodies (y .depth) (y .nest) (y .floor) (y .dead) place) (sym it)
-            (subst (Coming s v n takes kinds blocks bodies (state .depth) (state .nest) (state .floor) (state .dead)) here c);
-        says = λ x. absurd (let z : _≡_ {A = ℕ} 0 1 = cc (e, x) in omega arith);
-        nowhere = λ x. absurd (let z : _≡_ {A = ℕ} 0 1 = cc (e, x) in omega arith);
-      }
+-- ---- where the walk ends
 
-  module _ {a : Answer} (told : (r .short ≡ true) × (r .code ≡ a .code) × (r .place ≡ a .place)) where
-    -- at an answer of the check
-    pub stopped-checked : Checked s a → ((k : Valid s) (fs : List Frame) → Reaches s (k .header) place fs → ⊥) → Reached s v n takes place kinds blocks bodies r
-    stopped-checked c none =
-        record {
-          at-place = λ x. absurd (let z : _≡_ {A = ℕ} 0 1 = cc (told .0, x) in omega arith);
-          says = λ x. subst (λ (y : ℕ). Says s y (r .place)) (sym (told .1)) (subst (Says s (a .code)) (sym (told .2)) (c .says));
-          nowhere = λ x. none;
-        }
+module _ {s : List ℕ} {v n takes place : ℕ} {held words begun : List ℕ} {there : State} {a : Answer} {r : Walked}
+    (told : (r .code ≡ a .code) × (r .place ≡ a .place) × (r .there ≡ there)) where
+  -- at an answer of the check
+  pub over : Checked s a → Stood s v n takes place held words begun there
+      → Says s (r .code) (r .place) × Stood s v n takes place held words begun (r .there)
+  over x k = (
+    subst (λ (y : ℕ). Says s y (r .place)) (sym (told .0)) (subst (Says s (a .code)) (sym (told .1)) (x .says)),
+    subst (Stood s v n takes place held words begun) (sym (told .2)) k,
+  )
 
-    -- at a breach
-    pub broken-off : {code at : ℕ} → (a .code ≡ code) × (a .place ≡ at) × (a .steps ≡ 0) → Breach s code at → Reached s v n takes place kinds blocks bodies r
-    broken-off e b = stopped-checked (checked e (breach b)) (λ k fs there. valid-no-breach k b)
+  -- at a breach
+  pub broken-off : {kinds blocks bodies : List ℕ} {state : State} {at : ℕ} → Toward s v n takes place (suc at) kinds blocks bodies state at held words begun there
+      → {code p : ℕ} → (a .code ≡ code) × (a .place ≡ p) × (a .steps ≡ 0) → Breach s code p
+      → Says s (r .code) (r .place) × Stood s v n takes place held words begun (r .there)
+  broken-off w e b = over (checked e (breach b)) (broken-there w b)

@@ -21,17 +21,17 @@ use Rattle.rules.proofs.Onward.{declared}
 use Rattle.rules.proofs.Verdicts.{says-once, breach-coded, valid-no-breach}
 use Rattle.checker.specs.Check.{Checked}
 
+pub says-done : {s : List ℕ} {c l : ℕ} → Says s c l → c ≡ DONE → Valid s
+says-done (valid v) z = v
+says-done (breach b) z = absurd (breach-coded b z)
+
 module _ {s : List ℕ} {r : Answer} (w : Checked s r) where
   -- what is answered is what can be said
   pub says-exact : (c l : ℕ) → ((r .code ≡ c) × (r .place ≡ l)) ↔ Says s c l
   says-exact c l = ((λ e. subst (λ (x : ℕ). Says s x l) (e .0) (subst (Says s (r .code)) (e .1) (w .says))), λ q. says-once (w .says) q)
 
   pub done-exact : (r .code ≡ DONE) ↔ Valid s
-  done-exact = (by (w .says), λ v. says-once (w .says) (valid v) .0)
-    where
-      by : {c l : ℕ} → Says s c l → c ≡ DONE → Valid s
-      by (valid v) z = v
-      by (breach b) z = absurd (breach-coded b z)
+  done-exact = (says-done (w .says), λ v. says-once (w .says) (valid v) .0)
 
   pub breach-exact : (c l : ℕ) → (c ≡ DONE → ⊥) → ((r .code ≡ c) × (r .place ≡ l)) ↔ Breach s c l
   breach-exact c l z = ((λ e. by (says-exact c l .0 e) z), λ b. says-once (w .says) (breach b))

@@ -16,7 +16,7 @@ use Rattle.rules.proofs.Onward.{declared, reached-once}
 use Rattle.rules.proofs.Verdicts.{says-once, valid-no-breach}
 use Rattle.checker.specs.declared.place.Surveyed.{Surveyed}
 use Rattle.checker.specs.Survey.{marksOf, fronted, missed, found, Surveys, breaks, misses, finds}
-use Rattle.checker.specs.Inner.Reach.{Coming, TellsDead}
+use Rattle.checker.specs.Inner.Coming.{Coming, TellsDead}
 use Rattle.checker.proofs.Held.{held-front}
 
 module _ {s : List ℕ} {at : ℕ} {kinds marks : List ℕ} {r : Surveyed} where

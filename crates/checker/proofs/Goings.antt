@@ -33,8 +33,7 @@ use Rattle.rules.specs.Typing.{Frame, opened, allValues, Types, Opens, block-op
 use Rattle.rules.specs.Strip.{Reads, Reaches, front, past}
 use Rattle.rules.specs.Breach.{At, Breach, local, nest, label, operand, deep, result}
 use Rattle.rules.proofs.Headers.{decodes-known}
-use Rattle.checker.specs.declared.turns.State.{State}
-use Rattle.checker.specs.Walk.{OpenBlocks, strip, block, Framed, outset}
+use Rattle.checker.specs.Walk.{OpenBlocks, strip, block, Framed}
 use Rattle.checker.specs.Inner.Stack.{Top}
 use Rattle.checker.specs.Inner.Judging.{Judges, no-local, too-nested, no-label, untyped, no-results, too-deep, typed, Faces, AtTurn}
 use Rattle.checker.specs.Inner.Parts.{AtEnd}
@@ -63,11 +62,6 @@ first-going {s} kinds blocks lk lb b =
       kinds-long = lk;
       blocks-long = lb;
     }
-
-pub starts : {s : List ℕ} {v n takes start : ℕ} (kinds blocks : List ℕ) → length kinds ≡ stackLimit → length blocks ≡ nestLimit → Begins s v n takes start
-    → {o : State} → o ≡ outset → Going s v n takes kinds blocks (o .depth) (o .nest) (o .floor) (o .dead) start
-starts {s} {v} {n} {takes} {start} kinds blocks lk lb b e =
-    subst (λ (x : State). Going s v n takes kinds blocks (x .depth) (x .nest) (x .floor) (x .dead) start) (sym e) (first-going kinds blocks lk lb b)
 
 -- ---- the strip itself
 
@@ -221,11 +215,10 @@ module _ {s : List ℕ} {v n takes : ℕ} {kinds blocks : List ℕ} {depth nest 
           by (inl e) = by-group Opens 25 block-opens (coded .0) (sym its-group ∙ sym e)
           by (inr m) = by-group Opens 26 loop-opens (coded .0) (sym its-group ∙ (let e : groupIn (d .entry) ≡ 26 = omega (arith, m, h) in e))
 
-      pub ready : AtTurn s n takes (d .entry) (d .immediate) kinds blocks depth nest floor
+      pub ready : AtTurn takes (d .entry) (d .immediate) kinds blocks depth nest floor
       ready =
           let x = tops in
           record {
-            inside = w .setting .inside;
             small = w .setting .takes-small;
             type-in = λ l h. type-small-of (opened-by l h);
             end-inner = λ e. let f = eqb-false nest 0 (not-both (eqb nest 0) (eqb (groupIn (d .entry)) 0) other (eq-eqb (groupIn (d .entry)) 0 e)) in pos-of-ne-zero f;
@@ -253,6 +246,3 @@ module _ {s : List ℕ} {v n takes : ℕ} {kinds blocks : List ℕ} {depth nest 
             → (fs′ : List Frame) × Types (locals (w .header)) (decodeAt (w .header .version) s at .instr) (coded .0) (w .frames) fs′
             × Framed (w .header .results) kinds′ blocks′ depth′ nest′ floor′ dead′ fs′
         stepped e = goes-of judgement e
-
-        pub goes : code ≡ DONE → length kinds′ ≡ stackLimit → length blocks′ ≡ nestLimit → Going s v n takes kinds′ blocks′ depth′ nest′ floor′ dead′ (at + d .len)
-        goes e lk lb = let g = stepped e in gone-on w (coded .1) (g .1) (g .2) lk lb

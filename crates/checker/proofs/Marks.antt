@@ -15,7 +15,7 @@ use Rattle.rules.specs.Typing.{Frame, allValues, Live}
 use Rattle.checker.specs.Walk.{word, OpenBlocks, strip, block}
 use Rattle.checker.specs.Survey.{LOOP, way, marksOf, fronted}
 use Rattle.checker.specs.Inner.Blocks.{topFirst}
-use Rattle.checker.specs.Inner.Reach.{Noted, TellsDead}
+use Rattle.checker.specs.Inner.Coming.{Noted, TellsDead}
 use Rattle.checker.proofs.Words.{type-small, type-many}
 use Rattle.checker.proofs.Nests.{nested-many, nested-floor, Closing, closing}
 

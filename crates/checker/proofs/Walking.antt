@@ -84,7 +84,7 @@ module _ {s : List ℕ} {p : ℕ} {kinds blocks : List ℕ} {state : State} (w :
               absurd (typed-inner u (reads-once r (its .1) .1 ∙ it .1) (omega (arith, nested-many (w .framed .nested), it .0)))
 
       module _ (other : (eqb (state .nest) 0 && eqb (groupIn (d .entry)) 0) ≡ false) where
-        pub turn-ready : AtTurn s (getD s 5 0 + getD s 6 0) takes (d .entry) (d .immediate) kinds blocks (state .depth) (state .nest) (state .floor)
+        pub turn-ready : AtTurn takes (d .entry) (d .immediate) kinds blocks (state .depth) (state .nest) (state .floor)
         turn-ready = ready going d is b read other
 
         pub next-step : {kinds′ blocks′ : List ℕ} (state′ : State)

@@ -5,4 +5,4 @@ pub mod Blocks
 pub mod Judging
 pub mod Parts
 pub mod Going
-pub mod Reach
+pub mod Coming

@@ -4,7 +4,6 @@ mod body;
 mod header;
 mod numbers;
 mod place;
-mod reach;
 mod stack;
 mod turns;
 mod typing;
@@ -30,16 +29,22 @@ pub fn check(strip: &[u8]) -> Answer
     if h.code != card::DONE {
         return answer(h.code, h.place);
     }
-    body::body(
+    // No instruction stands at 0: nothing is noted.
+    let mut held = [0u8; limits::STACK];
+    let mut words = [0u32; limits::NEST];
+    let mut begun = [0usize; limits::NEST];
+    let w = body::body(
         strip,
         h.version,
         h.locals,
         h.takes,
         h.start,
-        [0u8; limits::STACK],
-        [0u32; limits::NEST],
-        walk::outset(),
-    )
+        0,
+        &mut held,
+        &mut words,
+        &mut begun,
+    );
+    answer(w.code, w.place)
 }
 
 // Where a strip's instructions begin: after the counts and the kind bytes that they declare.

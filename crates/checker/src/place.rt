@@ -9,11 +9,10 @@ ghost use Rattle.opcode.specs.Kind.{Kind};
 ghost use Rattle.rules.specs.Typing.{Frame, allValues};
 ghost use Rattle.checker.specs.Walk.{OpenBlocks};
 ghost use Rattle.checker.specs.Survey.{fronted, marksOf, missed as Survey·missed, Surveys};
-ghost use Rattle.checker.specs.Inner.Reach.{Noted, TellsDead};
+ghost use Rattle.checker.specs.Inner.Coming.{Noted, TellsDead};
 use crate::blocks;
 use crate::body;
 use crate::header;
-use crate::reach;
 
 // Of each open block three numbers: how many values are under it, what a branch to it does, and where its body begins. At last, how many are open.
 pub const OPEN: usize = 3 * limits::NEST;
@@ -42,48 +41,38 @@ pub fn survey(
     if h.code != card::DONE {
         return missed(h.code, h.place);
     }
-    let mut stack = [0u8; limits::STACK];
+    let mut held = [0u8; limits::STACK];
     let mut words = [0u32; limits::NEST];
-    let mut bodies = [0usize; limits::NEST];
-    let stop = reach::reach(
+    let mut begun = [0usize; limits::NEST];
+    let w = body::body(
         strip,
         h.version,
         h.locals,
         h.takes,
         h.start,
         place,
-        &mut stack,
+        &mut held,
         &mut words,
-        &mut bodies,
+        &mut begun,
     );
-    if stop.short {
-        return missed(stop.code, stop.place);
+    if w.code != card::DONE {
+        return missed(w.code, w.place);
     }
-    let state = stop.state;
-    let rest = body::body(
-        strip,
-        h.version,
-        h.locals,
-        h.takes,
-        place,
-        stack,
-        words,
-        state,
-    );
-    if rest.code != card::DONE {
-        return missed(rest.code, rest.place);
-    }
-    if is_dead(&words, state.nest, state.dead) {
+    let there = w.there;
+    if there.code != card::DONE {
         return missed(card::DONE, 0);
     }
-    put_kinds(&stack, state.depth, kinds);
-    put_marks(&words, &bodies, state.nest, state.floor, marks);
+    if is_dead(&words, there.nest, there.dead) {
+        return missed(card::DONE, 0);
+    }
+    put_kinds(&held, there.depth, kinds);
+    put_marks(&words, &begun, there.nest, there.floor, marks);
     Surveyed {
         code: card::DONE,
         place: 0,
         found: true,
-        depth: state.depth,
-        nest: state.nest,
+        depth: there.depth,
+        nest: there.nest,
     }
 }
 

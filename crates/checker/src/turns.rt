@@ -1,7 +1,7 @@
 // One instruction that was read: `end` of a block, those that go by blocks, and the others.
 ghost use Prim.Native.Nat.{ℕ, _+_, _≤_, _<_, _^_};
 ghost use mathlib.Core.Path.{_≡_};
-ghost use mathlib.Core.Bool.{true};
+ghost use mathlib.Core.Bool.{true, false};
 ghost use mathlib.Core.List.{List};
 ghost use lib.ListN.{length, drop};
 ghost use Rattle.limits.specs.Limits.{stackLimit, nestLimit, resultLimit};
@@ -14,7 +14,7 @@ ghost use Rattle.rules.specs.Typing.{Frame};
 ghost use Rattle.checker.specs.Walk.{KindBytes, Framed};
 ghost use Rattle.checker.specs.Inner.Stack.{Keeps};
 ghost use Rattle.checker.specs.Inner.Blocks.{topFirst, Labelled};
-ghost use Rattle.checker.specs.Inner.Judging.{opener, brancher, Ordinary, Judges, Faces, AtTurn};
+ghost use Rattle.checker.specs.Inner.Judging.{opener, brancher, Ordinary, Judges, Faces, TellsStraight, AtTurn};
 use crate::blocks;
 use crate::numbers;
 use crate::stack;
@@ -30,7 +30,7 @@ pub struct State {
     pub dead: bool,
 }
 
-fn refused(code: u8) -> State
+pub(crate) fn refused(code: u8) -> State
     ensures { λ r. ⌜ r .code ≡ code ⌝ }
 {
     State {
@@ -146,8 +146,19 @@ fn jump(
     branch(takes, kinds, state)
 }
 
-// One that does not go by blocks.
-fn straight(
+// Whether it is neither `end` nor one that goes by blocks.
+pub(crate) fn is_straight(entry: u64) -> bool
+    ensures { λ r. ⌜ TellsStraight entry r ⌝ }
+{
+    let group = opcode::group(entry);
+    if group == opcode::GROUP_END {
+        return false;
+    }
+    group < opcode::GROUP_BLOCK
+}
+
+// One that is.
+pub(crate) fn straight(
     strip: &[u8],
     locals: usize,
     entry: u64,
@@ -157,7 +168,7 @@ fn straight(
 ) -> State
     requires { ⌜ (8 + locals ≤ length (now strip)) × (state .floor ≤ state .depth) × (state .depth ≤ stackLimit) × (length (now kinds) ≡ stackLimit) ⌝ }
     ensures { λ r. ⌜ ((c : Code) (i : Instr) (ls rs : List Kind) (fs : List Frame) (blocks : List ℕ) → entry ≡ entryOf (carried c) → Ordinary c → index ≡ i .index → KindBytes (drop 8 (now (strip .entry))) locals ls → Framed rs (now (kinds .entry)) blocks (state .depth) (state .nest) (state .floor) (state .dead) fs → Judges ls rs i c fs (now (kinds .exit)) blocks (r .depth) (r .nest) (r .floor) (r .dead) (r .code)) ⌝ }
-    ensures { λ r. ⌜ Keeps (r .code) (r .depth) (now (kinds .entry)) (now (kinds .exit)) ⌝ }
+    ensures { λ r. ⌜ Keeps (r .code) (r .depth) (now (kinds .entry)) (now (kinds .exit)) × (r .nest ≡ state .nest) ⌝ }
 {
     let j = typing::judge(
         strip,
@@ -178,9 +189,8 @@ fn straight(
     }
 }
 
+// Another, but not the strip's own `end`.
 pub(crate) fn turn(
-    strip: &[u8],
-    locals: usize,
     results: u64,
     entry: u64,
     index: u32,
@@ -188,16 +198,13 @@ pub(crate) fn turn(
     blocks: &mut [u32],
     state: State,
 ) -> State
-    requires { ⌜ AtTurn (now strip) locals results entry index (now kinds) (now blocks) (state .depth) (state .nest) (state .floor) ⌝ }
-    ensures { λ r. ⌜ ((c : Code) (i : Instr) (ls rs : List Kind) (fs : List Frame) → Faces (now (strip .entry)) locals results entry index (now (kinds .entry)) (now (blocks .entry)) (state .depth) (state .nest) (state .floor) (state .dead) c i ls rs fs → Judges ls rs i c fs (now (kinds .exit)) (now (blocks .exit)) (r .depth) (r .nest) (r .floor) (r .dead) (r .code)) ⌝ }
+    requires { ⌜ TellsStraight entry false × AtTurn results entry index (now kinds) (now blocks) (state .depth) (state .nest) (state .floor) ⌝ }
+    ensures { λ r. ⌜ ((s : List ℕ) (n : ℕ) (c : Code) (i : Instr) (ls rs : List Kind) (fs : List Frame) → Faces s n results entry index (now (kinds .entry)) (now (blocks .entry)) (state .depth) (state .nest) (state .floor) (state .dead) c i ls rs fs → Judges ls rs i c fs (now (kinds .exit)) (now (blocks .exit)) (r .depth) (r .nest) (r .floor) (r .dead) (r .code)) ⌝ }
     ensures { λ r. ⌜ Keeps (r .code) (r .depth) (now (kinds .entry)) (now (kinds .exit)) × Keeps (r .code) (r .nest) (now (blocks .entry)) (now (blocks .exit)) ⌝ }
 {
     let group = opcode::group(entry);
     if group == opcode::GROUP_END {
         return close(kinds, blocks, state);
-    }
-    if group < opcode::GROUP_BLOCK {
-        return straight(strip, locals, entry, index, kinds, state);
     }
     if group < opcode::GROUP_BR {
         return begin(index, group == opcode::GROUP_LOOP, blocks, state);

@@ -38,14 +38,8 @@ pub fn follow(
     if body::is_last(d.entry, state.nest) {
         return state;
     }
-    turns::turn(
-        strip,
-        locals,
-        takes,
-        d.entry,
-        d.immediate,
-        kinds,
-        blocks,
-        state,
-    )
+    if turns::is_straight(d.entry) {
+        return turns::straight(strip, locals, d.entry, d.immediate, kinds, state);
+    }
+    turns::turn(takes, d.entry, d.immediate, kinds, blocks, state)
 }

@@ -1,7 +1,7 @@
 -- Inner: one instruction inside these frames, a constructor for each line of the card that may be its answer.
 use Prim.Native.Nat.{ℕ, _+_, _≤_, _<_, _^_}
 use mathlib.Core.Path.{_≡_}
-use mathlib.Core.Bool.{Bool, true, cond}
+use mathlib.Core.Bool.{Bool, true, false, cond}
 use mathlib.Core.List.{List, _++_}
 use mathlib.Core.Option.{some}
 use lib.ListN.{length, drop}
@@ -67,9 +67,13 @@ pub record Faces (s : List ℕ) (locals results entry index : ℕ) (kinds blocks
   pub few : length rs ≤ resultLimit
   pub framed : Framed rs kinds blocks depth nest floor dead fs
 
+-- whether it is ordinary, by its group
+pub record TellsStraight (entry : ℕ) (r : Bool) : Type 0 where
+  pub straight : r ≡ true → (0 < groupIn entry) × (groupIn entry < 25)
+  pub turns : r ≡ false → 0 < groupIn entry → 25 ≤ groupIn entry
+
 -- what the code must know to be safe
-pub record AtTurn (s : List ℕ) (locals results entry index : ℕ) (kinds blocks : List ℕ) (depth nest floor : ℕ) : Type 0 where
-  pub inside : 8 + locals ≤ length s
+pub record AtTurn (results entry index : ℕ) (kinds blocks : List ℕ) (depth nest floor : ℕ) : Type 0 where
   pub small : results < 2 ^ 32
   pub type-in : 25 ≤ groupIn entry → groupIn entry < 27 → index < 256
   pub end-inner : groupIn entry ≡ 0 → 0 < nest

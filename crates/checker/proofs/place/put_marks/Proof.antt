@@ -12,7 +12,7 @@ use Rattle.opcode.specs.Kind.{Kind}
 use Rattle.rules.specs.Typing.{Frame, allValues}
 use Rattle.checker.specs.Walk.{OpenBlocks}
 use Rattle.checker.specs.Survey.{marksOf, fronted}
-use Rattle.checker.specs.Inner.Reach.{Noted}
+use Rattle.checker.specs.Inner.Coming.{Noted}
 use Rattle.checker.proofs.Marks.{Unmarked, unmarked, all-marked, one-marked}
 use Rattle.checker.proofs.place.put_marks.Statement.{statement}
 use Rattle.checker.proofs.place.put_marks.Tie as tie

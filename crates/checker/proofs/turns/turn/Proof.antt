@@ -1,7 +1,7 @@
 -- By the group.
 use mathlib.Core.Path.{refl, sym, _∙_}
 use native.Mathlib.Omega.{arith}
-use Rattle.checker.proofs.Choices.{as-end, as-opener, as-brancher, is-ordinary, named}
+use Rattle.checker.proofs.Choices.{as-end, as-opener, as-brancher}
 use borrow.Author.Needs.{needs}
 use Rattle.checker.proofs.turns.turn.Statement.{statement}
 use Rattle.checker.proofs.turns.turn.Tie as tie
@@ -13,8 +13,8 @@ close-requires : tie.Need-close-requires
 close-requires c κs =
     let at-if1 = c .before .before in
     let at-group = at-if1 .before in
-    let start = at-group .before .before .before .before in
-    let r = start .pre in (
+    let start = at-group .before .before .before in
+    let r = start .pre .1 in (
       r .end-inner (sym (at-group .group .ensures) ∙ at-if1 .if1 .taken),
       omega (arith, r .nest-in, r .blocks-long),
       r .floor-in,
@@ -33,52 +33,35 @@ returns c =
     let at-close = c .before .before in
     let at-if1 = at-close .before .before .before in
     let at-group = at-if1 .before in (
-      (λ v i ls rs fs x. as-end x (at-group .group .ensures) (at-if1 .if1 .taken) (at-close .close .ensures .0 i ls rs fs (x .framed))),
+      (λ s n v i ls rs fs x. as-end x (at-group .group .ensures) (at-if1 .if1 .taken) (at-close .close .ensures .0 i ls rs fs (x .framed))),
       (at-close .close .ensures .1, λ z. refl),
     )
 
-straight-requires : tie.Need-straight-requires
-straight-requires c κs = search needs
+begin-requires : tie.Need-begin-requires
+begin-requires c κs =
+    let at-if2 = c .before in
+    let at-if1 = at-if2 .before in
+    let at-group = at-if1 .before in
+    let start = at-group .before .before .before in
+    let r = start .pre .1 in (
+      r .type-in (start .pre .0 .turns refl (omega (arith, at-group .group .ensures, at-if1 .if1 .left))) (omega (arith, at-group .group .ensures, at-if2 .if2 .taken)),
+      omega (arith, r .floor-in, r .depth-in),
+      r .nest-in,
+      r .blocks-long,
+    )
 
 same-length-3 : tie.Need-same-length-3
 same-length-3 c = search needs
 
 returns-2 : tie.Need-returns-2
 returns-2 c =
-    let at-straight = c .before .before in
-    let at-if2 = at-straight .before .before in
-    let at-if1 = at-if2 .before in
-    let at-group = at-if1 .before in (
-      (λ v i ls rs fs x.
-          at-straight .straight .ensures .0 v i ls rs fs _ (x .row)
-          (is-ordinary x (at-group .group .ensures) (at-if1 .if1 .left) (at-if2 .if2 .taken))
-          (named x (at-group .group .ensures) (at-if1 .if1 .left) (at-if2 .if2 .taken)) (x .locals-are) (x .framed)),
-      (at-straight .straight .ensures .1, λ z. refl),
-    )
-
-begin-requires : tie.Need-begin-requires
-begin-requires c κs =
-    let at-if2 = c .before .before in
-    let at-group = at-if2 .before .before in
-    let start = at-group .before .before .before .before in
-    let r = start .pre in (
-      r .type-in (omega (arith, at-group .group .ensures, at-if2 .if2 .left)) (omega (arith, at-group .group .ensures, c .before .if3 .taken)),
-      omega
-          (arith, r .floor-in, r .depth-in),
-      r .nest-in,
-      r .blocks-long,
-    )
-
-same-length-4 : tie.Need-same-length-4
-same-length-4 c = search needs
-
-returns-3 : tie.Need-returns-3
-returns-3 c =
     let at-begin = c .before .before in
-    let at-if3 = at-begin .before .before in
-    let at-if2 = at-if3 .before in
-    let at-group = at-if2 .before .before in (
-      (λ v i ls rs fs x. as-opener x (at-group .group .ensures) (at-if2 .if2 .left) (at-if3 .if3 .taken)
+    let at-if2 = at-begin .before .before in
+    let at-if1 = at-if2 .before in
+    let at-group = at-if1 .before in
+    let start = at-group .before .before .before in (
+      (λ s n v i ls rs fs x. as-opener x (at-group .group .ensures)
+          (let m = start .pre .0 .turns refl (omega (arith, at-group .group .ensures, at-if1 .if1 .left)) in omega (arith, m, at-group .group .ensures)) (at-if2 .if2 .taken)
           (λ e t. at-begin .begin .ensures .0 i ls rs fs _ e t (x .framed))),
       (λ z. refl, at-begin .begin .ensures .1),
     )
@@ -86,18 +69,18 @@ returns-3 c =
 jump-requires : tie.Need-jump-requires
 jump-requires c κs = search needs
 
+same-length-4 : tie.Need-same-length-4
+same-length-4 c = search needs
+
 same-length-5 : tie.Need-same-length-5
 same-length-5 c = search needs
 
-same-length-6 : tie.Need-same-length-6
-same-length-6 c = search needs
-
-returns-4 : tie.Need-returns-4
-returns-4 c =
+returns-3 : tie.Need-returns-3
+returns-3 c =
     let at-jump = c .before .before in
-    let at-if3 = at-jump .before .before .before in
-    let at-group = at-if3 .before .before .before in (
-      (λ v i ls rs fs x. as-brancher x (at-group .group .ensures) (at-if3 .if3 .left)
+    let at-if2 = at-jump .before .before .before in
+    let at-group = at-if2 .before .before in (
+      (λ s n v i ls rs fs x. as-brancher x (at-group .group .ensures) (at-if2 .if2 .left)
           (λ e. at-jump .jump .ensures .0 i ls rs fs e (x .results-are) (x .few) (x .framed))),
       (at-jump .jump .ensures .1, λ z. refl),
     )
@@ -111,13 +94,10 @@ turn-spec =
     same-length
     same-length-2
     returns
-    straight-requires
+    begin-requires
     same-length-3
     returns-2
-    begin-requires
-    same-length-4
-    returns-3
     jump-requires
+    same-length-4
     same-length-5
-    same-length-6
-    returns-4)
+    returns-3)

@@ -1,15 +1,15 @@
--- Inner: the walk up to a place, with where the body of each open block begins.
+-- Inner: the walk at a place, with where the body of each open block begins.
 use Prim.Native.Nat.{ℕ}
 use mathlib.Core.Path.{_≡_}
 use mathlib.Core.Bool.{Bool, true, false}
 use mathlib.Core.List.{List, [], _∷_}
 use lib.ListN.{length, getD}
+use Rattle.card.specs.Card.{DONE}
 use Rattle.limits.specs.Limits.{nestLimit}
 use Rattle.rules.specs.Typing.{Frame, Live}
 use Rattle.rules.specs.Strip.{Reaches, Valid}
 use Rattle.rules.specs.Around.{Around}
-use Rattle.rules.specs.Breach.{Says}
-use Rattle.checker.specs.declared.reach.Stop.{Stop}
+use Rattle.checker.specs.declared.turns.State.{State}
 use Rattle.checker.specs.Inner.Going.{Going}
 
 -- the bodies begin at these places, the innermost first; an array holds the outermost first
@@ -26,11 +26,10 @@ pub record Coming (s : List ℕ) (version n takes : ℕ) (kinds blocks bodies : 
   pub noted : Noted bodies begun
   pub bodies-long : length bodies ≡ nestLimit
 
--- where the walk stops: there, or short of it, and a strip that keeps every rule has no instruction there
-pub record Reached (s : List ℕ) (version n takes place : ℕ) (kinds blocks bodies : List ℕ) (r : Stop) : Type 0 where
-  pub at-place : r .short ≡ false → Coming s version n takes kinds blocks bodies (r .state .depth) (r .state .nest) (r .state .floor) (r .state .dead) place
-  pub says : r .short ≡ true → Says s (r .code) (r .place)
-  pub nowhere : r .short ≡ true → (v : Valid s) (fs : List Frame) → Reaches s (v .header) place fs → ⊥
+-- what was known when the walk stood at the place; where it never did, a strip that keeps every rule has no instruction there
+pub record Stood (s : List ℕ) (version n takes place : ℕ) (kinds blocks bodies : List ℕ) (there : State) : Type 0 where
+  pub known : there .code ≡ DONE → Coming s version n takes kinds blocks bodies (there .depth) (there .nest) (there .floor) (there .dead) place
+  pub nowhere : (there .code ≡ DONE → ⊥) → (v : Valid s) (fs : List Frame) → Reaches s (v .header) place fs → ⊥
 
 -- whether code is dead
 pub record TellsDead (fs : List Frame) (r : Bool) : Type 0 where
