@@ -238,17 +238,17 @@ module _ {s : List ℕ} {v n takes place : ℕ} {kinds blocks bodies : List ℕ}
     pub room-in : state .nest < state′ .nest → state .nest < nestLimit
     room-in more = let g = stepped going d is b z other j e in omega (arith, nested-many (g .2 .nested), g .2 .within .blocks, more)
 
-    module _ (lk : length kinds′ ≡ stackLimit) (lb : length blocks′ ≡ nestLimit) where
-      onward : {bodies′ : List ℕ} → Coming s v n takes kinds′ blocks′ bodies′ (state′ .depth) (state′ .nest) (state′ .floor) (state′ .dead) (at + d .len)
-          → Toward s v n takes place (at + d .len) kinds′ blocks′ bodies′ state′ (at + d .len) held words begun there
-      onward c = record { coming = c; well = e; known = w .known; not-before = passes-by (coded going d is b z .1) }
+    onward : {bodies′ : List ℕ} → Coming s v n takes kinds′ blocks′ bodies′ (state′ .depth) (state′ .nest) (state′ .floor) (state′ .dead) (at + d .len)
+        → Toward s v n takes place (at + d .len) kinds′ blocks′ bodies′ state′ (at + d .len) held words begun there
+    onward c = record { coming = c; well = e; known = w .known; not-before = passes-by (coded going d is b z .1) }
 
-      pub toward-in : state .nest < state′ .nest
-          → Toward s v n takes place (at + d .len) kinds′ blocks′ (set bodies (state .nest) (at + d .len)) state′ (at + d .len) held words begun there
-      toward-in more = let g = stepped going d is b z other j e in onward (comes-in (w .coming) (coded going d is b z .1) (g .1) (g .2) lk lb more)
+    pub toward-in : state .nest < state′ .nest → length blocks′ ≡ nestLimit → length kinds′ ≡ stackLimit
+        → Toward s v n takes place (at + d .len) kinds′ blocks′ (set bodies (state .nest) (at + d .len)) state′ (at + d .len) held words begun there
+    toward-in more lb lk = let g = stepped going d is b z other j e in onward (comes-in (w .coming) (coded going d is b z .1) (g .1) (g .2) lk lb more)
 
-      pub toward-on : state′ .nest ≤ state .nest → Toward s v n takes place (at + d .len) kinds′ blocks′ bodies state′ (at + d .len) held words begun there
-      toward-on most = let g = stepped going d is b z other j e in onward (comes-on (w .coming) (coded going d is b z .1) (g .1) (g .2) lk lb most)
+    pub toward-on : state′ .nest ≤ state .nest → length blocks′ ≡ nestLimit → length kinds′ ≡ stackLimit
+        → Toward s v n takes place (at + d .len) kinds′ blocks′ bodies state′ (at + d .len) held words begun there
+    toward-on most lb lk = let g = stepped going d is b z other j e in onward (comes-on (w .coming) (coded going d is b z .1) (g .1) (g .2) lk lb most)
 
 -- ---- where the walk ends
 

@@ -1,15 +1,14 @@
 -- A block's type and its word.
 use Prim.Native.Nat.{ℕ, _/_, _%_, _≤_, _<_}
-use mathlib.Core.Path.{_≡_, refl, sym, ap, subst, _∙_}
-use mathlib.Core.Bool.{Bool, true, false, cond, _||_}
+use mathlib.Core.Path.{_≡_, refl, sym, ap, _∙_}
+use mathlib.Core.Bool.{Bool, true, false, cond}
 use mathlib.Core.List.{map}
 use native.Mathlib.Decide.{ℕ-discrete}
 use native.Mathlib.Omega.{arith}
-use borrow.Author.Tests.{eqb-true}
 use lib.Dec.{eqb}
 use lib.ListN.{length}
 use Rattle.operation.specs.Vector.{number}
-use Rattle.opcode.specs.Kind.{Kind, i32, i64, v128, kindByte}
+use Rattle.opcode.specs.Kind.{i32, i64, v128, kindByte}
 use Rattle.opcode.specs.BlockType.{isBlockType, blockResults}
 use Rattle.opcode.specs.Lists.{BlockType, empty, kind}
 use Rattle.opcode.proofs.BlockTypes.{no-other-type}

@@ -2,9 +2,6 @@
 ghost use mathlib.Core.Path.{_≡_};
 ghost use mathlib.Core.Bool.{_&&_, cond};
 ghost use lib.Dec.{eqb};
-ghost use lib.ListN.{length};
-ghost use Rattle.card.specs.Card.{DONE};
-ghost use Rattle.limits.specs.Limits.{stackLimit, nestLimit};
 ghost use Rattle.opcode.specs.Entry.{groupIn};
 ghost use Rattle.rules.specs.Breach.{Says};
 ghost use Rattle.checker.specs.Check.{Checked};
@@ -18,7 +15,7 @@ use crate::turns::State;
 use crate::walk;
 use card::Answer;
 
-// The check's code and place; and what is known at the place that was asked, where an instruction stands there (else no DONE).
+// The check's code and place; and what is known at the place that was asked: its code is DONE where an instruction stands there.
 pub(crate) struct Walked {
     pub code: u8,
     pub place: usize,
@@ -35,7 +32,7 @@ fn ended(a: Answer, there: State) -> Walked
     }
 }
 
-// With what is known at the place come the kinds held there, the words of the open blocks, and where their bodies begin.
+// The walk. Lent are, of the place that is asked: the kinds held there, the words of the open blocks, and where their bodies begin.
 pub(crate) fn body(
     strip: &[u8],
     version: u16,
@@ -55,6 +52,7 @@ pub(crate) fn body(
     let mut blocks = [0u32; limits::NEST];
     let mut bodies = [0usize; limits::NEST];
     let mut state = walk::outset();
+    // until an instruction is found there
     let mut there = turns::refused(card::IMAGE);
     let mut at = start;
     loop {

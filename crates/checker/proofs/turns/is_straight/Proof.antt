@@ -1,10 +1,8 @@
 -- Between the two groups.
 use Prim.Native.Nat.{ℕ}
 use mathlib.Core.Path.{_≡_, sym, _∙_}
-use mathlib.Core.Bool.{true, false}
 use native.Mathlib.Omega.{arith}
 use borrow.Author.Tests.{ltb-true, ltb-false}
-use Rattle.checker.specs.Inner.Judging.{TellsStraight}
 use borrow.Author.Needs.{needs}
 use Rattle.checker.proofs.turns.is_straight.Statement.{statement}
 use Rattle.checker.proofs.turns.is_straight.Tie as tie
