@@ -55,6 +55,8 @@ static const struct {
     LOOP("8 blocks left by br 7", EIGHT("\x02\x40") "\x0C\x07" EIGHT("\x0B") COUNT_ON, 4000, 16),
     LOOP("8 blocks left by br_if 7", EIGHT("\x02\x40") "\x20\x00\x0D\x07" EIGHT("\x0B") COUNT_ON, 4000, 17),
     LOOP("8 blocks left by their ends", EIGHT("\x02\x40") EIGHT("\x0B") COUNT_ON, 4000, 23),
+    /* more than the ends that the proved run keeps */
+    LOOP("100 blocks, each left by br 0", TEN(TEN("\x02\x40\x0C\x00\x0B")) COUNT_ON, 4000, 207),
 };
 enum { UNITS = sizeof units / sizeof *units, LOOPS = sizeof loops / sizeof *loops, BUDGET_MOST = 1000000, SLICE_STEPS = 1000, ROUNDS = 400 };
 

@@ -4,7 +4,7 @@
  *
  * Every function returns, whatever bytes come in. They call memcpy and memset
  * and nothing else, allocate nothing and keep nothing between two calls.
- * docs/FIRMWARE.md says how the stack that they take is read off a build.
+ * docs/FIRMWARE.md says how much stack each takes.
  *
  * What the caller owes, since nothing proves a C caller:
  *  - each pointer leads to as many bytes as the length beside it says;
