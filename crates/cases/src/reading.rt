@@ -1,12 +1,11 @@
 // What the lines of a file of cases are made of: fields with a blank between them, each a word, a number or bytes.
-ghost use Prim.Native.Nat.{_≤_, _<_};
+ghost use Prim.Native.Nat.{_+_, _-_, _≤_, _<_};
 ghost use lib.ListN.{length};
 ghost use Rattle.io.specs.Counts.{Counts};
 
-// The first `c` from `at` on, or the end.
+// The first `c` from `at` on, or the end; `at` itself where that lies beyond.
 pub fn find(s: &[u8], at: usize, c: u8) -> usize
-    requires { ⌜ at ≤ length (now s) ⌝ }
-    ensures { λ r. ⌜ (at ≤ r) × (r ≤ length (now (s .entry))) ⌝ }
+    ensures { λ r. ⌜ (at ≤ r) × (r ≤ at + (length (now (s .entry)) - at)) ⌝ }
 {
     let mut i = at;
     while i < s.len() {

@@ -1,5 +1,5 @@
 -- What is looked for lies from `at` on.
-use Prim.Native.Nat.{_≤_, _-_}
+use Prim.Native.Nat.{_+_, _-_, _≤_}
 use lib.ListN.{length}
 use native.Mathlib.Omega.{arith}
 use borrow.Author.Needs.{needs}
@@ -7,7 +7,7 @@ use Rattle.cases.proofs.reading.find.Statement.{statement}
 use Rattle.cases.proofs.reading.find.Tie as tie
 
 abbrev Inv-loop : tie.InvT-loop
-Inv-loop s at c i₀ i = (at ≤ i) × (i ≤ length s)
+Inv-loop s at c i₀ i = (at ≤ i) × (i ≤ at + (length s - at))
 
 abbrev μ-loop : tie.MeasureT-loop
 μ-loop s at c i₀ i = length s - i
