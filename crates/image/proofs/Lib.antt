@@ -6,5 +6,6 @@ pub mod Laying
 pub mod Pieces
 pub mod Showing
 pub mod Painting
+pub mod Asking
 pub mod Laws
 pub mod Unique

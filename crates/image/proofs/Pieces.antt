@@ -31,7 +31,7 @@ module _ (b : List ℕ) (depth : ℕ) where
   pub version-read : Fronts b depth → number (part 2 3 b) ≡ imageVersion
   version-read f = ap number (f .version)
 
-  depth-read : depth ≤ stackLimit → Fronts b depth → number (part 2 9 b) ≡ depth
+  pub depth-read : depth ≤ stackLimit → Fronts b depth → number (part 2 9 b) ≡ depth
   depth-read l f = ap number (f .deep) ∙ number-le 2 depth ∙ mod-eq-of-lt (omega arith)
 
   -- the depth is asked last

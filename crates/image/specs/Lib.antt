@@ -1,3 +1,4 @@
 pub mod Slots
 pub mod Image
+pub mod Asked
 pub mod Inner

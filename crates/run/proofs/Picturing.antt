@@ -8,9 +8,11 @@ use lib.ListN.{length, take, drop, length-append, length-map, length-reverse}
 use lib.Seq.{take-at}
 use Rattle.limits.specs.Limits.{fileLimit, stackLimit, localCount}
 use Rattle.leb128.specs.Bytes.{bytes}
+use Rattle.operation.proofs.Laws.Number.{Bytes}
 use Rattle.opcode.specs.Kind.{Kind}
 use Rattle.machine.specs.Value.{Value, kindOf, AllInRange}
 use Rattle.image.specs.Image.{imageBytes, imageOf, placeIn, Shows}
+use Rattle.image.proofs.Asking.{place-at, shows-exact}
 use Rattle.image.proofs.Laws.{image-long, shown-parts, shows-once}
 use Rattle.rules.specs.Header.{Header, locals}
 use Rattle.rules.specs.Typing.{Frame, allValues}
@@ -118,26 +120,37 @@ rebuilt-pictures {us = us} {ws} b e sh =
     }
 
 -- 25 IS ANSWERED FOR NOTHING ELSE
-pub pictured-exact : {s : List ℕ} {h : Header} {mem buffer : List ℕ} → bytes mem → ((c : Config) × Pictures s h mem buffer c) ↔ Passes s h buffer
-pictured-exact {s} {h} {mem} {buffer} m = (λ p. passes (p .0) (p .1), λ p. pictures p)
+pub pictured-exact : {s : List ℕ} {h : Header} {mem buffer : List ℕ} → bytes mem → bytes buffer → ((c : Config) × Pictures s h mem buffer c) ↔ Passes s h buffer
+pictured-exact {s} {h} {mem} {buffer} m b = (λ p. passes (p .0) (p .1), λ p. pictures p)
   where
+    fits : Bytes buffer
+    fits k = record { fits = b k }
+
+    few : {p : ℕ} {fs : List Frame} → Reaches s h p fs → length (locals h) ≤ localCount
+    few r = omega (arith, length-append (h .parameters) (h .further), declared r .few .parameters, declared r .few .further)
+
     passes : (c : Config) → Pictures s h mem buffer c → Passes s h buffer
     passes c p =
-        let here = sym (place-in (p .sound) buffer (p .rest) (p .bytes)) in
+        let sound = p .sound in
+        let here : c .place ≡ placeIn buffer = sym (place-in sound buffer (p .rest) (p .bytes)) in
         record {
-          frames = frames (p .sound);
-          reached = subst (λ (x : ℕ). Reaches s h x (frames (p .sound))) here (p .sound .reached);
-          live = p .sound .live;
-          local-values = c .state .locals;
-          stack-values = lowest-first (p .sound);
-          shows =
-              subst (λ (x : ℕ). Shows (locals h) (allValues (frames (p .sound))) buffer x (c .state .locals) (lowest-first (p .sound))) here
-              (sound-shows (p .sound) buffer (p .rest) (p .bytes));
+          frames = frames sound;
+          reached = subst (λ (x : ℕ). Reaches s h x (frames sound)) (here ∙ place-at buffer (pictured-room p)) (sound .reached);
+          live = sound .live;
+          asked =
+              shows-exact buffer fits (locals h) (allValues (frames sound)) (few (sound .reached)) (reached-within (sound .reached) .values) .0 (
+                c .state .locals,
+                lowest-first sound,
+                subst (λ (x : ℕ). Shows (locals h) (allValues (frames sound)) buffer x (c .state .locals) (lowest-first sound)) here
+                    (sound-shows sound buffer (p .rest) (p .bytes)),
+              );
         }
 
     pictures : Passes s h buffer → (c : Config) × Pictures s h mem buffer c
     pictures p =
-        let ws = p .stack-values in
-        let b = sound-some (p .reached) (p .live) (around-reached (p .reached) .1) (reverse ws) (p .local-values) mem
-        (reverse-kinds ws ∙ ap reverse (p .shows .stack-kinds)) (reverse-range ws (p .shows .stack-range)) (p .shows .local-kinds) (p .shows .local-range) m in
-        (b .config, rebuilt-pictures b refl (p .shows))
+        let shown = shows-exact buffer fits (locals h) (allValues (p .frames)) (few (p .reached)) (reached-within (p .reached) .values) .1 (p .asked) in
+        let ws = shown .1 in
+        let shows = shown .2 in
+        let r = sound-some (p .reached) (p .live) (around-reached (p .reached) .1) (reverse ws) (shown .0) mem
+        (reverse-kinds ws ∙ ap reverse (shows .stack-kinds)) (reverse-range ws (shows .stack-range)) (shows .local-kinds) (shows .local-range) m in
+        (r .config, rebuilt-pictures r (sym (place-at buffer (p .asked .room))) shows)

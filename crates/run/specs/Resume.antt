@@ -6,8 +6,7 @@ use mathlib.Core.Option.{some}
 use lib.ListN.{length}
 use Rattle.card.specs.Card.{ROOM, OUT, SMALL, IMAGE}
 use Rattle.limits.specs.Limits.{memoryLimit}
-use Rattle.machine.specs.Value.{Value}
-use Rattle.image.specs.Image.{placeIn, Shows}
+use Rattle.image.specs.Asked.{placeAt, Asked}
 use Rattle.rules.specs.Header.{Header, locals}
 use Rattle.rules.specs.Typing.{Frame, allValues, Live}
 use Rattle.rules.specs.Strip.{Reaches}
@@ -26,15 +25,13 @@ pub record Pictures (s : List ℕ) (h : Header) (mem buffer : List ℕ) (c : Con
   pub rest : List ℕ
   pub bytes : buffer ≡ pictureOf c ++ rest
 
--- the same in the words of 02, part by part: at the place that it tells stands an instruction, in no dead code; mark and version are right, the depth
+-- the same in the words of 02, byte by byte: at the place that it tells stands an instruction, in no dead code; mark and version are right, the depth
 -- is that of the values known there, and what the kinds of the locals and of those values do not use is zero (Picturing.pictured-exact)
 pub record Passes (s : List ℕ) (h : Header) (buffer : List ℕ) : Type 0 where
   pub frames : List Frame
-  pub reached : Reaches s h (placeIn buffer) frames
+  pub reached : Reaches s h (placeAt buffer) frames
   pub live : Live frames
-  pub local-values : List Value
-  pub stack-values : List Value
-  pub shows : Shows (locals h) (allValues frames) buffer (placeIn buffer) local-values stack-values
+  pub asked : Asked (locals h) (allValues frames) buffer
 
 -- what is asked of a strip that keeps every rule
 abbrev pub resumeAsks : List ℕ → List ℕ → List ℕ → List ℕ → Asks
