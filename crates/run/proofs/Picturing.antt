@@ -1,19 +1,20 @@
 -- AN IMAGE IS OF ONE STATE, and a state has one image.
-use Prim.Native.Nat.{ℕ, _+_, _≤_, _<_, _^_}
+use Prim.Native.Nat.{ℕ, _+_, _*_, _≤_, _<_, _^_}
 use mathlib.Core.Path.{_≡_, refl, ap, ap₂, sym, _∙_, subst}
-use mathlib.Core.List.{List, _∷_, _++_, map, reverse, reverse-reverse}
+use mathlib.Core.List.{List, [], _∷_, _++_, map, reverse, reverse-append, reverse-reverse, append-assoc}
 use mathlib.Core.Logic.{_↔_}
 use native.Mathlib.Omega.{arith}
-use lib.ListN.{length, take, drop, length-append, length-map, length-reverse}
+use lib.ListN.{length, take, drop, length-append, length-map, length-reverse, take-append-drop}
 use lib.Seq.{take-at}
-use Rattle.limits.specs.Limits.{fileLimit, stackLimit, localCount}
+use Rattle.limits.specs.Limits.{fileLimit, slot, stackLimit, localCount}
 use Rattle.leb128.specs.Bytes.{bytes}
 use Rattle.operation.proofs.Laws.Number.{Bytes}
 use Rattle.opcode.specs.Kind.{Kind}
-use Rattle.machine.specs.Value.{Value, kindOf, AllInRange}
+use Rattle.machine.specs.Value.{Value, kindOf, AllInRange, bytesOf}
+use Rattle.machine.specs.Memory.{part}
 use Rattle.image.specs.Image.{imageBytes, imageOf, placeIn, Shows}
 use Rattle.image.proofs.Asking.{place-at, shows-exact}
-use Rattle.image.proofs.Laws.{image-long, shown-parts, shows-once}
+use Rattle.image.proofs.Laws.{image-long, shown-parts, local-slot, stack-slot, shows-once}
 use Rattle.rules.specs.Header.{Header, locals}
 use Rattle.rules.specs.Typing.{Frame, allValues}
 use Rattle.rules.specs.Strip.{Reaches}
@@ -90,6 +91,20 @@ module _ {s : List ℕ} {h : Header} {mem a : List ℕ} {c : Config} (p : Pictur
       ap (take imageBytes) (p .bytes) ∙ take-at (pictureOf c) (p .rest) imageBytes (picture-long (p .sound))
       ∙ sym (take-at (pictureOf c) (q .rest) imageBytes (picture-long (q .sound))) ∙ sym (ap (take imageBytes) (q .bytes))
 
+  -- what lies beyond the image is not read: another buffer that begins with the same bytes is of the same state
+  pub pictures-front : (b : List ℕ) → take imageBytes a ≡ take imageBytes b → Pictures s h mem b c
+  pictures-front b e =
+      record {
+        sound = p .sound;
+        placed = p .placed;
+        memory = p .memory;
+        rest = drop imageBytes b;
+        bytes =
+            sym (take-append-drop imageBytes b)
+            ∙ ap (λ (l : List ℕ). l ++ drop imageBytes b)
+            (sym e ∙ ap (take imageBytes) (p .bytes) ∙ take-at (pictureOf c) (p .rest) imageBytes (picture-long (p .sound)));
+      }
+
   -- ONE IMAGE IS OF ONE STATE
   pub pictures-once : (d : Config) → Pictures s h mem a d → c ≡ d
   pictures-once d q =
@@ -100,6 +115,22 @@ module _ {s : List ℕ} {h : Header} {mem a : List ℕ} {c : Config} (p : Pictur
       (place-small (p .sound)) (place-small (q .sound)) in
       sound-once c d (p .sound) (p .placed) (q .sound) (q .placed) here
       (sym (reverse-reverse (wholeStack c)) ∙ ap reverse (values .2) ∙ reverse-reverse (wholeStack d)) (values .1) (p .memory ∙ sym (q .memory))
+
+-- ---- where each value lies
+
+module _ {s : List ℕ} {h : Header} {mem buffer : List ℕ} {c : Config} (p : Pictures s h mem buffer c) (v : Value) where
+  -- the locals, as many slots on as there are locals before it
+  pub pictured-local : (before after : List Value) → c .state .locals ≡ before ++ v ∷ after → part slot (11 + slot * length before) buffer ≡ bytesOf v
+  pictured-local before after e = local-slot (sound-shows (p .sound) buffer (p .rest) (p .bytes)) before v after e
+
+  -- the stack, as many slots on as there are values under it
+  pub pictured-value : (over under : List Value) → wholeStack c ≡ over ++ v ∷ under
+      → part slot (11 + slot * localCount + slot * length under) buffer ≡ bytesOf v
+  pictured-value over under e =
+      let turned : lowest-first (p .sound) ≡ reverse under ++ v ∷ reverse over =
+      ap reverse e ∙ reverse-append over (v ∷ under) ∙ ap (λ (l : List Value). l ++ reverse over) (reverse-append (v ∷ []) under) ∙ append-assoc (reverse under) (v ∷ []) (reverse over) in
+      ap (λ (n : ℕ). part slot (11 + slot * localCount + slot * n) buffer) (sym (length-reverse under))
+      ∙ stack-slot (sound-shows (p .sound) buffer (p .rest) (p .bytes)) (reverse under) v (reverse over) turned
 
 -- ---- what 02 asks of an image, and no more
 

@@ -3,6 +3,7 @@ use Prim.Native.Nat.{ℕ, _+_, _≤_, _<_}
 use mathlib.Core.Path.{_≡_, refl, ap, sym, _∙_, subst}
 use mathlib.Core.List.{List, [], _∷_, _++_}
 use mathlib.Core.Option.{Option, none, some}
+use mathlib.Core.Logic.{inl, inr}
 use native.Mathlib.Nat.{add-zero, zero-add}
 use native.Mathlib.Omega.{arith}
 use lib.ListN.{length, drop}
@@ -19,7 +20,7 @@ use Rattle.standard.proofs.Placed.{begin-placed, runs-placed}
 use Rattle.rules.proofs.Onward.{declared}
 use Rattle.run.specs.Meter.{Left, leaves, pictureOf, paused, meter}
 use Rattle.run.specs.Call.{Fails, Asks, TurnsAway, breaks, fails, refused, metered}
-use Rattle.run.specs.Run.{Slots, Runs}
+use Rattle.run.specs.Run.{Slots, runAsks, Runs}
 use Rattle.run.specs.Resume.{Pictures, Resumes}
 use Rattle.run.specs.Slices.{sum, Slices, no-slice, over, slice, Together}
 use Rattle.run.proofs.Metered.{meter-along, budget-exact}
@@ -125,3 +126,56 @@ slices {s} {args} {mem} {out} {buffer} {k} {n} {ks} {x} {z} {w} m (metered v c w
       placed = subst (Placed s (v .header)) (sym (b .begins)) (begin-placed (declared (v .reached)) (b .values) mem);
       room = subst (λ (x : List ℕ). length x ≤ memoryLimit) (sym (ap (λ (y : Config). y .state .memory) (b .begins))) (well .0);
     }) refl sl)
+
+-- ---- and a run without an image
+
+module _ (args mem out buffer : List ℕ) (long : imageBytes ≤ length buffer) where
+  -- it is asked all but 24
+  fewer : (g : Header) {c : ℕ} → Fails (runAsks args mem out (some buffer) g) c → Fails (runAsks args mem out none g) c
+  fewer g (inl n) = inl n
+  fewer g (inr (a, inl n)) = inr (a, inl n)
+  fewer g (inr (a, inr (b, inl n))) = inr (a, inr (b, inl n))
+  fewer g (inr (a, inr (b, inr (d, inl n)))) = inr (a, inr (b, inr (d, inl n)))
+  fewer g (inr (a, inr (b, inr (d, inr (e, inl n))))) = absurd (n .0 long)
+  fewer g (inr (a, inr (b, inr (d, inr (e, inr n))))) = absurd (n .1)
+
+  without : {s : List ℕ} {c p : ℕ} → TurnsAway s (runAsks args mem out (some buffer)) c p → TurnsAway s (runAsks args mem out none) c p
+  without (breaks b) = breaks b
+  without (fails v f) = fails v (fewer (v .header) f)
+
+  -- A RUN THAT LENDS NO IMAGE ends as one that lends a buffer with room
+  pub same-at-once : {s : List ℕ} {k : ℕ} {x w : Left} → Runs s args mem out (some buffer) k x → Runs s args mem out none k w → Together x x 0 w
+  same-at-once {s} {k} (refused {c} {p} t) r =
+      subst (Together (leaves c p 0 mem out (some buffer)) (leaves c p 0 mem out (some buffer)) 0)
+      (runs-once s args mem out none k (refused (without t)) r)
+      (record { code = refl; place = refl; steps = refl; memory = refl; results = refl })
+  same-at-once {s} {k} (metered v c well b) r =
+      let same = meter-further s (v .header) out (some buffer) none 0 k 0 c in
+      let x : Left = meter s (v .header) k 0 c out (some buffer) in
+      subst (Together x x 0) (runs-once s args mem out none k (metered v c (well .0, (well .1 .0, (well .1 .1 .0, (well .1 .1 .1 .0, (tt, tt))))) b) r)
+      (record {
+        code = same .code;
+        place = same .place;
+        steps = same .steps ∙ omega arith;
+        memory = same .memory;
+        results = same .results;
+      })
+
+  -- SLICES are 01's run too
+  pub slices-at-once : {s : List ℕ} {k n : ℕ} {ks : List ℕ} {x z w : Left} → bytes mem → Runs s args mem out (some buffer) k x → Slices s x ks z n
+      → Runs s args mem out none (k + sum ks) w → Together x z n w
+  slices-at-once {s} {k} {n} {ks} {x} {z} {w} m r sl q =
+      let one = lent r in
+      let t = slices m r sl (one .1) in
+      let u = same-at-once (one .1) q in
+      record {
+        code = u .code ∙ t .code;
+        place = u .place ∙ t .place;
+        steps = u .steps ∙ omega (arith, t .steps);
+        memory = u .memory ∙ t .memory;
+        results = u .results ∙ t .results;
+      }
+    where
+      lent : {x : Left} → Runs s args mem out (some buffer) k x → (y : Left) × Runs s args mem out (some buffer) (k + sum ks) y
+      lent (refused {c} {p} t) = (leaves c p 0 mem out (some buffer), refused t)
+      lent (metered v c well b) = (meter s (v .header) (k + sum ks) 0 c out (some buffer), metered v c well b)
