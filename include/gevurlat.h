@@ -143,8 +143,9 @@ uint64_t gevurlat_start(const uint8_t *strip, size_t strip_len,
 
 /*
  * The next slice: of the same strip, with the image that the last slice left,
- * and with the memory as that left it. It asks what the check asks, then 20,
- * 22, 24 and 25; then it goes on. There are no arguments: they are in the image.
+ * with the memory as that left it, and with a buffer for the same results. It
+ * asks what the check asks, then 20, 22, 24 and 25; then it goes on. There are
+ * no arguments: they are in the image.
  *
  * IMAGE, 25: a wrong mark or version; a place at which no instruction of the
  * strip starts, or that stands after a `br`, up to and with the `end` around

@@ -1,15 +1,15 @@
 -- A BUFFER SHOWS AN IMAGE EXACTLY WHERE EVERY BYTE IS AS 02 ASKS: the parts laid one after the other, and the same byte by byte.
 use Prim.Native.Nat.{ℕ, zero, suc, _+_, _*_, _-_, _/_, _%_, _≤_, _<_}
-use mathlib.Core.Path.{_≡_, refl, ap, sym, _∙_, subst}
+use mathlib.Core.Path.{_≡_, refl, ap, sym, _∙_}
 use mathlib.Core.Bool.{Bool, true, false}
-use mathlib.Core.List.{List, [], _∷_, map}
+use mathlib.Core.List.{List, [], _∷_}
 use mathlib.Core.Logic.{_↔_}
 use native.Mathlib.Omega.{arith}
 use borrow.Author.Tests.{eq-eqb, ltb-true, ltb-false}
-use lib.Dec.{eqb, ltb}
-use lib.ListN.{length, getD, take, drop, length-map}
+use lib.Dec.{ltb}
+use lib.ListN.{length, getD, drop, length-map}
 use lib.Seq.{getD-take, getD-drop}
-use Rattle.limits.specs.Limits.{slot, localCount, stackLimit, localBytes, stackBytes}
+use Rattle.limits.specs.Limits.{slot, localCount, stackLimit, localBytes}
 use Rattle.operation.specs.Vector.{number}
 use Rattle.operation.proofs.Laws.Number.{Bytes}
 use Rattle.opcode.specs.Kind.{Kind, i32, bytesUsed}
@@ -17,11 +17,11 @@ use Rattle.machine.specs.Value.{Value, kindOf, allBytes}
 use Rattle.machine.specs.Memory.{part}
 use Rattle.machine.proofs.Laws.Ranges.{bytes-part, length-part}
 use Rattle.image.specs.Slots.{InSlots}
-use Rattle.image.specs.Image.{imageMark, imageVersion, frontBytes, imageBytes, placeIn, Shows}
-use Rattle.image.specs.Asked.{sixteenBits, placeAt, usedAt, UnusedZero, Asked}
-use Rattle.image.specs.Inner.Parts.{Zeros, Fronts, Rooms}
-use Rattle.image.proofs.Form.{Formed, formed-given, given-formed}
-use Rattle.image.proofs.Held.{all-long, slots-long}
+use Rattle.image.specs.Image.{frontBytes, imageBytes, placeIn, Shows}
+use Rattle.image.specs.Asked.{placeAt, usedAt, UnusedZero, Asked}
+use Rattle.image.specs.Inner.Parts.{Fronts, Rooms}
+use Rattle.image.proofs.Form.{formed-given, given-formed}
+use Rattle.image.proofs.Held.{all-long}
 use Rattle.image.proofs.Judging.{told-yes}
 use Rattle.image.proofs.Parts.{two-number, four-number, room-filled, room-front, room-zeros}
 use Rattle.image.proofs.Pieces.{mark-read, version-read, depth-read, fronts-told}
@@ -112,7 +112,10 @@ module _ (b : List ℕ) (ks : List Kind) (at count : ℕ) (inside : at + slot * 
 
 -- ---- the whole
 
-module _ (b : List ℕ) (bs : Bytes b) (locals stack : List Kind) (few : length locals ≤ localCount) (deep : length stack ≤ stackLimit) where
+module _ (b : List ℕ) (small : (k : ℕ) → getD b k 0 < 256) (locals stack : List Kind) (few : length locals ≤ localCount) (deep : length stack ≤ stackLimit) where
+  bs : Bytes b
+  bs k = record { fits = small k }
+
   asked : {us ws : List Value} → Shows locals stack b (placeIn b) us ws → Asked locals stack b
   asked s =
       let long : imageBytes ≤ length b = shown-parted s .long in

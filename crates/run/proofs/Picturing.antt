@@ -1,14 +1,13 @@
 -- AN IMAGE IS OF ONE STATE, and a state has one image.
 use Prim.Native.Nat.{ℕ, _+_, _*_, _≤_, _<_, _^_}
-use mathlib.Core.Path.{_≡_, refl, ap, ap₂, sym, _∙_, subst}
+use mathlib.Core.Path.{_≡_, ap, ap₂, sym, _∙_, subst}
 use mathlib.Core.List.{List, [], _∷_, _++_, map, reverse, reverse-append, reverse-reverse, append-assoc}
 use mathlib.Core.Logic.{_↔_}
 use native.Mathlib.Omega.{arith}
 use lib.ListN.{length, take, drop, length-append, length-map, length-reverse, take-append-drop}
 use lib.Seq.{take-at}
-use Rattle.limits.specs.Limits.{fileLimit, slot, stackLimit, localCount}
+use Rattle.limits.specs.Limits.{slot, stackLimit, localCount}
 use Rattle.leb128.specs.Bytes.{bytes}
-use Rattle.operation.proofs.Laws.Number.{Bytes}
 use Rattle.opcode.specs.Kind.{Kind}
 use Rattle.machine.specs.Value.{Value, kindOf, AllInRange, bytesOf}
 use Rattle.machine.specs.Memory.{part}
@@ -21,7 +20,7 @@ use Rattle.rules.specs.Strip.{Reaches}
 use Rattle.rules.proofs.Onward.{declared, reached-within, reached-once}
 use Rattle.rules.proofs.Arounds.{around-reached}
 use Rattle.standard.specs.Standard.{Config, wholeStack}
-use Rattle.standard.specs.Safety.{Sound, Placed}
+use Rattle.standard.specs.Safety.{Sound}
 use Rattle.standard.proofs.ValueKinds.{reverse-kinds, reverse-range}
 use Rattle.standard.proofs.Rebuilding.{whole-kinds, whole-range, whole-many, Rebuilt, sound-some, sound-once}
 use Rattle.run.specs.Meter.{pictureOf}
@@ -154,9 +153,6 @@ rebuilt-pictures {us = us} {ws} b e sh =
 pub pictured-exact : {s : List ℕ} {h : Header} {mem buffer : List ℕ} → bytes mem → bytes buffer → ((c : Config) × Pictures s h mem buffer c) ↔ Passes s h buffer
 pictured-exact {s} {h} {mem} {buffer} m b = (λ p. passes (p .0) (p .1), λ p. pictures p)
   where
-    fits : Bytes buffer
-    fits k = record { fits = b k }
-
     few : {p : ℕ} {fs : List Frame} → Reaches s h p fs → length (locals h) ≤ localCount
     few r = omega (arith, length-append (h .parameters) (h .further), declared r .few .parameters, declared r .few .further)
 
@@ -169,7 +165,7 @@ pictured-exact {s} {h} {mem} {buffer} m b = (λ p. passes (p .0) (p .1), λ p. p
           reached = subst (λ (x : ℕ). Reaches s h x (frames sound)) (here ∙ place-at buffer (pictured-room p)) (sound .reached);
           live = sound .live;
           asked =
-              shows-exact buffer fits (locals h) (allValues (frames sound)) (few (sound .reached)) (reached-within (sound .reached) .values) .0 (
+              shows-exact buffer b (locals h) (allValues (frames sound)) (few (sound .reached)) (reached-within (sound .reached) .values) .0 (
                 c .state .locals,
                 lowest-first sound,
                 subst (λ (x : ℕ). Shows (locals h) (allValues (frames sound)) buffer x (c .state .locals) (lowest-first sound)) here
@@ -179,7 +175,7 @@ pictured-exact {s} {h} {mem} {buffer} m b = (λ p. passes (p .0) (p .1), λ p. p
 
     pictures : Passes s h buffer → (c : Config) × Pictures s h mem buffer c
     pictures p =
-        let shown = shows-exact buffer fits (locals h) (allValues (p .frames)) (few (p .reached)) (reached-within (p .reached) .values) .1 (p .asked) in
+        let shown = shows-exact buffer b (locals h) (allValues (p .frames)) (few (p .reached)) (reached-within (p .reached) .values) .1 (p .asked) in
         let ws = shown .1 in
         let shows = shown .2 in
         let r = sound-some (p .reached) (p .live) (around-reached (p .reached) .1) (reverse ws) (shown .0) mem

@@ -1,7 +1,7 @@
 -- SLICES: however a budget is cut, the last code and place, the results, the memory and the sum of the steps are those of one run.
 use Prim.Native.Nat.{ℕ, _+_, _≤_, _<_}
 use mathlib.Core.Path.{_≡_, refl, ap, sym, _∙_, subst}
-use mathlib.Core.List.{List, [], _∷_, _++_}
+use mathlib.Core.List.{List, _++_}
 use mathlib.Core.Option.{Option, none, some}
 use mathlib.Core.Logic.{inl, inr}
 use native.Mathlib.Nat.{add-zero, zero-add}
@@ -18,14 +18,14 @@ use Rattle.standard.specs.Safety.{Sound, Placed, Safe, safe-going}
 use Rattle.standard.proofs.Never.{never-stuck}
 use Rattle.standard.proofs.Placed.{begin-placed, runs-placed}
 use Rattle.rules.proofs.Onward.{declared}
-use Rattle.run.specs.Meter.{Left, leaves, pictureOf, paused, meter}
+use Rattle.run.specs.Meter.{Left, leaves, pictureOf, meter}
 use Rattle.run.specs.Call.{Fails, Asks, TurnsAway, breaks, fails, refused, metered}
 use Rattle.run.specs.Run.{Slots, runAsks, Runs}
 use Rattle.run.specs.Resume.{Pictures, Resumes}
 use Rattle.run.specs.Slices.{sum, Slices, no-slice, over, slice, Together}
 use Rattle.run.proofs.Metered.{meter-along, budget-exact}
-use Rattle.run.proofs.Parting.{Further, meter-further, meter-over, meter-spent}
-use Rattle.run.proofs.Picturing.{pictured-room, pictures-once}
+use Rattle.run.proofs.Parting.{meter-further, meter-over, meter-spent}
+use Rattle.run.proofs.Picturing.{pictured-room}
 use Rattle.run.proofs.Promises.{breach-range, run-call}
 use Rattle.run.proofs.Unique.{runs-once, resumes-once}
 
