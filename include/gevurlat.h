@@ -61,7 +61,7 @@ enum {
     GEVURLAT_OUT = 22,      /* results_len is not 16 for each result; 0 */
     GEVURLAT_FORM = 23,     /* an argument's unused bytes are not zero; 0 (not the resume) */
     GEVURLAT_SMALL = 24,    /* image_len is below 1,547; 0 (the start and the resume) */
-    GEVURLAT_IMAGE = 25,    /* the image's mark, version, place, depth or unused bytes are wrong; 0 */
+    GEVURLAT_IMAGE = 25,    /* the image's mark, version, place, depth or unused bytes are wrong; 0 (the resume) */
     /* The run began and did not reach `end`. */
     GEVURLAT_TRAP = 30,     /* an access past the memory's end; the instruction */
     GEVURLAT_BUDGET = 31    /* as many steps as the budget; the next instruction */

@@ -15,7 +15,7 @@ use crate::turns::State;
 use crate::walk;
 use card::Answer;
 
-// The check's code and place; and what is known at the place that was asked: its code is DONE where an instruction stands there.
+// The check's code and place; and what is known at the place that was asked: its code is DONE where the walk stood there.
 pub(crate) struct Walked {
     pub code: u8,
     pub place: usize,

@@ -14,7 +14,8 @@ use crate::blocks;
 use crate::body;
 use crate::header;
 
-// Of each open block three numbers: how many values are under it, what a branch to it does, and where its body begins. At last, how many are open.
+// Of each open block three numbers: how many values are under it, what a branch to it does, and where its body begins. The number
+// after them is the caller's: how many are open.
 pub const OPEN: usize = 3 * limits::NEST;
 
 pub const MARKS: usize = OPEN + 1;

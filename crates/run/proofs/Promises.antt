@@ -192,16 +192,16 @@ module _ {s mem out : List ℕ} {img : Option (List ℕ)} {budget : ℕ} {asks :
                 ap length z ∙ length-append (pictureOf d) (drop imageBytes a) ∙ omega (arith, room, picture-long there, length-drop imageBytes a)
 
     -- what BUDGET leaves in it passes a resume, and no byte beyond is touched
-    pub pause-pictures : (a b : List ℕ) → img ≡ some a → x .answer .code ≡ BUDGET → x .image ≡ some b → Pauses s (x .memory) a b
+    pub pause-pictures : (a b : List ℕ) → img ≡ some a → x .answer .code ≡ BUDGET → x .image ≡ some b → Pauses s x a b
     pause-pictures a b e is f = by (call-told r) (call .early) is f
       where
         by : {x : Left} → Called s mem out img budget asks Starts x → ((v : Valid s) (c : ℕ) → Fails (asks (v .header)) c → c < TRAP) → x .answer .code ≡ BUDGET
-            → x .image ≡ some b → Pauses s (x .memory) a b
+            → x .image ≡ some b → Pauses s x a b
         by (turned-away (breaks q)) early is g = absurd (let z : ⊥ = omega (arith, breach-range q .1, is) in z)
         by (turned-away (fails {c} v q)) early is g = absurd (let z : ⊥ = omega (arith, early v c q, is) in z)
         by (told v c well st t) early is g = told-paused t is g
           where
-            told-paused : {x : Left} → Told s (v .header) c out img budget x → x .answer .code ≡ BUDGET → x .image ≡ some b → Pauses s (x .memory) a b
+            told-paused : {x : Left} → Told s (v .header) c out img budget x → x .answer .code ≡ BUDGET → x .image ≡ some b → Pauses s x a b
             told-paused (told-done k l p q w n) is g = absurd (let z : ⊥ = omega (arith, is) in z)
             told-paused (told-trap k l p q w) is g = absurd (let z : ⊥ = omega (arith, is) in z)
             told-paused (told-budget {c = d} p) is g =
@@ -211,6 +211,7 @@ module _ {s mem out : List ℕ} {img : Option (List ℕ)} {budget : ℕ} {asks :
                 record {
                   valid = v;
                   config = d;
+                  here = refl;
                   pictures = record {
                     sound = there;
                     placed = runs-placed v c d (call .sound v c st .0) (call .placed v c st) budget p;

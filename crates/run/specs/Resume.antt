@@ -25,8 +25,9 @@ pub record Pictures (s : List ℕ) (h : Header) (mem buffer : List ℕ) (c : Con
   pub rest : List ℕ
   pub bytes : buffer ≡ pictureOf c ++ rest
 
--- the same in the words of 02, byte by byte: at the place that it tells stands an instruction, in no dead code; mark and version are right, the depth
--- is that of the values known there, and what the kinds of the locals and of those values do not use is zero (Picturing.pictured-exact)
+-- the same in the words of 02, byte by byte: at the place that it tells stands an instruction of a strip that keeps every rule, in no dead code; mark
+-- and version are right, the depth is that of the values known there, and what the kinds of the locals and of those values do not use is zero
+-- (Picturing.pictured-exact)
 pub record Passes (s : List ℕ) (h : Header) (buffer : List ℕ) : Type 0 where
   pub frames : List Frame
   pub reached : Reaches s h (placeAt buffer) frames

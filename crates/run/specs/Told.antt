@@ -63,9 +63,11 @@ pub record Orderly (s mem out : List ℕ) (img : Option (List ℕ)) (asks : Asks
   pub coded : (v : Valid s) (c : ℕ) → Fails (asks (v .header)) c → OneOf codes c
   pub early : (v : Valid s) (c : ℕ) → Fails (asks (v .header)) c → c < TRAP
 
--- the buffer a has become b, which begins with the image of where a run is that has left the memory mem; beyond the image it is as it was
-pub record Pauses (s mem a b : List ℕ) : Type 0 where
+-- the buffer a has become b, which begins with the image of a state at the place, and with the memory, that x leaves: that of the machine after as
+-- many steps as the budget (told-budget); beyond the image it is as it was
+pub record Pauses (s : List ℕ) (x : Left) (a b : List ℕ) : Type 0 where
   pub valid : Valid s
   pub config : Config
-  pub pictures : Pictures s (valid .header) mem b config
+  pub here : config .place ≡ x .answer .place
+  pub pictures : Pictures s (valid .header) (x .memory) b config
   pub untouched : drop imageBytes b ≡ drop imageBytes a
