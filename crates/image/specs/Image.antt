@@ -17,7 +17,7 @@ abbrev pub imageMark : List ℕ
 imageMark = 0x57 ∷ 0x47 ∷ 0x53 ∷ []
 
 abbrev pub imageVersion : ℕ
-imageVersion = 1
+imageVersion = 2
 
 -- the parts before the locals
 abbrev pub frontBytes : ℕ

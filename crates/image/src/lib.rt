@@ -16,4 +16,4 @@ pub(crate) const STACK_AT: usize = FRONT + limits::LOCAL_BYTES;
 // An image's bytes.
 pub const BYTES: usize = STACK_AT + limits::STACK_BYTES;
 
-pub const VERSION: usize = 1;
+pub const VERSION: usize = 2;

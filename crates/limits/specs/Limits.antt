@@ -7,7 +7,7 @@ fileLimit = 65536
 
 -- a lent memory's bytes
 abbrev pub memoryLimit : ℕ
-memoryLimit = 65536
+memoryLimit = 1048576
 
 abbrev pub parameterLimit : ℕ
 parameterLimit = 16
@@ -21,7 +21,7 @@ resultLimit = 4
 
 -- values on the operand stack
 abbrev pub stackLimit : ℕ
-stackLimit = 64
+stackLimit = 256
 
 -- blocks inside blocks, the strip itself not counted
 abbrev pub nestLimit : ℕ

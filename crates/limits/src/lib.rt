@@ -4,7 +4,7 @@
 pub const FILE: usize = 65536;
 
 // A lent memory's bytes.
-pub const MEMORY: usize = 65536;
+pub const MEMORY: usize = 1048576;
 
 pub const PARAMETERS: usize = 16;
 
@@ -14,7 +14,7 @@ pub const LOCALS: usize = 16;
 pub const RESULTS: usize = 4;
 
 // Values on the operand stack.
-pub const STACK: usize = 64;
+pub const STACK: usize = 256;
 
 // Blocks inside blocks, the strip itself not counted.
 pub const NEST: usize = 32;
