@@ -20,7 +20,7 @@ use Rattle.checker.specs.Inner.Blocks.{topFirst}
 use Rattle.checker.specs.Inner.Judging.{Judges, no-results, too-deep, typed}
 use Rattle.checker.proofs.Unders.{part, under-below}
 use Rattle.checker.proofs.Words.{type-up}
-use Rattle.checker.proofs.Nests.{nested-as, Closing, nested-dead, nested-floor, framed-top}
+use Rattle.checker.proofs.Nests.{nested-as, Closing, nested-dead, framed-top}
 
 -- it has its results, or not
 module _ {top : Frame} {floor base : ℕ} where
@@ -57,17 +57,6 @@ module _ {rs : List Kind} {kinds blocks : List ℕ} {depth nest floor : ℕ} {de
       let none : floor + length {A = Kind} [] ≡ floor = omega arith in
       let same = append-nil (allValues (k .next ∷ k .rest)) in
       subst (KindBytes kinds floor) same (subst (λ (n : ℕ). KindBytes kinds n (allValues (k .next ∷ k .rest) ++ [])) none (part t (all-known {below = []} {ins = k .top .values} refl)))
-
-  -- the outer floor is a byte
-  pub closing-small : k .outer-floor < 256
-  closing-small =
-      omega (
-        arith,
-        nested-floor (k .around),
-        framed-here .within .values,
-        length-append (allValues (k .next ∷ k .rest)) (k .top .values),
-        length-append (allValues (k .rest)) (k .next .values),
-      )
 
   module _ {base : ℕ} (u : Under (k .top) (k .top .results) floor base) where
     pub closes-not : {ls : List Kind} {i : Instr} {after blocks′ : List ℕ} {d n l : ℕ} {e : Bool} → (base ≡ floor → ⊥) → Judges ls rs i (plain End) fs after blocks′ d n l e RESULT

@@ -8,7 +8,7 @@ use borrow.Author.Tests.{eq-eqb, ne-eqb}
 use lib.Dec.{eqb}
 use lib.ListN.{length, getD, set, take, drop, length-append, length-set}
 use lib.Seq.{length-take-le, take-suc, drop-cons, drop-set-lt, getD-set-same}
-use Rattle.limits.specs.Limits.{stackLimit, nestLimit}
+use Rattle.limits.specs.Limits.{nestLimit}
 use Rattle.opcode.specs.Kind.{Kind}
 use Rattle.opcode.specs.BlockType.{isBlockType, blockResults}
 use Rattle.rules.specs.Typing.{Frame, allValues, Live}
@@ -17,7 +17,7 @@ use Rattle.checker.specs.Survey.{LOOP, way, marksOf, fronted}
 use Rattle.checker.specs.Inner.Blocks.{topFirst}
 use Rattle.checker.specs.Inner.Coming.{Noted, TellsDead}
 use Rattle.checker.proofs.Words.{type-small, type-many}
-use Rattle.checker.proofs.Nests.{nested-many, nested-floor, Closing, closing}
+use Rattle.checker.proofs.Nests.{nested-many, Closing, closing}
 
 -- ---- one block
 
@@ -34,43 +34,27 @@ module _ {loop : Bool} (type : ℕ) (is : isBlockType type ≡ true) (e : loop �
   pub way-one : (r ≡ 0 → ⊥) → 1 ≡ way loop (blockResults type)
   way-one f = sym (way-block ∙ ap (λ (b : Bool). cond b 0 1) (ne-eqb r 0 f))
 
--- the innermost block's word, of frames that the stack holds
-module _ {rs : List Kind} {blocks : List ℕ} {nest floor : ℕ} {dead : Bool} {fs : List Frame}
-    (small : length (allValues fs) ≤ stackLimit) (d : Closing rs blocks nest floor dead fs) where
-  outer-small : length (allValues (d .next ∷ d .rest)) ≤ stackLimit
-  outer-small =
-      omega (
-        arith,
-        ap (λ (x : List Frame). length (allValues x)) (d .frames),
-        length-append (allValues (d .next ∷ d .rest)) (d .top .values),
-      )
-
-  floor-small : d .outer-floor < 256
-  floor-small = omega (arith, outer-small, nested-floor (d .around), length-append (allValues (d .rest)) (d .next .values))
-
 -- ---- whether code is dead
 
 -- what a word says of it
 abbrev DeadIn : ℕ → Bool → Type 0
-DeadIn w r = (floor type : ℕ) (loop dead : Bool) → floor < 256 → type < 256 → w ≡ word floor type loop dead → r ≡ dead
+DeadIn w r = (floor type : ℕ) (loop dead : Bool) → type < 256 → w ≡ word floor type loop dead → r ≡ dead
 
 -- the frames from the k-th block outward; all inner ones are live
 pub record Outward (rs : List Kind) (blocks : List ℕ) (k : ℕ) (fs : List Frame) : Type 0 where
   floor : ℕ
   frames : List Frame
   nested : OpenBlocks rs blocks k floor false frames
-  small : length (allValues frames) ≤ stackLimit
   gives : Live frames → Live fs
   needs : Live fs → Live frames
 
 pub outward : {rs : List Kind} {blocks : List ℕ} {nest floor : ℕ} {dead : Bool} {fs : List Frame} → dead ≡ false → OpenBlocks rs blocks nest floor dead fs
-    → length (allValues fs) ≤ stackLimit → Outward rs blocks nest fs
-outward {rs} {blocks} {nest} {floor} {fs = fs} e n l =
+    → Outward rs blocks nest fs
+outward {rs} {blocks} {nest} {floor} {fs = fs} e n =
     record {
       floor = floor;
       frames = fs;
       nested = subst (λ (x : Bool). OpenBlocks rs blocks nest floor x fs) e n;
-      small = l;
       gives = λ x. x;
       needs = λ x. x;
     }
@@ -94,7 +78,7 @@ module _ {rs : List Kind} {blocks : List ℕ} {k : ℕ} {fs : List Frame} (o : O
 
     is-dead : r ≡ here .outer-dead
     is-dead =
-        told (here .outer-floor) (here .type) (here .top .loop) (here .outer-dead) (floor-small (o .small) here) (type-small (here .type) (here .is-type))
+        told (here .outer-floor) (here .type) (here .top .loop) (here .outer-dead) (type-small (here .type) (here .is-type))
         (here .word-is)
 
     as-live : Live (o .frames) → Live (here .top ∷ here .next ∷ here .rest)
@@ -109,7 +93,6 @@ module _ {rs : List Kind} {blocks : List ℕ} {k : ℕ} {fs : List Frame} (o : O
           floor = here .outer-floor;
           frames = here .next ∷ here .rest;
           nested = subst (λ (x : Bool). OpenBlocks rs blocks (k - 1) (here .outer-floor) x (here .next ∷ here .rest)) (sym is-dead ∙ e) (here .around);
-          small = outer-small (o .small) here;
           gives = λ x. o .gives (subst Live (sym (here .frames)) (here .dead-is, x));
           needs = λ x. as-live (o .needs x) .1;
         }
@@ -166,15 +149,13 @@ pub record Unmarked (rs : List Kind) (blocks bodies : List ℕ) (k height : ℕ)
   frames : List Frame
   begun : List ℕ
   nested : OpenBlocks rs blocks k height dead frames
-  small : length (allValues frames) ≤ stackLimit
   many : length begun ≡ k
   noted : Noted bodies begun
   same : fronted (marksOf frames begun) marks ≡ whole
 
 pub unmarked : {rs : List Kind} {blocks bodies : List ℕ} {nest floor : ℕ} {dead : Bool} {fs : List Frame} (bs marks : List ℕ) → OpenBlocks rs blocks nest floor dead fs
-    → length (allValues fs) ≤ stackLimit → length bs ≡ nest → Noted bodies bs
-    → Unmarked rs blocks bodies nest floor marks (fronted (marksOf fs bs) marks)
-unmarked {dead = dead} {fs} bs marks n l m d = record { dead = dead; frames = fs; begun = bs; nested = n; small = l; many = m; noted = d; same = refl }
+    → length bs ≡ nest → Noted bodies bs → Unmarked rs blocks bodies nest floor marks (fronted (marksOf fs bs) marks)
+unmarked {dead = dead} {fs} bs marks n m d = record { dead = dead; frames = fs; begun = bs; nested = n; many = m; noted = d; same = refl }
 
 pub marks-many : (fs : List Frame) (bs : List ℕ) → length fs ≡ suc (length bs) → length (marksOf fs bs) ≡ 3 * length bs
 marks-many [] bs e = absurd (let z : ⊥ = omega arith in z)
@@ -184,10 +165,10 @@ marks-many (f ∷ fs) (b ∷ bs) e =
 
 -- what a word says of them
 abbrev FloorIn : ℕ → ℕ → Type 0
-FloorIn w r = (floor type : ℕ) (loop dead : Bool) → floor < 256 → type < 256 → w ≡ word floor type loop dead → r ≡ floor
+FloorIn w r = (floor type : ℕ) (loop dead : Bool) → type < 256 → w ≡ word floor type loop dead → r ≡ floor
 
 abbrev WayIn : ℕ → ℕ → Type 0
-WayIn w r = (floor type : ℕ) (loop dead : Bool) → floor < 256 → isBlockType type ≡ true → w ≡ word floor type loop dead → r ≡ way loop (blockResults type)
+WayIn w r = (floor type : ℕ) (loop dead : Bool) → isBlockType type ≡ true → w ≡ word floor type loop dead → r ≡ way loop (blockResults type)
 
 module _ {rs : List Kind} {blocks bodies : List ℕ} {k height : ℕ} {marks whole : List ℕ} (u : Unmarked rs blocks bodies k height marks whole) where
   pub all-marked : k ≡ 0 → marks ≡ whole
@@ -206,13 +187,13 @@ module _ {rs : List Kind} {blocks bodies : List ℕ} {k height : ℕ} {marks who
     its-way : x ≡ way (here-closing .top .loop) (here-closing .top .results)
     its-way =
         let d = here-closing in
-        way-told (d .outer-floor) (d .type) (d .top .loop) (d .outer-dead) (floor-small (u .small) d) (d .is-type) (d .word-is)
+        way-told (d .outer-floor) (d .type) (d .top .loop) (d .outer-dead) (d .is-type) (d .word-is)
         ∙ ap (λ (rs : List Kind). way (d .top .loop) rs) (sym (d .results-are))
 
     its-floor : y ≡ here-closing .outer-floor
     its-floor =
         let d = here-closing in
-        floor-told (d .outer-floor) (d .type) (d .top .loop) (d .outer-dead) (floor-small (u .small) d) (type-small (d .type) (d .is-type)) (d .word-is)
+        floor-told (d .outer-floor) (d .type) (d .top .loop) (d .outer-dead) (type-small (d .type) (d .is-type)) (d .word-is)
 
     pub one-marked : Unmarked rs blocks bodies (k - 1) y (set (set (set marks (3 * (k - 1) + 2) (getD bodies (k - 1) 0)) (3 * (k - 1) + 1) x) (3 * (k - 1)) height) whole
     one-marked = by (u .begun) (u .many) (u .noted) (ap (λ (gs : List Frame). fronted (marksOf gs (u .begun)) marks) (sym (here-closing .frames)) ∙ u .same)
@@ -232,7 +213,6 @@ module _ {rs : List Kind} {blocks bodies : List ℕ} {k height : ℕ} {marks who
               frames = c .next ∷ c .rest;
               begun = bs;
               nested = subst (λ (l : ℕ). OpenBlocks rs blocks (k - 1) l (c .outer-dead) (c .next ∷ c .rest)) (sym its-floor) (c .around);
-              small = outer-small (u .small) c;
               many = many;
               noted = d .1;
               same =

@@ -4,9 +4,9 @@ use mathlib.Core.Path.{_≡_, refl, sym, ap, subst, _∙_}
 use mathlib.Core.Bool.{Bool, true, false, cond}
 use mathlib.Core.List.{List, [], _∷_}
 use native.Mathlib.Omega.{arith}
-use lib.ListN.{length, getD, set, length-append}
+use lib.ListN.{length, getD, set}
 use lib.Seq.{getD-set-other}
-use Rattle.limits.specs.Limits.{stackLimit, resultLimit}
+use Rattle.limits.specs.Limits.{resultLimit}
 use Rattle.opcode.specs.Kind.{Kind}
 use Rattle.opcode.specs.BlockType.{isBlockType, blockResults}
 use Rattle.rules.specs.Typing.{Frame, allValues, branchKinds, Target, innermost, outer}
@@ -37,10 +37,6 @@ module _ {rs : List Kind} {blocks : List ℕ} where
   pub nested-dead : {nest floor : ℕ} {dead : Bool} {f : Frame} {fs : List Frame} → OpenBlocks rs blocks nest floor dead (f ∷ fs) → f .dead ≡ dead
   nested-dead (strip l r) = refl
   nested-dead (block y n e t r) = refl
-
-  pub nested-floor : {nest floor : ℕ} {dead : Bool} {f : Frame} {fs : List Frame} → OpenBlocks rs blocks nest floor dead (f ∷ fs) → length (allValues fs) ≡ floor
-  nested-floor (strip l r) = refl
-  nested-floor (block y n e t r) = refl
 
   -- with other values, or dead
   pub nested-as : {nest floor : ℕ} {dead : Bool} {f : Frame} {fs : List Frame} (f′ : Frame) → f′ .loop ≡ f .loop → f′ .results ≡ f .results
@@ -107,7 +103,6 @@ pub record Worded (fs : List Frame) (n w : ℕ) : Type 0 where
   pub floor : ℕ
   pub type : ℕ
   pub dead : Bool
-  pub floor-small : floor ≤ stackLimit
   pub word-is : w ≡ word floor type (target .loop) dead
   pub is-type : isBlockType type ≡ true
   pub results-are : target .results ≡ blockResults type
@@ -120,7 +115,6 @@ worded-outer d e =
       floor = d .floor;
       type = d .type;
       dead = d .dead;
-      floor-small = d .floor-small;
       word-is = e ∙ d .word-is;
       is-type = d .is-type;
       results-are = d .results-are;
@@ -134,28 +128,22 @@ module _ {rs : List Kind} {blocks : List ℕ} where
   label-strip (block y n w t r) takes e few =
       let g = label-strip n takes e few in record { target = g .target; label = outer (g .label); takes-is = g .takes-is; few = g .few }
 
-  pub label-block : {nest floor : ℕ} {dead : Bool} {fs : List Frame} → OpenBlocks rs blocks nest floor dead fs → length (allValues fs) ≤ stackLimit → (n : ℕ) → n < nest
+  pub label-block : {nest floor : ℕ} {dead : Bool} {fs : List Frame} → OpenBlocks rs blocks nest floor dead fs → (n : ℕ) → n < nest
       → Worded fs n (getD blocks (nest - n - 1) 0)
-  label-block (strip l r) small n h = absurd (let z : ⊥ = omega arith in z)
-  label-block (block type {nest} {floor} {dead} {f} {g} {fs} n w t r) small zero h =
-      let inner = nested-inner n in
-      let long : floor ≤ length (allValues (g ∷ fs)) = under-all (inner .top) (inner .rest) (inner .frames) (inner .floor-is) in
+  label-block (strip l r) n h = absurd (let z : ⊥ = omega arith in z)
+  label-block (block type {nest} {floor} {dead} {f} n w t r) zero h =
       record {
         target = f;
         label = innermost;
         floor = floor;
         type = type;
         dead = dead;
-        floor-small = omega (arith, small, long, length-append (allValues (g ∷ fs)) (f .values));
         word-is = ap (λ (x : ℕ). getD blocks x 0) (let z : suc nest - 0 - 1 ≡ nest = omega arith in z) ∙ w;
         is-type = t;
         results-are = r;
       }
-    where
-      under-all : {m : ℕ} {gs : List Frame} (top : Frame) (rest : List Frame) → gs ≡ top ∷ rest → length (allValues rest) ≡ m → m ≤ length (allValues gs)
-      under-all top rest e l = omega (arith, l, ap (λ (x : List Frame). length (allValues x)) e, length-append (allValues rest) (top .values))
-  label-block (block y {nest} {f = f} {g} {fs} n w t r) small (suc k) h =
-      worded-outer (label-block n (omega (arith, small, length-append (allValues (g ∷ fs)) (f .values))) k (omega arith))
+  label-block (block y {nest} n w t r) (suc k) h =
+      worded-outer (label-block n k (omega arith))
       (ap (λ (x : ℕ). getD blocks x 0) (let z : suc nest - suc k - 1 ≡ nest - k - 1 = omega arith in z))
 
   -- none beyond the strip

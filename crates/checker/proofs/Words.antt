@@ -81,15 +81,15 @@ bit-of : (b : Bool) → eqb (bit b) 1 ≡ b
 bit-of true = refl
 bit-of false = refl
 
-module _ (floor type : ℕ) (loop dead : Bool) (lf : floor < 256) (lt : type < 256) {w : ℕ} (e : w ≡ word floor type loop dead) where
-  pub word-floor : w % 256 ≡ floor
-  word-floor = omega (arith, e, lf, lt, bit-small loop, bit-small dead)
+module _ (floor type : ℕ) (loop dead : Bool) (lt : type < 256) {w : ℕ} (e : w ≡ word floor type loop dead) where
+  pub word-floor : w / 1024 ≡ floor
+  word-floor = omega (arith, e, lt, bit-small loop, bit-small dead)
 
-  pub word-type : w / 256 % 256 ≡ type
-  word-type = omega (arith, e, lf, lt, bit-small loop, bit-small dead)
+  pub word-type : w % 256 ≡ type
+  word-type = omega (arith, e, lt, bit-small loop, bit-small dead)
 
-  pub word-loop : eqb (w / 65536 % 256) 1 ≡ loop
-  word-loop = ap (λ (x : ℕ). eqb x 1) (let z : w / 65536 % 256 ≡ bit loop = omega (arith, e, lf, lt, bit-small loop, bit-small dead) in z) ∙ bit-of loop
+  pub word-loop : eqb (w / 256 % 2) 1 ≡ loop
+  word-loop = ap (λ (x : ℕ). eqb x 1) (let z : w / 256 % 2 ≡ bit loop = omega (arith, e, lt, bit-small loop, bit-small dead) in z) ∙ bit-of loop
 
-  pub word-dead : eqb (w / 16777216) 1 ≡ dead
-  word-dead = ap (λ (x : ℕ). eqb x 1) (let z : w / 16777216 ≡ bit dead = omega (arith, e, lf, lt, bit-small loop, bit-small dead) in z) ∙ bit-of dead
+  pub word-dead : eqb (w / 512 % 2) 1 ≡ dead
+  word-dead = ap (λ (x : ℕ). eqb x 1) (let z : w / 512 % 2 ≡ bit dead = omega (arith, e, lt, bit-small loop, bit-small dead) in z) ∙ bit-of dead

@@ -35,9 +35,9 @@ pub record KindBytes (bytes : List ℕ) (n : ℕ) (κs : List Kind) : Type 0 whe
 abbrev pub bit : Bool → ℕ
 bit b = cond b 1 0
 
--- a block's word: the floor of what is around it, its type, whether it is a loop, and whether the code around it is dead; a byte each
+-- a block's word: its type, a byte; whether it is a loop, and whether the code around it is dead, a bit each; above them the floor of what is around it
 abbrev pub word : ℕ → ℕ → Bool → Bool → ℕ
-word floor type loop dead = floor + 2 ^ 8 * type + 2 ^ 16 * bit loop + 2 ^ 24 * bit dead
+word floor type loop dead = type + 2 ^ 8 * bit loop + 2 ^ 9 * bit dead + 2 ^ 10 * floor
 
 -- the strip's results and the words of so many open blocks are these frames; the innermost's floor, and whether code is dead in it
 pub data OpenBlocks (rs : List Kind) (blocks : List ℕ) : ℕ → ℕ → Bool → List Frame → Type 0 where

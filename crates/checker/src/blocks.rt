@@ -7,7 +7,7 @@ ghost use lib.ListN.{length};
 ghost use Rattle.limits.specs.Limits.{stackLimit, resultLimit};
 ghost use Rattle.opcode.specs.Kind.{Kind};
 ghost use Rattle.opcode.specs.BlockType.{isBlockType, blockResults};
-ghost use Rattle.rules.specs.Typing.{Frame, allValues};
+ghost use Rattle.rules.specs.Typing.{Frame};
 ghost use Rattle.checker.specs.Walk.{bit, word, OpenBlocks};
 ghost use Rattle.checker.specs.Survey.{way};
 ghost use Rattle.checker.specs.Inner.Blocks.{topFirst, Labelled};
@@ -17,43 +17,50 @@ const EMPTY: u32 = opcode::kind::EMPTY as u32;
 // What a branch to a loop does; a block's number is that of its results.
 pub const LOOP: usize = 2;
 
+// The parts of a word that stand above its type.
+const LOOPED: u32 = 256;
+
+const DEAD: u32 = 2 * LOOPED;
+
+const FLOOR: u32 = 2 * DEAD;
+
 fn bit_of(b: bool) -> u32
     ensures { λ r. ⌜ r ≡ bit b ⌝ }
 {
     if b { 1 } else { 0 }
 }
 
-// A block's word: the floor of what is around it, its type, whether it is a loop, and whether the code around it is dead.
+// A block's word: its type, whether it is a loop, whether the code around it is dead, and the floor of what is around it.
 pub(crate) fn word_of(floor: usize, block: u32, looped: bool, dead: bool) -> u32
-    requires { ⌜ (floor < 256) × (block < 256) ⌝ }
+    requires { ⌜ (floor ≤ stackLimit) × (block < 256) ⌝ }
     ensures { λ r. ⌜ r ≡ word floor block looped dead ⌝ }
 {
-    floor as u32 + 256 * block + 65536 * bit_of(looped) + 0x100_0000 * bit_of(dead)
+    block + LOOPED * bit_of(looped) + DEAD * bit_of(dead) + FLOOR * (floor as u32)
 }
 
 pub(crate) fn floor_in(w: u32) -> usize
-    ensures { λ r. ⌜ ((floor type : ℕ) (loop dead : Bool) → floor < 256 → type < 256 → w ≡ word floor type loop dead → r ≡ floor) ⌝ }
+    ensures { λ r. ⌜ ((floor type : ℕ) (loop dead : Bool) → type < 256 → w ≡ word floor type loop dead → r ≡ floor) ⌝ }
 {
-    (w % 256) as usize
+    (w / FLOOR) as usize
 }
 
 fn loop_in(w: u32) -> bool
-    ensures { λ r. ⌜ ((floor type : ℕ) (loop dead : Bool) → floor < 256 → type < 256 → w ≡ word floor type loop dead → r ≡ loop) ⌝ }
+    ensures { λ r. ⌜ ((floor type : ℕ) (loop dead : Bool) → type < 256 → w ≡ word floor type loop dead → r ≡ loop) ⌝ }
 {
-    w / 65536 % 256 == 1
+    w / LOOPED % 2 == 1
 }
 
 pub(crate) fn dead_in(w: u32) -> bool
-    ensures { λ r. ⌜ ((floor type : ℕ) (loop dead : Bool) → floor < 256 → type < 256 → w ≡ word floor type loop dead → r ≡ dead) ⌝ }
+    ensures { λ r. ⌜ ((floor type : ℕ) (loop dead : Bool) → type < 256 → w ≡ word floor type loop dead → r ≡ dead) ⌝ }
 {
-    w / 0x100_0000 == 1
+    w / DEAD % 2 == 1
 }
 
 // The results of its type, as a number of one byte.
 pub(crate) fn results_in(w: u32) -> u64
-    ensures { λ r. ⌜ (r < 256) × ((floor type : ℕ) (loop dead : Bool) → floor < 256 → isBlockType type ≡ true → w ≡ word floor type loop dead → r ≡ topFirst (blockResults type)) ⌝ }
+    ensures { λ r. ⌜ (r < 256) × ((floor type : ℕ) (loop dead : Bool) → isBlockType type ≡ true → w ≡ word floor type loop dead → r ≡ topFirst (blockResults type)) ⌝ }
 {
-    let t = w / 256 % 256;
+    let t = w % LOOPED;
     if t == EMPTY {
         return 0;
     }
@@ -62,7 +69,7 @@ pub(crate) fn results_in(w: u32) -> u64
 
 // What a branch to it does: a loop begins again, of a block it takes the results along.
 pub(crate) fn way_in(w: u32) -> usize
-    ensures { λ r. ⌜ ((floor type : ℕ) (loop dead : Bool) → floor < 256 → isBlockType type ≡ true → w ≡ word floor type loop dead → r ≡ way loop (blockResults type)) ⌝ }
+    ensures { λ r. ⌜ ((floor type : ℕ) (loop dead : Bool) → isBlockType type ≡ true → w ≡ word floor type loop dead → r ≡ way loop (blockResults type)) ⌝ }
 {
     if loop_in(w) {
         return LOOP;
@@ -76,7 +83,7 @@ pub(crate) fn way_in(w: u32) -> usize
 // What a branch to the n-th block takes, the top one first in a number.
 pub(crate) fn takes(results: u64, blocks: &[u32], nest: usize, n: usize) -> u64
     requires { ⌜ (results < 2 ^ 32) × (n ≤ nest) × (nest ≤ length (now blocks)) ⌝ }
-    ensures { λ r. ⌜ (r < 2 ^ 32) × ((rs : List Kind) (fs : List Frame) (floor : ℕ) (dead : Bool) → topFirst rs ≡ results → length rs ≤ resultLimit → OpenBlocks rs (now (blocks .entry)) nest floor dead fs → length (allValues fs) ≤ stackLimit → Labelled fs n r) ⌝ }
+    ensures { λ r. ⌜ (r < 2 ^ 32) × ((rs : List Kind) (fs : List Frame) (floor : ℕ) (dead : Bool) → topFirst rs ≡ results → length rs ≤ resultLimit → OpenBlocks rs (now (blocks .entry)) nest floor dead fs → Labelled fs n r) ⌝ }
 {
     if n == nest {
         return results;

@@ -6,7 +6,7 @@ ghost use mathlib.Core.List.{List};
 ghost use lib.ListN.{length, take};
 ghost use Rattle.limits.specs.Limits.{stackLimit, nestLimit};
 ghost use Rattle.opcode.specs.Kind.{Kind};
-ghost use Rattle.rules.specs.Typing.{Frame, allValues};
+ghost use Rattle.rules.specs.Typing.{Frame};
 ghost use Rattle.checker.specs.Walk.{OpenBlocks};
 ghost use Rattle.checker.specs.Survey.{fronted, marksOf, missed as Survey·missed, Surveys};
 ghost use Rattle.checker.specs.Inner.Coming.{Noted, TellsDead};
@@ -92,7 +92,7 @@ fn missed(code: u8, place: usize) -> Surveyed
 // Whether code is dead: in the innermost block, or around an open one.
 fn is_dead(words: &[u32; limits::NEST], nest: usize, dead: bool) -> bool
     requires { ⌜ (nest ≤ nestLimit) × (length (now words) ≡ nestLimit) ⌝ }
-    ensures { λ r. ⌜ ((rs : List Kind) (fs : List Frame) (floor : ℕ) → OpenBlocks rs (now (words .entry)) nest floor dead fs → length (allValues fs) ≤ stackLimit → TellsDead fs r) ⌝ }
+    ensures { λ r. ⌜ ((rs : List Kind) (fs : List Frame) (floor : ℕ) → OpenBlocks rs (now (words .entry)) nest floor dead fs → TellsDead fs r) ⌝ }
 {
     if dead {
         return true;
@@ -128,7 +128,7 @@ fn put_marks(
     marks: &mut [usize],
 )
     requires { ⌜ (nest ≤ nestLimit) × (length (now words) ≡ nestLimit) × (length (now bodies) ≡ nestLimit) × (length (now marks) ≡ 3 * nestLimit + 1) ⌝ }
-    ensures { λ r. ⌜ ((rs : List Kind) (fs : List Frame) (bs : List ℕ) (dead : Bool) → OpenBlocks rs (now (words .entry)) nest floor dead fs → length (allValues fs) ≤ stackLimit → length bs ≡ nest → Noted (now (bodies .entry)) bs → now (marks .exit) ≡ fronted (marksOf fs bs) (now (marks .entry))) ⌝ }
+    ensures { λ r. ⌜ ((rs : List Kind) (fs : List Frame) (bs : List ℕ) (dead : Bool) → OpenBlocks rs (now (words .entry)) nest floor dead fs → length bs ≡ nest → Noted (now (bodies .entry)) bs → now (marks .exit) ≡ fronted (marksOf fs bs) (now (marks .entry))) ⌝ }
 {
     let mut height = floor;
     let mut k = nest;

@@ -44,7 +44,7 @@ pub(crate) fn refused(code: u8) -> State
 
 // `block` or `loop`, of a type.
 fn begin(block: u32, looped: bool, blocks: &mut [u32], state: State) -> State
-    requires { ⌜ (block < 256) × (state .floor < 256) × (state .nest ≤ nestLimit) × (length (now blocks) ≡ nestLimit) ⌝ }
+    requires { ⌜ (block < 256) × (state .floor ≤ stackLimit) × (state .nest ≤ nestLimit) × (length (now blocks) ≡ nestLimit) ⌝ }
     ensures { λ r. ⌜ ((i : Instr) (ls rs : List Kind) (fs : List Frame) (kinds : List ℕ) → block ≡ i .block → isBlockType (i .block) ≡ true → Framed rs kinds (now (blocks .entry)) (state .depth) (state .nest) (state .floor) (state .dead) fs → Judges ls rs i (control (opener looped)) fs kinds (now (blocks .exit)) (r .depth) (r .nest) (r .floor) (r .dead) (r .code)) ⌝ }
     ensures { λ r. ⌜ Keeps (r .code) (r .nest) (now (blocks .entry)) (now (blocks .exit)) ⌝ }
 {

@@ -8,7 +8,7 @@ use Rattle.checker.proofs.blocks.takes.Statement.{statement}
 use Rattle.checker.proofs.blocks.takes.Tie as tie
 
 returns : tie.Need-returns
-returns c = (omega (arith, c .before .before .pre .0), λ rs fs floor dead e few w small. at-strip (c .if1 .taken) (label-strip w _ e few))
+returns c = (omega (arith, c .before .before .pre .0), λ rs fs floor dead e few w. at-strip (c .if1 .taken) (label-strip w _ e few))
 
 sub-w : tie.Need-sub-w
 sub-w c = search needs
@@ -30,9 +30,9 @@ returns-2 c =
     let at-if1 = c .before .before .before in
     let start = at-if1 .before .before in (
       omega arith,
-      λ rs fs floor dead e few w small.
-          let d = label-block w small (start .args .n) (omega (arith, at-if1 .if1 .left, start .pre .1)) in
-          takes-none d (sym (c .before .loop-in .ensures (d .floor) (d .type) (d .target .loop) (d .dead) (omega (arith, d .floor-small))
+      λ rs fs floor dead e few w.
+          let d = label-block w (start .args .n) (omega (arith, at-if1 .if1 .left, start .pre .1)) in
+          takes-none d (sym (c .before .loop-in .ensures (d .floor) (d .type) (d .target .loop) (d .dead)
           (type-small (d .type) (d .is-type)) (d .word-is)) ∙ c .if2 .taken),
     )
 
@@ -45,11 +45,11 @@ returns-3 c =
     let at-if1 = at-loop-in .before .before in
     let start = at-if1 .before .before in (
       omega (arith, c .results-in .ensures .0),
-      λ rs fs floor dead e few w small.
-          let d = label-block w small (start .args .n) (omega (arith, at-if1 .if1 .left, start .pre .1)) in
-          takes-results d (sym (at-loop-in .loop-in .ensures (d .floor) (d .type) (d .target .loop) (d .dead) (omega (arith, d .floor-small))
+      λ rs fs floor dead e few w.
+          let d = label-block w (start .args .n) (omega (arith, at-if1 .if1 .left, start .pre .1)) in
+          takes-results d (sym (at-loop-in .loop-in .ensures (d .floor) (d .type) (d .target .loop) (d .dead)
           (type-small (d .type) (d .is-type)) (d .word-is)) ∙ c .before .if2 .left)
-          (c .results-in .ensures .1 (d .floor) (d .type) (d .target .loop) (d .dead) (omega (arith, d .floor-small)) (d .is-type) (d .word-is)),
+          (c .results-in .ensures .1 (d .floor) (d .type) (d .target .loop) (d .dead) (d .is-type) (d .word-is)),
     )
 
 pub takes-spec : {M : Type 1} → statement M

@@ -5,10 +5,8 @@ use mathlib.Core.List.{List}
 use native.Mathlib.Nat.{pos-of-ne-zero}
 use native.Mathlib.Omega.{arith}
 use borrow.Author.Needs.{needs}
-use lib.ListN.{length}
-use Rattle.limits.specs.Limits.{stackLimit}
 use Rattle.opcode.specs.Kind.{Kind}
-use Rattle.rules.specs.Typing.{Frame, allValues}
+use Rattle.rules.specs.Typing.{Frame}
 use Rattle.checker.specs.Walk.{OpenBlocks}
 use Rattle.checker.proofs.Marks.{tells-live, tells-dead, Outward, outward, dead-inner, all-live, one-dead, one-outward}
 use Rattle.checker.proofs.place.is_dead.Statement.{statement}
@@ -16,16 +14,16 @@ use Rattle.checker.proofs.place.is_dead.Tie as tie
 
 abbrev Inv-loop : tie.InvT-loop
 Inv-loop words nest dead k₀ k =
-    (k ≤ nest) × ((rs : List Kind) (fs : List Frame) (floor : ℕ) → OpenBlocks rs words nest floor dead fs → length (allValues fs) ≤ stackLimit → Outward rs words k fs)
+    (k ≤ nest) × ((rs : List Kind) (fs : List Frame) (floor : ℕ) → OpenBlocks rs words nest floor dead fs → Outward rs words k fs)
 
 abbrev μ-loop : tie.MeasureT-loop
 μ-loop words nest dead k₀ k = k
 
 returns : tie.Need-returns Inv-loop μ-loop
-returns c = λ rs fs floor n l. tells-dead refl (dead-inner (c .if1 .taken) n)
+returns c = λ rs fs floor n. tells-dead refl (dead-inner (c .if1 .taken) n)
 
 loop-holds : tie.Need-loop-holds Inv-loop μ-loop
-loop-holds c = (search needs, λ rs fs floor n l. outward (c .if1 .left) n l)
+loop-holds c = (search needs, λ rs fs floor n. outward (c .if1 .left) n)
 
 sub-k : tie.Need-sub-k Inv-loop μ-loop
 sub-k c = omega (arith, pos-of-ne-zero (c .loop-test .taken))
@@ -40,7 +38,7 @@ dead-in-requires : tie.Need-dead-in-requires Inv-loop μ-loop
 dead-in-requires c κs = search needs
 
 returns-2 : tie.Need-returns-2 Inv-loop μ-loop
-returns-2 c = λ rs fs floor n l. tells-dead refl (one-dead (c .before .before .before .before .loop .inv .1 rs fs floor n l)
+returns-2 c = λ rs fs floor n. tells-dead refl (one-dead (c .before .before .before .before .loop .inv .1 rs fs floor n)
     (pos-of-ne-zero (c .before .before .before .loop-test .taken)) (c .before .dead-in .ensures) (c .if2 .taken))
 
 loop-less : tie.Need-loop-less Inv-loop μ-loop
@@ -49,12 +47,12 @@ loop-less c = omega (arith, pos-of-ne-zero (c .before .before .before .loop-test
 loop-again : tie.Need-loop-again Inv-loop μ-loop
 loop-again c = (
   omega arith,
-  λ rs fs floor n l. one-outward (c .before .before .before .before .loop .inv .1 rs fs floor n l)
+  λ rs fs floor n. one-outward (c .before .before .before .before .loop .inv .1 rs fs floor n)
       (pos-of-ne-zero (c .before .before .before .loop-test .taken)) (c .before .dead-in .ensures) (c .if2 .left),
 )
 
 returns-3 : tie.Need-returns-3 Inv-loop μ-loop
-returns-3 c = λ rs fs floor n l. tells-live refl (all-live (c .before .loop .inv .1 rs fs floor n l) (c .loop-test .left))
+returns-3 c = λ rs fs floor n. tells-live refl (all-live (c .before .loop .inv .1 rs fs floor n) (c .loop-test .left))
 
 pub is-dead-spec : {M : Type 1} → statement M
 is-dead-spec =

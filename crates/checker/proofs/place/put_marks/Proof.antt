@@ -7,9 +7,9 @@ use native.Mathlib.Nat.{pos-of-ne-zero}
 use native.Mathlib.Omega.{arith}
 use borrow.Author.Needs.{needs}
 use lib.ListN.{length, length-set}
-use Rattle.limits.specs.Limits.{stackLimit, nestLimit}
+use Rattle.limits.specs.Limits.{nestLimit}
 use Rattle.opcode.specs.Kind.{Kind}
-use Rattle.rules.specs.Typing.{Frame, allValues}
+use Rattle.rules.specs.Typing.{Frame}
 use Rattle.checker.specs.Walk.{OpenBlocks}
 use Rattle.checker.specs.Survey.{marksOf, fronted}
 use Rattle.checker.specs.Inner.Coming.{Noted}
@@ -20,14 +20,14 @@ use Rattle.checker.proofs.place.put_marks.Tie as tie
 abbrev Inv-loop : tie.InvT-loop
 Inv-loop words bodies nest floor marks₀ height₀ k₀ marks height k =
     (k ≤ nest) × (length marks ≡ 3 * nestLimit + 1)
-    × ((rs : List Kind) (fs : List Frame) (bs : List ℕ) (dead : Bool) → OpenBlocks rs words nest floor dead fs → length (allValues fs) ≤ stackLimit
+    × ((rs : List Kind) (fs : List Frame) (bs : List ℕ) (dead : Bool) → OpenBlocks rs words nest floor dead fs
     → length bs ≡ nest → Noted bodies bs → Unmarked rs words bodies k height marks (fronted (marksOf fs bs) marks₀))
 
 abbrev μ-loop : tie.MeasureT-loop
 μ-loop words bodies nest floor marks₀ height₀ k₀ marks height k = k
 
 loop-holds : tie.Need-loop-holds Inv-loop μ-loop
-loop-holds c = (search needs, c .before .pre .3, λ rs fs bs dead n l m d. unmarked bs _ n l m d)
+loop-holds c = (search needs, c .before .pre .3, λ rs fs bs dead n m d. unmarked bs _ n m d)
 
 sub-k : tie.Need-sub-k Inv-loop μ-loop
 sub-k c = omega (arith, pos-of-ne-zero (c .loop-test .taken))
@@ -85,8 +85,8 @@ loop-again c =
     let at-loop-test = c .before .before .before .before in (
       omega arith,
       simp length-set (omega arith),
-      λ rs fs bs dead n l m d.
-          one-marked (at-loop-test .before .loop .inv .2 rs fs bs dead n l m d) (pos-of-ne-zero (at-loop-test .loop-test .taken)) (omega arith) (omega arith)
+      λ rs fs bs dead n m d.
+          one-marked (at-loop-test .before .loop .inv .2 rs fs bs dead n m d) (pos-of-ne-zero (at-loop-test .loop-test .taken)) (omega arith) (omega arith)
           (c .before .way-in .ensures) (c .floor-in .ensures),
     )
 
@@ -94,7 +94,7 @@ same-length : tie.Need-same-length Inv-loop μ-loop
 same-length c = search needs
 
 returns : tie.Need-returns Inv-loop μ-loop
-returns c = λ rs fs bs dead n l m d. all-marked (c .before .loop .inv .2 rs fs bs dead n l m d) (c .loop-test .left)
+returns c = λ rs fs bs dead n m d. all-marked (c .before .loop .inv .2 rs fs bs dead n m d) (c .loop-test .left)
 
 pub put-marks-spec : {M : Type 1} → statement M
 put-marks-spec =

@@ -61,7 +61,7 @@ returns-4 c =
     let at-body = at-if2 .before .before in
     let k = at-body .body .ensures .1 .known (at-if3 .if3 .left) in
     not-found (c .missed4 .ensures) (valid (says-done (at-body .body .ensures .0) (at-if2 .if2 .left))) (nowhere-live k (at-is-dead .is-dead .ensures
-    _ _ _ (k .going .framed .nested) (k .going .framed .within .values)) (c .before .if4 .taken))
+    _ _ _ (k .going .framed .nested)) (c .before .if4 .taken))
 
 put-kinds-requires : tie.Need-put-kinds-requires
 put-kinds-requires c κs =
@@ -91,8 +91,8 @@ returns-5 c =
     let at-body = at-if2 .before .before in
     let k = at-body .body .ensures .1 .known (at-if3 .if3 .left) in
     found-here k (says-done (at-body .body .ensures .0) (at-if2 .if2 .left)) (at-is-dead .is-dead .ensures _ _ _ (k .going .framed .nested)
-    (k .going .framed .within .values) .live (at-if4 .if4 .left)) (at-put-kinds .put-kinds .ensures) (c .put-marks .ensures _ _ _ _
-    (k .going .framed .nested) (k .going .framed .within .values) (k .many) (k .noted))
+    .live (at-if4 .if4 .left)) (at-put-kinds .put-kinds .ensures) (c .put-marks .ensures _ _ _ _
+    (k .going .framed .nested) (k .many) (k .noted))
 
 pub survey-spec : {M : Type 1} → statement M
 survey-spec =

@@ -1,6 +1,8 @@
 -- A turn passes one operand.
+use Prim.Native.Nat.{suc}
 use borrow.Author.Needs.{needs}
 use native.Mathlib.Omega.{arith}
+use Rattle.limits.specs.Limits.{stackLimit}
 use Rattle.checker.proofs.Operands.{Popping, pops, pops-on, any-there, none-there, other-there, all-popped}
 use Rattle.checker.proofs.stack.under.Statement.{statement}
 use Rattle.checker.proofs.stack.under.Tie as tie
@@ -21,7 +23,7 @@ add-result : tie.Need-add-result Inv-loop μ-loop
 add-result c = search needs
 
 returns-2 : tie.Need-returns-2 Inv-loop μ-loop
-returns-2 c = λ outer ins f t e. none-there (c .before .before .before .loop .inv) outer ins f t e (c .before .before .loop-test .taken) (c .before .if1 .taken) (c .if2 .left) 65 (omega arith)
+returns-2 c = λ outer ins f t e. none-there (c .before .before .before .loop .inv) outer ins f t e (c .before .before .loop-test .taken) (c .before .if1 .taken) (c .if2 .left) (suc stackLimit) (omega arith)
 
 sub-if3 : tie.Need-sub-if3 Inv-loop μ-loop
 sub-if3 c = omega (arith, c .before .before .loop .inv .least, c .if1 .left)
@@ -40,7 +42,7 @@ returns-3 c =
     let at-if1 = c .before .before in
     let at-loop-test = at-if1 .before in
     let at-loop = at-loop-test .before in
-    λ outer ins f t e. other-there (at-loop .loop .inv) outer ins f t e (at-loop-test .loop-test .taken) (at-if1 .if1 .left) (c .if3 .taken) 65 (omega arith)
+    λ outer ins f t e. other-there (at-loop .loop .inv) outer ins f t e (at-loop-test .loop-test .taken) (at-if1 .if1 .left) (c .if3 .taken) (suc stackLimit) (omega arith)
 
 sub-base : tie.Need-sub-base Inv-loop μ-loop
 sub-base c = omega (arith, c .before .before .before .before .loop .inv .least, c .before .before .if1 .left)

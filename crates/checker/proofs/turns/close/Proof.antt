@@ -4,7 +4,7 @@ use native.Mathlib.Omega.{arith}
 use Rattle.checker.proofs.Words.{type-small}
 use Rattle.checker.proofs.Nests.{closing}
 use Rattle.checker.proofs.Same.{as-coded}
-use Rattle.checker.proofs.Closings.{ends-here, results-number, closing-top, closing-held, closing-small, closes-not, closes-by}
+use Rattle.checker.proofs.Closings.{ends-here, results-number, closing-top, closing-held, closes-not, closes-by}
 use borrow.Author.Needs.{needs}
 use Rattle.checker.proofs.turns.close.Statement.{statement}
 use Rattle.checker.proofs.turns.close.Tie as tie
@@ -38,7 +38,7 @@ returns c =
       (λ i ls rs fs w.
           let k = closing (w .nested) (start .pre .0) in
           let r = results-number w k (at-results-in .results-in .result)
-          (at-results-in .results-in .ensures .1 (k .outer-floor) (k .type) (k .top .loop) (k .outer-dead) (closing-small w k) (k .is-type) (k .word-is)) in
+          (at-results-in .results-in .ensures .1 (k .outer-floor) (k .type) (k .top .loop) (k .outer-dead) (k .is-type) (k .word-is)) in
           as-coded (c .refused .ensures) (closes-not w k (at-under .under .ensures _ (k .top .results) (k .top) (closing-top w k) (r .0))
           (λ e. omega (arith, e, c .before .if1 .taken, start .pre .2, start .pre .3)))),
       λ z. refl,
@@ -66,12 +66,12 @@ returns-2 c =
       (λ i ls rs fs w.
           let k = closing (w .nested) (start .pre .0) in
           let r = results-number w k (at-results-in .results-in .result)
-          (at-results-in .results-in .ensures .1 (k .outer-floor) (k .type) (k .top .loop) (k .outer-dead) (closing-small w k) (k .is-type) (k .word-is)) in
+          (at-results-in .results-in .ensures .1 (k .outer-floor) (k .type) (k .top .loop) (k .outer-dead) (k .is-type) (k .word-is)) in
           let u = at-under .under .ensures _ (k .top .results) (k .top) (closing-top w k) (r .0) in
           let small = type-small (k .type) (k .is-type) in
           closes-by w k u (ends-here u (omega (arith, at-if1 .if1 .left)) (omega (arith, start .pre .2, start .pre .3)))
-          (c .before .floor-in .ensures (k .outer-floor) (k .type) (k .top .loop) (k .outer-dead) (closing-small w k) small (k .word-is))
-          (c .dead-in .ensures (k .outer-floor) (k .type) (k .top .loop) (k .outer-dead) (closing-small w k) small (k .word-is))
+          (c .before .floor-in .ensures (k .outer-floor) (k .type) (k .top .loop) (k .outer-dead) small (k .word-is))
+          (c .dead-in .ensures (k .outer-floor) (k .type) (k .top .loop) (k .outer-dead) small (k .word-is))
           (at-leave .leave .ensures .0 _ (k .top .results) (closing-held w k) (r .1))),
       at-leave .leave .ensures .1,
     )

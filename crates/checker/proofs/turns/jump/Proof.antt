@@ -29,7 +29,7 @@ returns-2 c =
     let at-takes = at-if2 .before in (
       (λ i ls rs fs e t few w.
           as-br-if (at-if2 .if2 .taken) (at-may-branch .may-branch .ensures .0 i ls rs fs _
-          (as-label e (at-takes .takes .ensures .1 rs fs _ _ t few (w .nested) (w .within .values))) w)),
+          (as-label e (at-takes .takes .ensures .1 rs fs _ _ t few (w .nested))) w)),
       at-may-branch .may-branch .ensures .1,
     )
 
@@ -42,7 +42,7 @@ same-length-2 c = search needs
 returns-3 : tie.Need-returns-3
 returns-3 c = (
   (λ i ls rs fs e t few w.
-      as-br (c .before .before .if2 .left) (c .branch .ensures i ls rs fs _ (as-label e (c .before .before .before .takes .ensures .1 rs fs _ _ t few (w .nested) (w .within .values))) w)),
+      as-br (c .before .before .if2 .left) (c .branch .ensures i ls rs fs _ (as-label e (c .before .before .before .takes .ensures .1 rs fs _ _ t few (w .nested))) w)),
   λ z. refl,
 )
 
