@@ -12,6 +12,7 @@ use Rattle.opcode.specs.Kind.{Kind}
 use Rattle.machine.specs.Value.{Value, kindOf, AllInRange, bytesOf}
 use Rattle.machine.specs.Memory.{part}
 use Rattle.image.specs.Image.{imageBytes, imageOf, placeIn, Shows}
+use Rattle.image.specs.Asked.{sixteenBits}
 use Rattle.image.proofs.Asking.{place-at, shows-exact}
 use Rattle.image.proofs.Laws.{image-long, shown-parts, local-slot, stack-slot, shows-once}
 use Rattle.rules.specs.Header.{Header, locals}
@@ -181,3 +182,8 @@ pictured-exact {s} {h} {mem} {buffer} m b = (λ p. passes (p .0) (p .1), λ p. p
         let r = sound-some (p .reached) (p .live) (around-reached (p .reached) .1) (reverse ws) (shown .0) mem
         (reverse-kinds ws ∙ ap reverse (shows .stack-kinds)) (reverse-range ws (shows .stack-range)) (shows .local-kinds) (shows .local-range) m in
         (r .config, rebuilt-pictures r (sym (place-at buffer (p .asked .room))) shows)
+
+-- 02'S NUMBERS (C-15): an image is of version 2, so one of version 1 is 25; and it has 4,619 bytes
+pub pictured-version : {s : List ℕ} {h : Header} {mem buffer : List ℕ} {c : Config} → bytes mem → bytes buffer → Pictures s h mem buffer c
+    → (sixteenBits 3 buffer ≡ 2) × (length (pictureOf c) ≡ 4619)
+pictured-version {c = c} m b p = (pictured-exact m b .0 (c, p) .asked .version, picture-long (p .sound))
