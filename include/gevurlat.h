@@ -24,14 +24,15 @@
 extern "C" {
 #endif
 
-/* Limits. A longer strip is LONG, a larger memory is ROOM. */
+/* Limits. A longer strip is LONG, a larger memory is ROOM, a fuller stack is DEEP. */
 #define GEVURLAT_STRIP_MOST 65536      /* bytes of a strip */
-#define GEVURLAT_MEMORY_MOST 65536     /* bytes of the lent memory */
+#define GEVURLAT_MEMORY_MOST 1048576   /* bytes of the lent memory */
 #define GEVURLAT_PARAMETERS_MOST 16    /* values that a strip takes */
 #define GEVURLAT_RESULTS_MOST 4        /* values that a strip gives */
 #define GEVURLAT_VALUE_BYTES 16        /* bytes of a value in args and results */
+#define GEVURLAT_STACK_MOST 256        /* values on the operand stack */
 #define GEVURLAT_NEST_MOST 32          /* blocks inside blocks, the strip not counted */
-#define GEVURLAT_IMAGE_BYTES 1547      /* bytes of the image of a run between two slices */
+#define GEVURLAT_IMAGE_BYTES 4619      /* bytes of the image of a run between two slices */
 
 /* The codes of the inspector's card, and the place that goes with each. */
 enum {
@@ -50,17 +51,17 @@ enum {
     GEVURLAT_ALIGN = 11,    /* an alignment exponent too large; its first byte */
     GEVURLAT_LOCAL = 12,    /* a local that is not declared; the instruction */
     GEVURLAT_OPERAND = 13,  /* an operand missing or of another kind; the instruction */
-    GEVURLAT_DEEP = 14,     /* more than 64 known values on the stack; the instruction */
+    GEVURLAT_DEEP = 14,     /* more than 256 known values on the stack; the instruction */
     GEVURLAT_RESULT = 15,   /* the stack at `end` is not its block's, or the strip's, results; `end` */
     GEVURLAT_TRAILING = 16, /* bytes after the strip's `end`; the first of them */
     GEVURLAT_NEST = 17,     /* a block inside 32 others; the instruction */
     GEVURLAT_LABEL = 18,    /* a branch to a block that is not there; the instruction */
     /* The strip is good, what is lent is not: the check answers none of these. */
-    GEVURLAT_ROOM = 20,     /* the memory is over 65,536 bytes; 0 */
+    GEVURLAT_ROOM = 20,     /* the memory is over 1,048,576 bytes; 0 */
     GEVURLAT_ARGS = 21,     /* args_len is not 16 for each parameter; 0 (not the resume) */
     GEVURLAT_OUT = 22,      /* results_len is not 16 for each result; 0 */
     GEVURLAT_FORM = 23,     /* an argument's unused bytes are not zero; 0 (not the resume) */
-    GEVURLAT_SMALL = 24,    /* image_len is below 1,547; 0 (the start and the resume) */
+    GEVURLAT_SMALL = 24,    /* image_len is below 4,619; 0 (the start and the resume) */
     GEVURLAT_IMAGE = 25,    /* the image's mark, version, place, depth or unused bytes are wrong; 0 (the resume) */
     /* The run began and did not reach `end`. */
     GEVURLAT_TRAP = 30,     /* an access past the memory's end; the instruction */
@@ -100,7 +101,7 @@ uint64_t gevurlat_check(const uint8_t *strip, size_t strip_len);
  *  args     16 bytes for each parameter, first parameter first: an i32 in the
  *           first 4 bytes, an i64 in the first 8, least byte first, the rest
  *           zero; a v128 in all 16, byte 0 first
- *  memory   what the strip loads from and stores to, 0 to 65,536 bytes
+ *  memory   what the strip loads from and stores to, 0 to 1,048,576 bytes
  *  results  16 bytes for each result, in the same form
  *  budget   how many instructions may be completed
  *
@@ -126,10 +127,10 @@ uint64_t gevurlat_run(const uint8_t *strip, size_t strip_len,
  *  DONE          memory, by the strip's stores, and all bytes of results
  *  TRAP          memory, by the stores of the completed steps
  *  BUDGET        memory, by the stores of the completed steps, and the first
- *                1,547 bytes of image: where the run is, its locals and its
+ *                4,619 bytes of image: where the run is, its locals and its
  *                stack, for gevurlat_resume
  *  any other     nothing, and steps are 0
- * Only DONE writes results. Only BUDGET writes image, and no byte beyond 1,547.
+ * Only DONE writes results. Only BUDGET writes image, and no byte beyond 4,619.
  *
  * The memory is not in the image. It is the caller's, and has to be kept as it
  * is until the next slice.
@@ -150,6 +151,8 @@ uint64_t gevurlat_start(const uint8_t *strip, size_t strip_len,
  * IMAGE, 25: a wrong mark or version; a place at which no instruction of the
  * strip starts, or that stands after a `br`, up to and with the `end` around
  * it; a depth that is not the check's there; or unused bytes that are not zero.
+ * The version is 2. An image of version 1 is IMAGE too, or SMALL where the
+ * buffer ends with its 1,547 bytes, since 24 is asked first.
  * An image that is not turned away is safe to go on from, whoever wrote it.
  *
  * Steps are those of this slice. What is written is what gevurlat_start writes.

@@ -1,4 +1,4 @@
--- What 02 (C-14) asks of an image, byte by byte: beside Image, which lays its parts one after the other (Asking.shows-exact).
+-- What 02 (C-14, C-15) asks of an image, byte by byte: beside Image, which lays its parts one after the other (Asking.shows-exact).
 use Prim.Native.Nat.{ℕ, zero, suc, _+_, _*_, _^_, _≤_, _<_}
 use mathlib.Core.Path.{_≡_}
 use mathlib.Core.List.{List, [], _∷_}

@@ -1,4 +1,4 @@
--- The image of a run that has spent its budget (02, C-14): mark, version, place, depth, locals and stack, one part after the other, numbers
+-- The image of a run that has spent its budget (02, C-14, C-15): mark, version, place, depth, locals and stack, one part after the other, numbers
 -- little-endian.
 use Prim.Native.Nat.{ℕ, _+_, _-_, _≤_}
 use mathlib.Core.Path.{_≡_}
@@ -16,6 +16,7 @@ use Rattle.machine.specs.Memory.{part}
 abbrev pub imageMark : List ℕ
 imageMark = 0x57 ∷ 0x47 ∷ 0x53 ∷ []
 
+-- version 1 had room for 64 values on the stack (02, C-15)
 abbrev pub imageVersion : ℕ
 imageVersion = 2
 
