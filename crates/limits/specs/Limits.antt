@@ -1,4 +1,4 @@
--- The limits of a strip, each under its name (01, "The strip file", "Values and shapes", "Instructions"; 02, C-13, C-15). No other statement writes one
+-- The limits of a strip, each under its name (01, "The strip file", "Values and shapes", "Instructions"; 02, C-13, C-15). No other definition writes one
 -- as a numeral.
 use Prim.Native.Nat.{ℕ, _+_, _*_}
 
