@@ -15,7 +15,7 @@ use Rattle.limits.specs.Limits.{slot}
 use Rattle.opcode.specs.Kind.{Kind, i32, i64, v128, bytesUsed}
 use Rattle.machine.specs.Value.{Value, I32, I64, V128, kindOf, InRange, AllInRange, bytesOf, allBytes}
 use Rattle.machine.proofs.Laws.Rep.{sixteen-bytes}
-use Rattle.image.specs.Slots.{InSlots}
+use Rattle.image.specs.Slots.{InSlots, Tells, yes, no}
 use Rattle.image.specs.Inner.Parts.{Zeros}
 
 -- ---- zeros, one after the other
@@ -36,6 +36,24 @@ module _ (bs : List ℕ) where
 
   pub zeros-not : {from to : ℕ} (k : ℕ) → from ≤ k → k < to → (getD bs k 0 ≡ 0 → ⊥) → Zeros from to bs → ⊥
   zeros-not k l m ne zs = ne (zs k l m)
+
+-- those before k were looked at: all are zero, or one was seen that is not
+pub data Looked (bs : List ℕ) (from to k : ℕ) : Bool → Type 0 where
+  clear : from ≤ k → Zeros from k bs → Looked bs from to k true
+  seen : (Zeros from to bs → ⊥) → Looked bs from to k false
+
+module _ (bs : List ℕ) {from to k : ℕ} where
+  pub looked-zero : {b : Bool} → Looked bs from to k b → getD bs k 0 ≡ 0 → Looked bs from to (k + 1) b
+  looked-zero (clear l zs) e = clear (omega arith) (zeros-more bs zs e)
+  looked-zero (seen f) e = seen f
+
+  pub looked-other : {b : Bool} → Looked bs from to k b → k < to → (getD bs k 0 ≡ 0 → ⊥) → Looked bs from to (k + 1) false
+  looked-other (clear l zs) m ne = seen (zeros-not bs k l m ne)
+  looked-other (seen f) m ne = seen f
+
+  pub looked-all : {b : Bool} → Looked bs from to k b → to ≤ k → Tells (Zeros from to bs) b
+  looked-all (clear l zs) h = yes (zeros-upto bs zs h)
+  looked-all (seen f) h = no f
 
 -- ---- one value
 

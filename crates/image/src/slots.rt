@@ -39,16 +39,18 @@ fn used(kind: u8) -> usize
     }
 }
 
+// All bytes are looked at, whatever the first are: without a way out of the loop the compiler takes many at a time.
 pub(crate) fn zero_between(bytes: &[u8], from: usize, to: usize) -> bool
     requires { ⌜ to ≤ length (now bytes) ⌝ }
     ensures { λ r. ⌜ Tells (Zeros from to (now (bytes .entry))) r ⌝ }
 {
+    let mut clear = true;
     let mut k = from;
     while k < to {
         if bytes[k] != 0 {
-            return false;
+            clear = false;
         }
         k += 1;
     }
-    true
+    clear
 }
