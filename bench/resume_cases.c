@@ -6,12 +6,13 @@
 
 #include "strip.h"
 
-enum { LINE_MOST = 1 << 16, FIELDS = 64, ROOM_MOST = 65537, IMAGE_MOST = 1600, LEFT_AT_ONCE = 1 << 10 };
+enum { LINE_MOST = 1 << 16, FIELDS = 64, LEFT_AT_ONCE = 1 << 10 };
 
 static char *fields[FIELDS];
 static size_t field_count;
 
-static uint8_t strip[ROOM_MOST], args[512], memory[ROOM_MOST], results[128], image[IMAGE_MOST];
+/* Each has room for more than is asked. */
+static uint8_t strip[FILE_MOST + 1], args[512], memory[MEMORY_MOST + 1], results[128], image[IMAGE_BYTES + 64];
 static size_t strip_len, args_len, memory_len, results_len, image_len;
 
 static void stop(const char *why)
@@ -192,7 +193,7 @@ static uint32_t digest(uint32_t h, uint64_t a)
 /* Where a run ends with a budget: `sum` has its code and place, and its steps. */
 static void hold_to_one_run(uint64_t sum, uint32_t budget)
 {
-    static uint8_t m[ROOM_MOST], r[sizeof results];
+    static uint8_t m[sizeof memory], r[sizeof results];
     memcpy(m, memory, memory_len);
     memcpy(r, results, results_len);
     refill();
@@ -294,6 +295,7 @@ static void places(void)
             image[PLACE_AT] = place;
             image[PLACE_AT + 1] = place >> 8;
             image[DEPTH_AT] = depth;
+            image[DEPTH_AT + 1] = depth >> 8;
             const uint64_t a = zero_slice();
             if (a != answer(IMAGE, 0, 0))
                 printf(" %u:%zu", (unsigned)(a >> 8 & 0xFFFFFF), depth);
