@@ -296,14 +296,4 @@ static void make_blocks(struct strip *s, size_t memory_len, int slips)
     finish(s);
 }
 
-/* One that has a full stack for sure. */
-static void make_full(struct strip *s, size_t memory_len)
-{
-    begin_blocks(memory_len, 0);
-    put_full();
-    put_items(below(8));
-    fit(head.result_kinds, head.results);
-    finish(s);
-}
-
 #endif

@@ -262,6 +262,16 @@ static void tested(const struct strip *s, struct lent *x)
     some_damage(s, most);
 }
 
+/* One with blocks and, for sure, a full stack. */
+static void make_full(struct strip *s, size_t memory_len)
+{
+    begin_blocks(memory_len, 0);
+    put_full();
+    put_items(below(8));
+    fit(head.result_kinds, head.results);
+    finish(s);
+}
+
 /* A loop of two turns with a block that is left from inside, and stores; the same with an access that is out of bounds in the second turn;
    values under blocks; a br in each frame, blocks in the dead part. */
 static const struct {

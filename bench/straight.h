@@ -7,8 +7,8 @@
 #include "chance.h"
 #include "table.h"
 
-/* A constant takes 22 bytes at most, so that a full stack leaves room for more. */
-enum { CONST_MOST = 22, STRIP_MOST = 2 * CONST_MOST * STACK_MOST, KINDS_MOST = STACK_MOST + 512, BODY_MOST = STRIP_MOST };
+/* A full stack has room, of constants that take 22 bytes at most, and more after it. */
+enum { CONST_MOST = 22, STRIP_MOST = 8192 + CONST_MOST * STACK_MOST, KINDS_MOST = STACK_MOST + 512, BODY_MOST = STRIP_MOST };
 
 struct strip {
     uint8_t bytes[STRIP_MOST];
