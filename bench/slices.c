@@ -180,7 +180,7 @@ static void judged(const struct strip *s, const struct lent *x)
    the other byte; the least; and some by chance. */
 static int asked(size_t depth, size_t there, size_t deepest)
 {
-    return deepest <= DEEP_STACK || depth % 256 == there % 256 || depth + 1 == there || depth == there + 1 || depth < 2 || !below(32);
+    return deepest <= DEEP_STACK || depth % 256 == there % 256 || depth + 1 == there || depth == there + 1 || depth < 2 || !below(100);
 }
 
 /* Each depth up to one more than there is anywhere. The memory has no say in it: little is lent. */
