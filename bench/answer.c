@@ -8,7 +8,8 @@
 
 #include "strip.h"
 
-enum { ARGS_MOST = 2 * SLOT * PARAMETERS_MOST, OUT_MOST = 2 * SLOT * RESULTS_MOST };
+/* As much memory as document 01's program lends, unless another length is asked for. */
+enum { ARGS_MOST = 2 * SLOT * PARAMETERS_MOST, OUT_MOST = 2 * SLOT * RESULTS_MOST, PROGRAM_MEMORY = 65536 };
 
 static uint8_t strip[2 * FILE_MOST], memory[2 * MEMORY_MOST], before[2 * MEMORY_MOST], args[ARGS_MOST], results[OUT_MOST];
 static uint8_t listing[LISTING_MOST];
@@ -95,7 +96,7 @@ int main(int n, char **words)
         fread(text, 1, sizeof text - 1, stdin);
     const size_t len = unhex(strcmp(words[1], "-") ? words[1] : text, strip, sizeof strip);
     size_t args_len = len < 8 ? 0 : SLOT * (size_t)strip[5], results_len = len < 8 ? 0 : SLOT * (size_t)strip[7];
-    size_t memory_len = MEMORY_MOST, shown = 0;
+    size_t memory_len = PROGRAM_MEMORY, shown = 0;
     uint32_t budget = 1000000;
     for (int i = 2; i < n; i++) {
         const char *value;

@@ -48,7 +48,7 @@ static const struct {
 #define EIGHT(s) s s s s s s s s
 /* local 3 plus 1, kept, and whether it is below 4,000: five instructions, and br_if */
 #define COUNT_ON "\x20\x03\x41\x01\x6A\x22\x03\x41\xA0\x1F\x49\x0D\x00"
-    /* local 3 is the address, up to 65,536 */
+    /* local 3 is the address, up to LOOP_MEMORY */
     LOOP("load, i16x8.add, store", "\x20\x03\x20\x03\xFD\x00\x04\x00\x20\x02\xFD\x8E\x01\xFD\x0B\x04\x00"
          "\x20\x03\x41\x10\x6A\x22\x03\x41\x80\x80\x04\x49\x0D\x00", 4096, 13),
     LOOP("br over 200 instructions", "\x02\x40\x0C\x00" TEN(TEN("\x41\x01\x1A")) "\x0B" COUNT_ON, 4000, 9),
@@ -60,10 +60,13 @@ static const struct {
 };
 enum { UNITS = sizeof units / sizeof *units, LOOPS = sizeof loops / sizeof *loops, BUDGET_MOST = 1000000, SLICE_STEPS = 1000, ROUNDS = 400 };
 
+/* What a strip and a loop are lent. A memory may be larger; this one stays, so that the rows can be compared with older ones. */
+enum { UNIT_MEMORY = 256, LOOP_MEMORY = 65536 };
+
 static uint8_t strip[FILE_MOST];
 static size_t strip_len;
 static unsigned strip_instructions; /* that are completed */
-static uint8_t args[3 * SLOT], memory[MEMORY_MOST], results[SLOT], image[IMAGE_BYTES];
+static uint8_t args[3 * SLOT], memory[LOOP_MEMORY], results[SLOT], image[IMAGE_BYTES];
 static size_t memory_len;
 static unsigned slices; /* of the last run in slices */
 
@@ -96,7 +99,7 @@ static void make(int u)
         strip_instructions += units[u].instructions;
     }
     put("\x0B", 1);
-    lend(256);
+    lend(UNIT_MEMORY);
 }
 
 static void make_loop(int n)
@@ -107,7 +110,7 @@ static void make_loop(int n)
     put(loops[n].turn, loops[n].bytes);
     put("\x0B\x20\x01\x0B", 4);
     strip_instructions = 1 + loops[n].turns * loops[n].instructions + 3;
-    lend(MEMORY_MOST);
+    lend(LOOP_MEMORY);
 }
 
 enum door { CHECK, RUN, SLICES };
@@ -155,7 +158,7 @@ static void differ(const char *name)
 
 static void compare(void (*make_it)(int), int n, const char *name)
 {
-    static uint8_t memories[2][MEMORY_MOST], outs[2][SLOT];
+    static uint8_t memories[2][LOOP_MEMORY], outs[2][SLOT];
     uint64_t answers[2][2];
     for (int side = 0; side < 2; side++) {
         make_it(n);
@@ -172,7 +175,7 @@ static void compare(void (*make_it)(int), int n, const char *name)
 /* In slices a loop leaves what it leaves at once. */
 static void compare_slices(int n)
 {
-    static uint8_t left[MEMORY_MOST], out[SLOT];
+    static uint8_t left[LOOP_MEMORY], out[SLOT];
     make_loop(n);
     call(RUN, 0);
     memcpy(left, memory, memory_len);

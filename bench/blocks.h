@@ -113,11 +113,11 @@ static void put_store(void)
     if (body.floor < body.depth && body.kinds[body.depth - 1] != V128)
         put_row(VECTOR + (body.kinds[body.depth - 1] == I32 ? 0x11 : 0x12));
     put_local(LOCAL_SET, waiting);
-    put_i32(64 < body.memory_len ? (int32_t)below(body.memory_len - 40) : (int32_t)some_number());
+    const uint32_t offset = put_address();
     put_local(LOCAL_GET, waiting);
     put_op(VECTOR + 0x0B);
     put_number(0, 5, below(5));
-    put_number(0, 5, some_offset());
+    put_number(0, 5, offset);
     took(2);
 }
 
@@ -239,25 +239,28 @@ static void put_nested(void)
     }
 }
 
-/* A stack that is full or nearly so, and on it a block whose `end` is in dead code. */
+/* A stack that is full or nearly so, and on it blocks that are left from inside: at times by br_if, then by br, with their `end` in dead
+   code. */
 static void put_full(void)
 {
-    for (size_t most = STACK_MOST - below(2); body.depth < most;)
+    for (size_t most = STACK_MOST - below(4); body.depth < most;)
         put_const(all_kinds[below(3)]);
     open_block(BLOCK, EMPTY);
+    open_block(below(4) ? BLOCK : LOOP, EMPTY);
     open_block(BLOCK, some_type());
-    put_branch(BR, 1);
+    if (body.depth + 2 <= STACK_MOST && below(2))
+        put_branch(BR_IF, below(2) ? 0 : 2);
+    put_branch(BR, 2);
     if (!below(4))
         put_branch(BR_IF, below(3));
     if (!below(4))
         put_local(LOCAL_TEE, first_reserved() + below(RESERVED));
-    close_block();
-    close_block();
+    while (blocks)
+        close_block();
     drop_to(below(8));
 }
 
-/* A strip that passes the check, but for a few that are too deep, and if it `slips` for more. */
-static void make_blocks(struct strip *s, size_t memory_len, int slips)
+static void begin_blocks(size_t memory_len, int slips)
 {
     begin(2, memory_len);
     memset(head.local_kinds + head.parameters + head.locals, I32, COUNTERS);
@@ -269,16 +272,23 @@ static void make_blocks(struct strip *s, size_t memory_len, int slips)
     body.calm = 1;
     body.slips = slips;
     blocks = counting = 0;
+}
+
+/* A strip that passes the check, but for a few that are too deep, and if it `slips` for more. */
+static void make_blocks(struct strip *s, size_t memory_len, int slips)
+{
+    begin_blocks(memory_len, slips);
     put_items(below(4));
     switch (below(8)) {
     case 0:
         put_nested();
         break;
     case 1:
-        if (!below(4))
+        if (below(2))
             put_full();
-        else
-            put_deep();
+        break;
+    case 2:
+        put_deep();
     }
     put_items(4 + below(16));
     if (!slip())

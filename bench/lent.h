@@ -37,11 +37,23 @@ static int same_left(const struct lent *x, const struct lent *y)
         && !memcmp(x->image, y->image, sizeof x->image);
 }
 
+/* Seldom a large memory: it is copied and compared at every call. */
 static size_t some_length(int calm)
 {
     static const size_t sizes[] = { 0, 1, 7, 16, 100 };
     const size_t i = below(calm ? 200 : 8);
-    return !below(200) ? MEMORY_MOST : i < sizeof sizes / sizeof *sizes ? sizes[i] : 1000;
+    return !below(200) ? MEMORY_MOST - below(2) * below(64) : i < sizeof sizes / sizeof *sizes ? sizes[i] : 1000;
+}
+
+static void put_depth(uint8_t *image, size_t depth)
+{
+    image[DEPTH_AT] = depth;
+    image[DEPTH_AT + 1] = depth >> 8;
+}
+
+static size_t depth_in(const uint8_t *image)
+{
+    return image[DEPTH_AT] | image[DEPTH_AT + 1] << 8;
 }
 
 /* As much as the strip asks, but for a few times, and a memory of `memory_len` bytes. */
@@ -65,7 +77,7 @@ static void lend(const struct strip *s, struct lent *x)
     case 0: x->args_len = SLOT * below(4); break;
     case 1: x->results_len = SLOT * below(4); break;
     case 2: x->args[below(x->args_len + 1)] ^= 1; break;
-    case 3: x->memory_len = MEMORY_MOST + 1; break;
+    case 3: x->memory_len = below(8) ? x->memory_len : MEMORY_MOST + 1; break;
     case 4: x->image_len = below(2) ? IMAGE_BYTES - 1 : below(IMAGE_BYTES); break;
     }
 }
@@ -106,8 +118,8 @@ static void damage(const struct strip *s, struct lent *x)
         case 0: case 1: case 2: /* one of the first bytes */
             x->image[below(LOCALS_AT)] ^= 1 << below(8);
             break;
-        case 3: case 4: /* the depth, one off */
-            x->image[DEPTH_AT] += 1 - 2 * below(2);
+        case 3: case 4: /* the depth, one off, or in its other byte */
+            put_depth(x->image, depth_in(x->image) + (below(8) ? 1 : 256) * (below(2) ? 1 : -1));
             break;
         case 5: case 6: case 7: /* another place */
             x->image[PLACE_AT] += 1 + below(8) - 2 * below(8);
@@ -117,7 +129,7 @@ static void damage(const struct strip *s, struct lent *x)
             memset(x->image + PLACE_AT, 0, IMAGE_BYTES - PLACE_AT);
             x->image[PLACE_AT] = at;
             x->image[PLACE_AT + 1] = at >> 8;
-            x->image[DEPTH_AT] = below(2) ? 0 : below(STACK_MOST / 8);
+            put_depth(x->image, below(2) ? 0 : below(below(4) ? 8 : STACK_MOST + 2));
             break;
         }
         case 16: case 17: case 18:

@@ -1,4 +1,4 @@
-/* The machine between two instructions, and its image (request C-14). */
+/* The machine between two instructions, and its image (requests C-14, C-15). */
 #ifndef MACHINE_H
 #define MACHINE_H
 
@@ -57,11 +57,14 @@ static inline int all_zero(const uint8_t *bytes, size_t count)
     return !any;
 }
 
+/* Mark and version. */
+static const uint8_t image_front[PLACE_AT] = { 'W', 'G', 'S', IMAGE_VERSION & 0xFF, IMAGE_VERSION >> 8 };
+
 /* All but code 25 has been asked. */
 static inline int shows(const uint8_t *image, const uint8_t *s, const struct survey *survey)
 {
     const size_t locals = s[5] + s[6];
-    return !memcmp(image, "WGS\1\0", PLACE_AT) && survey->known && number_at(image, DEPTH_AT, 2) == survey->depth
+    return !memcmp(image, image_front, PLACE_AT) && survey->known && number_at(image, DEPTH_AT, 2) == survey->depth
         && formed(image + LOCALS_AT, s + 8, locals) && all_zero(image + LOCALS_AT + SLOT * locals, STACK_AT - LOCALS_AT - SLOT * locals)
         && formed(image + STACK_AT, survey->kinds, survey->depth)
         && all_zero(image + STACK_AT + SLOT * survey->depth, SLOT * (STACK_MOST - survey->depth));
@@ -70,7 +73,7 @@ static inline int shows(const uint8_t *image, const uint8_t *s, const struct sur
 /* What is over the stack's depth is not the strip's any more. */
 static inline void paint(uint8_t *image, size_t at, const struct machine *m, size_t depth)
 {
-    memcpy(image, "WGS\1\0", PLACE_AT);
+    memcpy(image, image_front, PLACE_AT);
     put_number_at(image, PLACE_AT, 4, at);
     put_number_at(image, DEPTH_AT, 2, depth);
     memcpy(image + LOCALS_AT, m->locals, sizeof m->locals);

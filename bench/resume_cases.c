@@ -1,116 +1,11 @@
 /* What crates/resume_test has to print, by the plain interpreter: reads its cases from standard input, as the first lines of
    crates/resume_test/data/cases.txt say how. A budget that is cut into slices and does not come out as one run ends the program. */
-#include <stdio.h>
-#include <stdlib.h>
-#include <string.h>
+#include "cases.h"
 
-#include "strip.h"
+enum { LEFT_AT_ONCE = 1 << 10 };
 
-enum { LINE_MOST = 1 << 16, FIELDS = 64, ROOM_MOST = 65537, IMAGE_MOST = 1600, LEFT_AT_ONCE = 1 << 10 };
-
-static char *fields[FIELDS];
-static size_t field_count;
-
-static uint8_t strip[ROOM_MOST], args[512], memory[ROOM_MOST], results[128], image[IMAGE_MOST];
-static size_t strip_len, args_len, memory_len, results_len, image_len;
-
-static void stop(const char *why)
-{
-    fprintf(stderr, "resume_cases: %s: %s %s\n", why, fields[0], fields[1]);
-    exit(1);
-}
-
-/* --- the fields of a line ----------------------------------------------------------------------------------------- */
-
-static void split(char *line)
-{
-    field_count = 0;
-    for (char *word = strtok(line, " \n"); word; word = strtok(NULL, " \n")) {
-        if (field_count == FIELDS)
-            stop("too many fields");
-        fields[field_count++] = word;
-    }
-}
-
-static const char *field(size_t k)
-{
-    if (field_count <= k)
-        stop("too few fields");
-    return fields[k];
-}
-
-static size_t number(size_t k, size_t most)
-{
-    char *end;
-    const unsigned long n = strtoul(field(k), &end, 10);
-    if (*end || most < n)
-        stop("no number, or too large");
-    return n;
-}
-
-static unsigned digit(char c)
-{
-    if ('0' <= c && c <= '9')
-        return c - '0';
-    if (c < 'a' || 'f' < c)
-        stop("no digit");
-    return c - 'a' + 10;
-}
-
-/* Items with full stops between them: digits, or a count, x and digits that are repeated so often. - is none. */
-static size_t bytes(size_t k, uint8_t *out, size_t most)
-{
-    const char *c = field(k);
-    size_t n = 0;
-    if (!strcmp(c, "-"))
-        return 0;
-    while (*c) {
-        size_t len = strcspn(c, ".");
-        const char *x = memchr(c, 'x', len), *digits = x ? x + 1 : c;
-        len -= digits - c;
-        for (size_t times = x ? strtoul(c, NULL, 10) : 1; times; times--)
-            for (size_t i = 0; i < len; i += 2) {
-                if (n == most || len % 2)
-                    stop("too many bytes, or half a byte");
-                out[n++] = digit(digits[i]) << 4 | digit(digits[i + 1]);
-            }
-        c = digits + len + (digits[len] == '.');
-    }
-    return n;
-}
-
-/* --- what is lent and what is printed ------------------------------------------------------------------------------ */
-
-static void refill(void)
-{
-    for (size_t i = 0; i < memory_len; i++)
-        memory[i] = i;
-    memset(results, 0xEE, results_len);
-}
-
-static void print_name(void)
-{
-    printf("%s", field(1));
-}
-
-static void print_answer(uint64_t a)
-{
-    printf(" %u %u %u", (unsigned)(a & 0xFF), (unsigned)(a >> 8 & 0xFFFFFF), (unsigned)(a >> 32));
-}
-
-static void print_left(void)
-{
-    if (results_len)
-        printf(" ");
-    for (size_t i = 0; i < results_len; i++)
-        printf("%02x", results[i]);
-    for (size_t i = 0; i < memory_len; i++)
-        if (memory[i] != (uint8_t)i) {
-            if (i == 0 || memory[i - 1] == (uint8_t)(i - 1))
-                printf(" %zu:", i);
-            printf("%02x", memory[i]);
-        }
-}
+static uint8_t image[IMAGE_BYTES + 64]; /* room for more than is asked */
+static size_t image_len;
 
 /* As in a case: a row of equal bytes is one item. */
 static void print_items(const uint8_t *s, size_t len)
@@ -150,17 +45,9 @@ static void print_slice(uint32_t budget, uint64_t a)
     printf("\n");
 }
 
-static void lend_to_start(void)
-{
-    strip_len = bytes(2, strip, sizeof strip);
-    args_len = bytes(3, args, sizeof args);
-    memory_len = number(4, sizeof memory);
-    results_len = number(5, sizeof results);
-}
-
 static void cut(void)
 {
-    lend_to_start();
+    lend_to_run();
     image_len = number(6, sizeof image);
     refill();
     memset(image, 0xEE, image_len);
@@ -192,7 +79,7 @@ static uint32_t digest(uint32_t h, uint64_t a)
 /* Where a run ends with a budget: `sum` has its code and place, and its steps. */
 static void hold_to_one_run(uint64_t sum, uint32_t budget)
 {
-    static uint8_t m[ROOM_MOST], r[sizeof results];
+    static uint8_t m[sizeof memory], r[sizeof results];
     memcpy(m, memory, memory_len);
     memcpy(r, results, results_len);
     refill();
@@ -226,7 +113,7 @@ static uint32_t cut_in_three(uint32_t h, uint32_t a, uint32_t b, uint32_t c)
 
 static void slices(void)
 {
-    lend_to_start();
+    lend_to_run();
     image_len = IMAGE_BYTES;
     const uint32_t last = number(6, LEFT_AT_ONCE);
     for (uint32_t a = 0; a <= last; a++) {
@@ -294,6 +181,7 @@ static void places(void)
             image[PLACE_AT] = place;
             image[PLACE_AT + 1] = place >> 8;
             image[DEPTH_AT] = depth;
+            image[DEPTH_AT + 1] = depth >> 8;
             const uint64_t a = zero_slice();
             if (a != answer(IMAGE, 0, 0))
                 printf(" %u:%zu", (unsigned)(a >> 8 & 0xFFFFFF), depth);
@@ -326,8 +214,7 @@ int main(void)
 {
     static char line[LINE_MOST];
     while (fgets(line, sizeof line, stdin)) {
-        split(line);
-        if (field_count == 0 || *fields[0] == '#')
+        if (!split(line))
             continue;
         switch (*fields[0]) {
         case 's': slices(); break;

@@ -1,14 +1,15 @@
 /* Holds the plain resume to the plain run, and what it takes for an image to the plain listing.
      slices CASES SEED
-   over a few strips and CASES made by chance, half of them with blocks: every budget up to the end, every pair of budgets and some
-   triples leave what one run leaves; at each place every depth; images damaged by chance. */
+   over a few strips and CASES made by chance, half of them with blocks: every budget up to the end, or of a long run every one in a part
+   of it, every pair of budgets and some triples leave what one run leaves; at each place every depth; images damaged by chance. */
 #include <stdio.h>
 #include <stdlib.h>
 #include <string.h>
 
 #include "lent.h"
 
-enum { CUT_MOST = 160, LINES = STRIP_MOST, DAMAGES = 40 };
+/* A large memory is copied at every cut, so there are fewer of them; of deep stacks not every depth is asked about. */
+enum { CUT_MOST = 160, LARGE = 1000, CUT_LARGE = 24, DEEP_STACK = 32, PARTS = 4, LINES = STRIP_MOST, DAMAGES = 40 };
 
 static const struct doors plain = { plain_run, plain_start, plain_resume };
 static unsigned long strips, cuts, images, taken, differing;
@@ -35,26 +36,28 @@ static uint64_t resume_after(uint64_t sum, const struct doors *d, const struct s
 
 /* --- slices ------------------------------------------------------------------------------------------------------- */
 
-/* After every budget: what one run answers and leaves, and the image of one slice. */
+/* After every budget from the first on: what one run answers and leaves, and the image of one slice. */
 static struct lent after[CUT_MOST + 1];
 static uint64_t answers[CUT_MOST + 1];
 
-static void whole_runs(const struct strip *s, const struct lent *x, unsigned most)
+static void whole_runs(const struct strip *s, const struct lent *x, unsigned first, unsigned most)
 {
     static struct lent y;
     for (unsigned k = 0; k <= most; k++) {
         copy(&after[k], x);
         copy(&y, x);
-        answers[k] = start(&plain, s, &after[k], k);
-        if (run_once(&plain, s, &y, k) != answers[k] || memcmp(y.memory, after[k].memory, y.memory_len)
-            || memcmp(y.results, after[k].results, sizeof y.results) || memcmp(after[k].image + IMAGE_BYTES, y.image + IMAGE_BYTES, 5))
-            differs("start", s, k, 0);
+        answers[k] = start(&plain, s, &after[k], first + k);
+        if (run_once(&plain, s, &y, first + k) != answers[k] || memcmp(y.memory, after[k].memory, y.memory_len)
+            || memcmp(y.results, after[k].results, sizeof y.results)
+            || memcmp(after[k].image + IMAGE_BYTES, y.image + IMAGE_BYTES, IMAGE_ROOM - IMAGE_BYTES))
+            differs("start", s, first + k, 0);
         if (code_of(answers[k]) != BUDGET && memcmp(after[k].image, y.image, sizeof y.image))
-            differs("image of a start that is not out of budget", s, k, 0);
+            differs("image of a start that is not out of budget", s, first + k, 0);
     }
 }
 
-/* A slice of b steps after one of a, and a third by chance. An image that is left over from the slice before says nothing of the last. */
+/* A slice of b steps after one of a more than the first budget, and a third by chance. An image that is left over from the slice before
+   says nothing of the last. */
 static void cut(const struct strip *s, unsigned a, unsigned b, unsigned most)
 {
     static struct lent y;
@@ -75,9 +78,9 @@ static void cut(const struct strip *s, unsigned a, unsigned b, unsigned most)
     }
 }
 
-static void every_cut(const struct strip *s, const struct lent *x, unsigned most)
+static void every_cut(const struct strip *s, const struct lent *x, unsigned first, unsigned most)
 {
-    whole_runs(s, x, most);
+    whole_runs(s, x, first, most);
     for (unsigned a = 0; a <= most; a++)
         for (unsigned b = 0; a + b <= most; b++)
             cut(s, a, b, most);
@@ -146,15 +149,17 @@ static int unused_zero(const uint8_t *slots, const uint8_t *kinds, size_t count,
     return 1;
 }
 
+/* Mark and version. */
+static const uint8_t front[] = { 0x57, 0x47, 0x53, IMAGE_VERSION % 256, IMAGE_VERSION / 256 };
+
 /* As request C-14 says it of the listing. */
 static int is_image(const struct strip *s, const uint8_t *image)
 {
-    static const uint8_t first[] = { 0x57, 0x47, 0x53, 0x01, 0x00 };
     const size_t place = image[5] | image[6] << 8 | image[7] << 16 | (size_t)image[8] << 24, depth = image[9] | image[10] << 8;
     for (size_t i = 0; i < line_count; i++)
         if (lines[i].place == place)
-            return !lines[i].dead && lines[i].depth == depth && !memcmp(image, first, sizeof first)
-                && unused_zero(image + LOCALS_AT, s->bytes + 8, s->bytes[5] + s->bytes[6], 32)
+            return !lines[i].dead && lines[i].depth == depth && !memcmp(image, front, sizeof front)
+                && unused_zero(image + LOCALS_AT, s->bytes + 8, s->bytes[5] + s->bytes[6], PARAMETERS_MOST + LOCALS_MOST)
                 && unused_zero(image + STACK_AT, lines[i].kinds, depth, STACK_MOST);
     return 0;
 }
@@ -168,26 +173,39 @@ static void judged(const struct strip *s, const struct lent *x)
     images++;
     taken += good;
     if (resume(&plain, s, &y, 0) != (good ? answer(BUDGET, place, 0) : answer(IMAGE, 0, 0)) || !same_left(&y, x))
-        differs("image", s, place, x->image[9]);
+        differs("image", s, place, depth_in(x->image));
 }
 
-/* Up to one more than there is anywhere. */
+/* Whether an image of this depth is to be judged at a place: the depths that the last line up to there has, one more and one less, or in
+   the other byte; the least; and some by chance. */
+static int asked(size_t depth, size_t there, size_t deepest)
+{
+    return deepest <= DEEP_STACK || depth % 256 == there % 256 || depth + 1 == there || depth == there + 1 || depth < 2 || !below(100);
+}
+
+/* Each depth up to one more than there is anywhere. The memory has no say in it: little is lent. */
 static void every_place(const struct strip *s, const struct lent *x)
 {
     static struct lent y;
-    size_t deepest = 0;
+    size_t deepest = 0, line = 0;
     for (size_t i = 0; i < line_count; i++)
         deepest = deepest < lines[i].depth ? lines[i].depth : deepest;
     copy(&y, x);
+    y.memory_len = y.memory_len < LARGE ? y.memory_len : LARGE;
     memset(y.image, 0, IMAGE_BYTES);
-    memcpy(y.image, "WGS\1", 4);
-    for (size_t place = 0; place < s->len + 2; place++)
+    memcpy(y.image, front, sizeof front);
+    for (size_t place = 0; place < s->len + 2; place++) {
+        while (line + 1 < line_count && lines[line + 1].place <= place)
+            line++;
         for (size_t depth = 0; depth <= deepest + 1; depth++) {
+            if (!asked(depth, lines[line].depth, deepest))
+                continue;
             y.image[PLACE_AT] = place;
             y.image[PLACE_AT + 1] = place >> 8;
-            y.image[DEPTH_AT] = depth;
+            put_depth(y.image, depth);
             judged(s, &y);
         }
+    }
 }
 
 static void some_damage(const struct strip *s, unsigned most)
@@ -207,6 +225,22 @@ static void some_damage(const struct strip *s, unsigned most)
 
 /* --- strips ------------------------------------------------------------------------------------------------------- */
 
+/* Where the budgets of a run are to begin: of a few parts made by chance, the one with the deepest stack in its middle. */
+static unsigned some_part(const struct strip *s, const struct lent *x, unsigned whole, unsigned most)
+{
+    static struct lent y;
+    unsigned first = 0, deepest = 0;
+    for (int n = 0; most < whole && n < PARTS; n++) {
+        const unsigned k = below(whole - most + 1);
+        copy(&y, x);
+        if (code_of(start(&plain, s, &y, k + most / 2)) == BUDGET && deepest <= depth_in(y.image)) {
+            deepest = depth_in(y.image);
+            first = k;
+        }
+    }
+    return first;
+}
+
 static void tested(const struct strip *s, struct lent *x)
 {
     static struct lent y;
@@ -217,15 +251,25 @@ static void tested(const struct strip *s, struct lent *x)
     x->memory_len = x->memory_len <= MEMORY_MOST ? x->memory_len : 0;
     x->image_len = IMAGE_ROOM;
     copy(&y, x);
-    const uint64_t all = run_once(&plain, s, &y, CUT_MOST - 2);
+    const uint64_t all = run_once(&plain, s, &y, LOOP_BUDGET);
     if (code_of(all) == FORM)
         return;
     strips++;
-    const unsigned most = steps_of(all) + 2;
-    every_cut(s, x, most);
+    const unsigned room = LARGE < x->memory_len ? CUT_LARGE : CUT_MOST, whole = steps_of(all) + 2, most = whole < room ? whole : room;
+    every_cut(s, x, some_part(s, x, whole, most), most);
     read_listing(s);
     every_place(s, x);
     some_damage(s, most);
+}
+
+/* One with blocks and, for sure, a full stack. */
+static void make_full(struct strip *s, size_t memory_len)
+{
+    begin_blocks(memory_len, 0);
+    put_full();
+    put_items(below(8));
+    fit(head.result_kinds, head.results);
+    finish(s);
 }
 
 /* A loop of two turns with a block that is left from inside, and stores; the same with an access that is out of bounds in the second turn;
@@ -263,8 +307,10 @@ int main(int n, char **words)
         tested(&s, &x);
     }
     for (unsigned long i = strtoul(words[1], NULL, 10); i; i--) {
-        x.memory_len = some_length(1);
-        if (i % 2)
+        x.memory_len = i % 100 ? some_length(1) : MEMORY_MOST;
+        if (i % 16 == 0)
+            make_full(&s, x.memory_len);
+        else if (i % 2)
             make_blocks(&s, x.memory_len, 0);
         else
             make_straight(&s, 1 + below(2), x.memory_len);

@@ -7,7 +7,8 @@
 #include "chance.h"
 #include "table.h"
 
-enum { STRIP_MOST = 8192, KINDS_MOST = 512, BODY_MOST = STRIP_MOST };
+/* A full stack has room, of constants that take 22 bytes at most, and more after it. */
+enum { CONST_MOST = 22, STRIP_MOST = 8192 + CONST_MOST * STACK_MOST, KINDS_MOST = STACK_MOST + 512, BODY_MOST = STRIP_MOST };
 
 struct strip {
     uint8_t bytes[STRIP_MOST];
@@ -127,15 +128,15 @@ static void offer(const void *kinds, size_t count)
         put_const(wanted[i]);
 }
 
-/* Of an access: an address that is in bounds more often than not, and what lies over it. */
-static void offer_access(const struct row *row)
+/* An access takes 16 bytes at most, with a small offset 32. */
+enum { NEAR = 40 };
+
+/* In bounds more often than not, and now and then near the memory's end, which in a large one would hardly be met. */
+static uint32_t some_address(void)
 {
-    if (body.dead && !below(4))
-        return offer(row->takes, row->taken);
-    const int good = below(body.calm ? 64 : 16) && 64 < body.memory_len;
-    put_i32(good ? (int32_t)below(body.memory_len - 40) : (int32_t)some_number());
-    for (size_t i = 1; i < row->taken; i++)
-        put_const(row->takes[i]);
+    if (body.memory_len <= NEAR || !below(body.calm ? 64 : 16))
+        return some_number();
+    return below(body.calm ? 64 : 8) ? below(body.memory_len - NEAR) : body.memory_len - 1 - below(NEAR);
 }
 
 static uint32_t some_offset(void)
@@ -145,12 +146,34 @@ static uint32_t some_offset(void)
     return below(8) ? below(MEMORY_MOST) : (uint32_t)chance();
 }
 
+/* The address of an access is put on the stack. Answers the offset: small, or at times most of the way. */
+static uint32_t put_address(void)
+{
+    const uint32_t address = some_address(), by = address < MEMORY_MOST && !below(4) ? below(address + 1) : 0;
+    put_i32(address - by);
+    return by ? by : some_offset();
+}
+
+/* Of an access: its address, and what lies over it. Answers the offset. */
+static uint32_t offer_access(const struct row *row)
+{
+    if (body.dead && !below(4)) {
+        offer(row->takes, row->taken);
+        return some_offset();
+    }
+    const uint32_t offset = put_address();
+    for (size_t i = 1; i < row->taken; i++)
+        put_const(row->takes[i]);
+    return offset;
+}
+
 static void put_row(unsigned op)
 {
     const struct row *row = &rows[op];
     const int access = row->immediates == MEMARG || row->immediates == MEMARG_LANE;
+    uint32_t offset = 0;
     if (access)
-        offer_access(row);
+        offset = offer_access(row);
     else
         offer(row->takes, row->taken);
     put_op(op);
@@ -159,7 +182,7 @@ static void put_row(unsigned op)
         while (2 << most <= row->moved)
             most++;
         put_number(0, 5, below(most + 1));
-        put_number(0, 5, some_offset());
+        put_number(0, 5, offset);
     }
     if (row->immediates == LANE_INDEX || row->immediates == MEMARG_LANE)
         put(below(row->lanes));

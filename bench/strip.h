@@ -1,4 +1,5 @@
-/* What both interpreters answer (document 01, "Numbers on the inspector's card", and requests C-13, C-14), and the doors of the plain one. */
+/* What both interpreters answer (document 01, "Numbers on the inspector's card", and requests C-13 to C-15), and the doors of the plain
+   one. */
 #ifndef STRIP_H
 #define STRIP_H
 
@@ -13,17 +14,18 @@ enum code {
 
 enum { I32 = 0x7F, I64 = 0x7E, V128 = 0x7B, EMPTY = 0x40 };
 
-enum { FILE_MOST = 65536, MEMORY_MOST = 65536, STACK_MOST = 64, PARAMETERS_MOST = 16, LOCALS_MOST = 16, RESULTS_MOST = 4, SLOT = 16 };
+enum { FILE_MOST = 65536, MEMORY_MOST = 1048576, STACK_MOST = 256, PARAMETERS_MOST = 16, LOCALS_MOST = 16, RESULTS_MOST = 4, SLOT = 16 };
 
 /* Blocks that may be open at once, the strip itself not counted. */
 enum { BLOCKS_MOST = 32 };
 
-/* An image (request C-14): "WGS", version, place and depth in 2, 4 and 2 bytes, least byte first; then the locals and the stack. */
-enum { PLACE_AT = 5, DEPTH_AT = 9, LOCALS_AT = 11, STACK_AT = LOCALS_AT + SLOT * (PARAMETERS_MOST + LOCALS_MOST),
+/* An image (requests C-14, C-15): "WGS", version, place and depth in 2, 4 and 2 bytes, least byte first; then the locals and the stack. */
+enum { IMAGE_VERSION = 2, PLACE_AT = 5, DEPTH_AT = 9, LOCALS_AT = 11, STACK_AT = LOCALS_AT + SLOT * (PARAMETERS_MOST + LOCALS_MOST),
        IMAGE_BYTES = STACK_AT + SLOT * STACK_MOST };
 
-/* An instruction has a byte at least. Its line has less than 512: 64 kinds take 321, a name 29, sixteen bytes 64. */
-enum { LISTING_MOST = 512 * FILE_MOST };
+/* An instruction has a byte at least. In its line a kind takes 5 bytes with the blank, all else less than 128: a name 29, sixteen bytes 64,
+   a place 5. */
+enum { LISTED_MOST = 5 * STACK_MOST + 128, LISTING_MOST = LISTED_MOST * FILE_MOST };
 
 /* Code in bits 0-7, place in 8-31, steps in 32-63. */
 static inline uint64_t answer(unsigned code, size_t place, uint32_t steps)

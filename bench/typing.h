@@ -11,11 +11,12 @@
    or the header's results. */
 struct frame {
     uint32_t body;   /* the place of its first instruction */
+    uint16_t floor;  /* the known values under it, kept here while a block in it is open: STACK_MOST at most */
     uint8_t leaves;  /* how many kinds its `end` leaves */
     uint8_t carries; /* how many of them a branch to it takes: all, or of a loop none */
-    uint8_t floor;   /* the known values under it, kept here while a block in it is open */
-    uint8_t dead;    /* whether a br has been passed in it, kept so too */
+    uint8_t dead;    /* whether a br has been passed in it, kept as the floor is */
 };
+_Static_assert(STACK_MOST <= UINT16_MAX, "a floor, and an image's depth, have two bytes");
 
 /* Apart from the numbers beside it, which a compiler keeps in registers only where nothing beside them is indexed. */
 struct room {

@@ -1,7 +1,8 @@
 // A budget that is cut into slices: a run, and resumes after it with what the call before left.
 ghost use Prim.Native.Nat.{_<_};
 use crate::BUFFER;
-use crate::ROOM;
+use crate::MEMORY;
+use crate::STRIP;
 use crate::digest;
 use crate::in_32_bits;
 use crate::left;
@@ -21,11 +22,11 @@ const SHORT: usize = 512;
 
 // cut NAME STRIP ARGUMENTS MEMORY RESULTS IMAGE BUDGET BUDGET ..
 pub(crate) fn cut(line: &[u8]) {
-    let mut strip = [0u8; ROOM];
+    let mut strip = [0u8; STRIP];
     let n = bytes_in(line, 2, &mut strip);
     let mut args = [0u8; SHORT];
     let p = bytes_in(line, 3, &mut args);
-    let mut mem = [0u8; ROOM];
+    let mut mem = [0u8; MEMORY];
     let m = length_in(line, 4, &mem);
     let mut results = [0xEEu8; 128];
     let r = length_in(line, 5, &results);

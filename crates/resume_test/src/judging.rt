@@ -1,6 +1,7 @@
 // Images that are good and images that are not.
 use crate::BUFFER;
-use crate::ROOM;
+use crate::MEMORY;
+use crate::STRIP;
 use crate::digest;
 use crate::in_32_bits;
 use crate::left;
@@ -19,9 +20,9 @@ const SHORT: usize = 2048;
 
 // resume NAME STRIP MEMORY RESULTS BUDGET IMAGE: the line ends with the image after the call, or with `kept`.
 pub(crate) fn resume(line: &[u8]) {
-    let mut strip = [0u8; ROOM];
+    let mut strip = [0u8; STRIP];
     let n = bytes_in(line, 2, &mut strip);
-    let mut mem = [0u8; ROOM];
+    let mut mem = [0u8; MEMORY];
     let m = length_in(line, 3, &mem);
     let mut results = [0xEEu8; 128];
     let r = length_in(line, 4, &results);
@@ -102,6 +103,7 @@ fn every_depth(line: &[u8], strip: &[u8], mem: &mut [u8], results: &mut [u8], im
 
 fn at_depth(depth: usize, strip: &[u8], mem: &mut [u8], results: &mut [u8], image: &mut [u8]) {
     put(image, 9, depth);
+    put(image, 10, depth / 256);
     let a = zero_slice(strip, mem, results, image);
     if a.code != card::IMAGE {
         decimal(a.place as u64);

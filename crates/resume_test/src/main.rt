@@ -1,6 +1,6 @@
-// Runs in slices (request C-14), as the lines of data/cases.txt say: budgets that are cut, and images that are good or not. Each line says what was
-// answered and what was left: the results, each part of the memory that has changed, and the image. stdout was worked out by bench/resume_cases, an
-// interpreter in C that was written from documents 01 and 02 with no use of this code, before this was first run.
+// Runs in slices (requests C-14, C-15), as the lines of data/cases.txt say: budgets that are cut, and images that are good or not. Each line says
+// what was answered and what was left: the results, each part of the memory that has changed, and the image. stdout was worked out by
+// bench/resume_cases, an interpreter in C that was written from documents 01 and 02 with no use of this code, before this was first run.
 mod cutting;
 mod digest;
 mod judging;
@@ -13,11 +13,14 @@ use judging::bytes;
 use judging::places;
 use judging::resume;
 
-// One byte more than a strip or a memory may have.
-const ROOM: usize = 65537;
+// One byte more than a strip may have.
+const STRIP: usize = limits::FILE + 1;
+
+// One byte more than a memory may have.
+const MEMORY: usize = limits::MEMORY + 1;
 
 // More bytes than an image has.
-const BUFFER: usize = 1600;
+const BUFFER: usize = image::BYTES + 64;
 
 fn main() {
     let path = b"cases.txt";

@@ -9,20 +9,22 @@ use cases::name;
 use cases::number_in;
 use libc::STDOUT_FILENO;
 
-// Every listing that is to be printed has room here.
-const LISTING: usize = 32768;
+// Every listing that is to be printed has room here; one that comes to 256 values has over a hundred thousand bytes.
+const LISTING: usize = 262144;
 
-// list NAME STRIP OUTPUT: the line ends with `touched` if a byte beyond the listing is not as it was; then the listing's own lines.
+// list NAME STRIP OUTPUT OVER: the line ends with `touched` if a byte beyond the listing is not as it was; then the listing's own lines, but for the
+// bytes that are passed over; none are, if OVER is left out.
 pub(crate) fn list(line: &[u8]) {
-    let mut strip = [0u8; crate::ROOM];
+    let mut strip = [0u8; crate::STRIP];
     let n = bytes_in(line, 2, &mut strip);
     let mut out = [0xEEu8; LISTING];
     let m = length_in(line, 3, &out);
+    let over = number_in(line, 4);
     name(line);
-    list_in(&strip[..n], &mut out[..m]);
+    list_in(&strip[..n], &mut out[..m], over);
 }
 
-fn list_in(strip: &[u8], out: &mut [u8]) {
+fn list_in(strip: &[u8], out: &mut [u8], over: usize) {
     let w = strip::list(strip, out);
     answer(w.code, w.place, w.len);
     let n = within(w.len, out);
@@ -30,7 +32,12 @@ fn list_in(strip: &[u8], out: &mut [u8]) {
         io::write_all(STDOUT_FILENO, b" touched");
     }
     end_line();
-    io::write_all(STDOUT_FILENO, &out[..n]);
+    show(&out[..n], over);
+}
+
+fn show(listing: &[u8], over: usize) {
+    let from = within(over, listing);
+    io::write_all(STDOUT_FILENO, &listing[from..]);
 }
 
 // rooms NAME STRIP LAST: listed with every room from 0 bytes to the last, a line each.
@@ -44,7 +51,7 @@ pub(crate) fn rooms(line: &[u8]) {
 }
 
 fn room(line: &[u8], k: usize) {
-    let mut strip = [0u8; crate::ROOM];
+    let mut strip = [0u8; crate::STRIP];
     let n = bytes_in(line, 2, &mut strip);
     let mut whole = [0xEEu8; LISTING];
     strip::list(&strip[..n], &mut whole);

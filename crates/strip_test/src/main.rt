@@ -1,7 +1,8 @@
 // Strips checked, run, rewritten and listed, as the lines of data/cases.txt say. One line each: the name, of a run its budget, then code, place and
 // steps (of a rewriting or a listing the length); after them the results and each part of the memory that has changed, or the output; the text of a
-// listing stands in the lines below. stdout was worked out from documents 01, 02 and 002 and Core's table of opcodes by a check, a run, a rewriter
-// and a lister written for that in another language, with no use of this code, before this was first run.
+// listing stands in the lines below. stdout was worked out by bench/strip_cases, a check, a run, a rewriter and a lister in C that were written from
+// documents 01, 02 and 002 and Core's table of opcodes with no use of this code, before this was first run. What the cases older than request C-15
+// answer had been worked out before, by others in another language, and is the same but where a limit moved.
 mod list;
 
 use cases::answer;
@@ -18,8 +19,11 @@ use cases::number_in;
 use list::list;
 use list::rooms;
 
-// One byte more than a strip or a memory may have.
-const ROOM: usize = 65537;
+// One byte more than a strip may have.
+const STRIP: usize = limits::FILE + 1;
+
+// One byte more than a memory may have.
+const MEMORY: usize = limits::MEMORY + 1;
 
 fn main() {
     let path = b"cases.txt";
@@ -68,7 +72,7 @@ fn run_or_rooms(line: &[u8], second: u8) {
 
 // check NAME STRIP
 fn check(line: &[u8]) {
-    let mut strip = [0u8; ROOM];
+    let mut strip = [0u8; STRIP];
     let n = bytes_in(line, 2, &mut strip);
     let a = strip::check(&strip[..n]);
     name(line);
@@ -92,11 +96,11 @@ fn budgets(line: &[u8]) {
 }
 
 fn run_at(line: &[u8], budget: u32) {
-    let mut strip = [0u8; ROOM];
+    let mut strip = [0u8; STRIP];
     let n = bytes_in(line, 2, &mut strip);
     let mut args = [0u8; 512];
     let p = bytes_in(line, 3, &mut args);
-    let mut mem = [0u8; ROOM];
+    let mut mem = [0u8; MEMORY];
     let m = length_in(line, 4, &mem);
     let mut results = [0xEEu8; 128];
     let r = length_in(line, 5, &results);
@@ -122,7 +126,7 @@ fn run_in(strip: &[u8], args: &[u8], mem: &mut [u8], results: &mut [u8], budget:
 
 // shorten NAME STRIP OUTPUT
 fn shorten(line: &[u8]) {
-    let mut strip = [0u8; ROOM];
+    let mut strip = [0u8; STRIP];
     let n = bytes_in(line, 2, &mut strip);
     let mut out = [0xEEu8; 64];
     let m = length_in(line, 3, &out);
