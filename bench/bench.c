@@ -10,6 +10,10 @@
 
 #include "strip.h"
 
+#define TEN(s) s s s s s s s s s s
+#define EIGHT(s) s s s s s s s s
+#define FIVE(s) s s s s s
+
 /* Local 0 is an i32, not 0, locals 1 and 2 are vectors. A strip pushes local 1, repeats its unit, which leaves one vector where one was, as
    often as a file has room, and ends with that vector as its result. */
 static const struct {
@@ -31,9 +35,13 @@ static const struct {
     UNIT("local.get, i32x4.dot_i16x8_s", "\x20\x02\xFD\xBA\x01", 2),
     UNIT("i8x16.popcnt", "\xFD\x62", 1),
     UNIT("local.get, i8x16.bitmask, drop", "\x20\x02\xFD\x64\x1A", 3),
+    UNIT("250 i32.const, 250 drop", FIVE(FIVE(TEN("\x41\xE8\x07"))) FIVE(FIVE(TEN("\x1A"))), 500), /* on a stack of up to 251 values */
     UNIT_2("version 2: load, add, store", "\x1A\x20\x00\x20\x00\xFD\x00\x04\x00\x20\x02\xFD\xAE\x01\x22\x01\xFD\x0B\x04\x00\x20\x01", 9),
     UNIT_2("block, i32.const 0, br_if, end", "\x02\x40\x41\x00\x0D\x00\x0B", 4),
 };
+
+/* What a strip and most loops are lent. A memory may be larger; this one stays, so that the rows can be compared with older ones. */
+enum { UNIT_MEMORY = 256, LOOP_MEMORY = 65536 };
 
 /* A loop: further local 3 is an i32 that begins at 0. Its turn is what it repeats; it leaves nothing, and the last of it goes back. */
 static const struct {
@@ -42,10 +50,10 @@ static const struct {
     size_t bytes;
     unsigned turns;
     unsigned instructions; /* completed in a turn */
+    size_t memory;
 } loops[] = {
-#define LOOP(name, bytes, turns, instructions) { name, bytes, sizeof bytes - 1, turns, instructions }
-#define TEN(s) s s s s s s s s s s
-#define EIGHT(s) s s s s s s s s
+#define LOOP_IN(memory, name, bytes, turns, instructions) { name, bytes, sizeof bytes - 1, turns, instructions, memory }
+#define LOOP(name, bytes, turns, instructions) LOOP_IN(LOOP_MEMORY, name, bytes, turns, instructions)
 /* local 3 plus 1, kept, and whether it is below 4,000: five instructions, and br_if */
 #define COUNT_ON "\x20\x03\x41\x01\x6A\x22\x03\x41\xA0\x1F\x49\x0D\x00"
     /* local 3 is the address, up to LOOP_MEMORY */
@@ -57,16 +65,16 @@ static const struct {
     LOOP("8 blocks left by their ends", EIGHT("\x02\x40") EIGHT("\x0B") COUNT_ON, 4000, 23),
     /* more than the ends that the proved run keeps */
     LOOP("100 blocks, each left by br 0", TEN(TEN("\x02\x40\x0C\x00\x0B")) COUNT_ON, 4000, 207),
+    /* the first, over the largest memory: every sixteenth vector of 1,048,576 bytes */
+    LOOP_IN(MEMORY_MOST, "load, i16x8.add, store, 1,048,576 bytes", "\x20\x03\x20\x03\xFD\x00\x04\x00\x20\x02\xFD\x8E\x01\xFD\x0B\x04\x00"
+            "\x20\x03\x41\x80\x02\x6A\x22\x03\x41\x80\x80\xC0\x00\x49\x0D\x00", 4096, 13),
 };
 enum { UNITS = sizeof units / sizeof *units, LOOPS = sizeof loops / sizeof *loops, BUDGET_MOST = 1000000, SLICE_STEPS = 1000, ROUNDS = 400 };
-
-/* What a strip and a loop are lent. A memory may be larger; this one stays, so that the rows can be compared with older ones. */
-enum { UNIT_MEMORY = 256, LOOP_MEMORY = 65536 };
 
 static uint8_t strip[FILE_MOST];
 static size_t strip_len;
 static unsigned strip_instructions; /* that are completed */
-static uint8_t args[3 * SLOT], memory[LOOP_MEMORY], results[SLOT], image[IMAGE_BYTES];
+static uint8_t args[3 * SLOT], memory[MEMORY_MOST], results[SLOT], image[IMAGE_BYTES];
 static size_t memory_len;
 static unsigned slices; /* of the last run in slices */
 
@@ -110,7 +118,7 @@ static void make_loop(int n)
     put(loops[n].turn, loops[n].bytes);
     put("\x0B\x20\x01\x0B", 4);
     strip_instructions = 1 + loops[n].turns * loops[n].instructions + 3;
-    lend(LOOP_MEMORY);
+    lend(loops[n].memory);
 }
 
 enum door { CHECK, RUN, SLICES };
@@ -158,7 +166,7 @@ static void differ(const char *name)
 
 static void compare(void (*make_it)(int), int n, const char *name)
 {
-    static uint8_t memories[2][LOOP_MEMORY], outs[2][SLOT];
+    static uint8_t memories[2][MEMORY_MOST], outs[2][SLOT];
     uint64_t answers[2][2];
     for (int side = 0; side < 2; side++) {
         make_it(n);
@@ -175,7 +183,7 @@ static void compare(void (*make_it)(int), int n, const char *name)
 /* In slices a loop leaves what it leaves at once. */
 static void compare_slices(int n)
 {
-    static uint8_t left[LOOP_MEMORY], out[SLOT];
+    static uint8_t left[MEMORY_MOST], out[SLOT];
     make_loop(n);
     call(RUN, 0);
     memcpy(left, memory, memory_len);

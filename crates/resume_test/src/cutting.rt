@@ -1,8 +1,6 @@
 // A budget that is cut into slices: a run, and resumes after it with what the call before left.
 ghost use Prim.Native.Nat.{_<_};
 use crate::BUFFER;
-use crate::MEMORY;
-use crate::STRIP;
 use crate::digest;
 use crate::in_32_bits;
 use crate::left;
@@ -13,8 +11,10 @@ use cases::field;
 use cases::fill;
 use cases::find;
 use cases::length_in;
+use cases::memory_room;
 use cases::name;
 use cases::number_in;
+use cases::strip_room;
 use strip::Answer;
 
 // Strips that are cut in every way are short.
@@ -22,11 +22,11 @@ const SHORT: usize = 512;
 
 // cut NAME STRIP ARGUMENTS MEMORY RESULTS IMAGE BUDGET BUDGET ..
 pub(crate) fn cut(line: &[u8]) {
-    let mut strip = [0u8; STRIP];
+    let mut strip = strip_room();
     let n = bytes_in(line, 2, &mut strip);
     let mut args = [0u8; SHORT];
     let p = bytes_in(line, 3, &mut args);
-    let mut mem = [0u8; MEMORY];
+    let mut mem = memory_room();
     let m = length_in(line, 4, &mem);
     let mut results = [0xEEu8; 128];
     let r = length_in(line, 5, &results);

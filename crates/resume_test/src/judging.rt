@@ -1,7 +1,5 @@
 // Images that are good and images that are not.
 use crate::BUFFER;
-use crate::MEMORY;
-use crate::STRIP;
 use crate::digest;
 use crate::in_32_bits;
 use crate::left;
@@ -10,8 +8,10 @@ use cases::decimal;
 use cases::end_line;
 use cases::fill;
 use cases::length_in;
+use cases::memory_room;
 use cases::name;
 use cases::number_in;
+use cases::strip_room;
 use libc::STDOUT_FILENO;
 use strip::Answer;
 
@@ -20,9 +20,9 @@ const SHORT: usize = 2048;
 
 // resume NAME STRIP MEMORY RESULTS BUDGET IMAGE: the line ends with the image after the call, or with `kept`.
 pub(crate) fn resume(line: &[u8]) {
-    let mut strip = [0u8; STRIP];
+    let mut strip = strip_room();
     let n = bytes_in(line, 2, &mut strip);
-    let mut mem = [0u8; MEMORY];
+    let mut mem = memory_room();
     let m = length_in(line, 3, &mem);
     let mut results = [0xEEu8; 128];
     let r = length_in(line, 4, &results);

@@ -13,12 +13,6 @@ use judging::bytes;
 use judging::places;
 use judging::resume;
 
-// One byte more than a strip may have.
-const STRIP: usize = limits::FILE + 1;
-
-// One byte more than a memory may have.
-const MEMORY: usize = limits::MEMORY + 1;
-
 // More bytes than an image has.
 const BUFFER: usize = image::BYTES + 64;
 

@@ -1,4 +1,6 @@
 // Strips listed (request C-11): what is answered, the text as it stands, and whether a byte beyond it was touched.
+ghost use mathlib.Core.Path.{_≡_};
+ghost use lib.ListN.{length};
 ghost use Rattle.io.specs.Counts.{Counts};
 use cases::answer;
 use cases::bytes_in;
@@ -7,17 +9,22 @@ use cases::end_line;
 use cases::length_in;
 use cases::name;
 use cases::number_in;
+use cases::strip_room;
 use libc::STDOUT_FILENO;
 
 // Every listing that is to be printed has room here; one that comes to 256 values has over a hundred thousand bytes.
-const LISTING: usize = 262144;
+fn listing_room() -> [u8; 262144]
+    ensures { λ r. ⌜ 262144 ≡ length r ⌝ }
+{
+    [0xEE; 262144]
+}
 
 // list NAME STRIP OUTPUT OVER: the line ends with `touched` if a byte beyond the listing is not as it was; then the listing's own lines, but for the
 // bytes that are passed over; none are, if OVER is left out.
 pub(crate) fn list(line: &[u8]) {
-    let mut strip = [0u8; crate::STRIP];
+    let mut strip = strip_room();
     let n = bytes_in(line, 2, &mut strip);
-    let mut out = [0xEEu8; LISTING];
+    let mut out = listing_room();
     let m = length_in(line, 3, &out);
     let over = number_in(line, 4);
     name(line);
@@ -51,11 +58,11 @@ pub(crate) fn rooms(line: &[u8]) {
 }
 
 fn room(line: &[u8], k: usize) {
-    let mut strip = [0u8; crate::STRIP];
+    let mut strip = strip_room();
     let n = bytes_in(line, 2, &mut strip);
-    let mut whole = [0xEEu8; LISTING];
+    let mut whole = listing_room();
     strip::list(&strip[..n], &mut whole);
-    let mut out = [0xEEu8; LISTING];
+    let mut out = listing_room();
     let m = within(k, &out);
     name(line);
     decimal(k as u64);
@@ -83,7 +90,7 @@ fn left(out: &[u8], whole: &[u8], len: usize) {
 }
 
 fn kept(s: &[u8]) -> bool {
-    let before = [0xEEu8; LISTING];
+    let before = listing_room();
     let n = within(s.len(), &before);
     check::same(s, &before[..n])
 }

@@ -14,16 +14,12 @@ use cases::fill;
 use cases::find;
 use cases::hex;
 use cases::length_in;
+use cases::memory_room;
 use cases::name;
 use cases::number_in;
+use cases::strip_room;
 use list::list;
 use list::rooms;
-
-// One byte more than a strip may have.
-const STRIP: usize = limits::FILE + 1;
-
-// One byte more than a memory may have.
-const MEMORY: usize = limits::MEMORY + 1;
 
 fn main() {
     let path = b"cases.txt";
@@ -72,7 +68,7 @@ fn run_or_rooms(line: &[u8], second: u8) {
 
 // check NAME STRIP
 fn check(line: &[u8]) {
-    let mut strip = [0u8; STRIP];
+    let mut strip = strip_room();
     let n = bytes_in(line, 2, &mut strip);
     let a = strip::check(&strip[..n]);
     name(line);
@@ -96,11 +92,11 @@ fn budgets(line: &[u8]) {
 }
 
 fn run_at(line: &[u8], budget: u32) {
-    let mut strip = [0u8; STRIP];
+    let mut strip = strip_room();
     let n = bytes_in(line, 2, &mut strip);
     let mut args = [0u8; 512];
     let p = bytes_in(line, 3, &mut args);
-    let mut mem = [0u8; MEMORY];
+    let mut mem = memory_room();
     let m = length_in(line, 4, &mem);
     let mut results = [0xEEu8; 128];
     let r = length_in(line, 5, &results);
@@ -126,7 +122,7 @@ fn run_in(strip: &[u8], args: &[u8], mem: &mut [u8], results: &mut [u8], budget:
 
 // shorten NAME STRIP OUTPUT
 fn shorten(line: &[u8]) {
-    let mut strip = [0u8; STRIP];
+    let mut strip = strip_room();
     let n = bytes_in(line, 2, &mut strip);
     let mut out = [0xEEu8; 64];
     let m = length_in(line, 3, &out);
