@@ -38,6 +38,11 @@ prints-once {u = u} p q =
 pub one-text : (κs : _) (a : _) (e e′ : _) (r r′ : ℕ) → answer.Post κs a r e → answer.Post κs a r′ e′ → take r (now (e .1 .0)) ≡ take r′ (now (e′ .1 .0))
 one-text κs a e e′ r r′ p q = prints-once (p .1) (q .1)
 
+-- 01's number, which C-15 leaves as it is
+pub memory-lent : length (zeros memoryBytes) ≡ 65536
+unfolding zeros
+memory-lent = length-replicate {A = ℕ} memoryBytes 0
+
 pub memory-fits : length (zeros memoryBytes) ≤ memoryLimit
 unfolding zeros
 memory-fits = omega (arith, length-replicate {A = ℕ} memoryBytes 0)

@@ -24,3 +24,4 @@ pub mod Slicing
 pub mod Answering
 pub mod Restoring
 pub mod Surveying
+pub mod Rooms

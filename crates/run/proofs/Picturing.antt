@@ -12,7 +12,7 @@ use Rattle.opcode.specs.Kind.{Kind}
 use Rattle.machine.specs.Value.{Value, kindOf, AllInRange, bytesOf}
 use Rattle.machine.specs.Memory.{part}
 use Rattle.image.specs.Image.{imageBytes, imageOf, placeIn, Shows}
-use Rattle.image.specs.Asked.{sixteenBits}
+use Rattle.image.specs.Asked.{sixteenBits, placeAt}
 use Rattle.image.proofs.Asking.{place-at, shows-exact}
 use Rattle.image.proofs.Laws.{image-long, shown-parts, local-slot, stack-slot, shows-once}
 use Rattle.rules.specs.Header.{Header, locals}
@@ -187,3 +187,12 @@ pictured-exact {s} {h} {mem} {buffer} m b = (λ p. passes (p .0) (p .1), λ p. p
 pub pictured-version : {s : List ℕ} {h : Header} {mem buffer : List ℕ} {c : Config} → bytes mem → bytes buffer → Pictures s h mem buffer c
     → (sixteenBits 3 buffer ≡ 2) × (length (pictureOf c) ≡ 4619)
 pictured-version {c = c} m b p = (pictured-exact m b .0 (c, p) .asked .version, picture-long (p .sound))
+
+-- the depth is that of the whole stack, in sixteen bits
+pub pictured-depth : {s : List ℕ} {h : Header} {mem buffer : List ℕ} {c : Config} → bytes mem → bytes buffer → Pictures s h mem buffer c
+    → sixteenBits 9 buffer ≡ length (wholeStack c)
+pictured-depth {s} {h} {mem} {buffer} {c} m b p =
+    let q = pictured-exact m b .0 (c, p) in
+    let here : c .place ≡ placeAt buffer = sym (place-in (p .sound) buffer (p .rest) (p .bytes)) ∙ place-at buffer (pictured-room p) in
+    let same : q .frames ≡ frames (p .sound) = reached-once (q .reached) (subst (λ (x : ℕ). Reaches s h x (frames (p .sound))) here (p .sound .reached)) in
+    q .asked .depth ∙ ap (λ (fs : List Frame). length (allValues fs)) same ∙ sym (whole-many (p .sound))

@@ -5,6 +5,7 @@ use native.Mathlib.Omega.{arith}
 use borrow.Author.Needs.{needs}
 use lib.ListN.{replicate, length-take}
 use lib.Seq.{length-take-le}
+use Rattle.gevurlat.specs.Program.{memoryBytes}
 use Rattle.gevurlat.proofs.Zeros.{prints-zeros}
 use Rattle.gevurlat.proofs.answer.answer.Statement.{statement}
 use Rattle.gevurlat.proofs.answer.answer.Tie as tie
@@ -37,7 +38,7 @@ returns : tie.Need-returns
 returns c =
     let a = c .before .before .before .before .answer-in in
     let n = c .before .before .before .before .before .before .before .before .result-count in
-    (a .ensures .0, prints-zeros 65536 (16 * n .result) 64 refl (ap (λ (r : ℕ). 16 * r) (n .ensures)) (omega (arith, n .ensures)) (a .ensures .1))
+    (a .ensures .0, prints-zeros memoryBytes (16 * n .result) 64 refl (ap (λ (r : ℕ). 16 * r) (n .ensures)) (omega (arith, n .ensures)) (a .ensures .1))
 
 pub answer-spec : {M : Type 1} → statement M
 answer-spec =
