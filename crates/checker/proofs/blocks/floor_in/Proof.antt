@@ -1,4 +1,5 @@
 -- The highest part of a word.
+use native.Mathlib.Omega.{arith}
 use borrow.Author.Needs.{needs}
 use Rattle.checker.proofs.Words.{word-floor}
 use Rattle.checker.proofs.blocks.floor_in.Statement.{statement}
@@ -8,7 +9,7 @@ cast-result : tie.Need-cast-result
 cast-result c = search needs
 
 returns : tie.Need-returns
-returns c = λ floor type loop dead lt e. word-floor floor type loop dead lt e
+returns c = λ floor type loop dead lt e. omega (arith, word-floor floor type loop dead lt e)
 
 pub floor-in-spec : {M : Type 1} → statement M
 floor-in-spec = tie.close (tie.spec cast-result returns)
