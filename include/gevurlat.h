@@ -151,8 +151,8 @@ uint64_t gevurlat_start(const uint8_t *strip, size_t strip_len,
  * IMAGE, 25: a wrong mark or version; a place at which no instruction of the
  * strip starts, or that stands after a `br`, up to and with the `end` around
  * it; a depth that is not the check's there; or unused bytes that are not zero.
- * The version is 2. An image of version 1 is IMAGE too, or SMALL where the
- * buffer ends with its 1,547 bytes, since 24 is asked first.
+ * The version is 2. An image of version 1 is IMAGE too, or SMALL where
+ * image_len is below 4,619, since 24 is asked first.
  * An image that is not turned away is safe to go on from, whoever wrote it.
  *
  * Steps are those of this slice. What is written is what gevurlat_start writes.
