@@ -6,6 +6,8 @@
 #include <stddef.h>
 #include <stdint.h>
 
+#include "../include/gevurlat.h" /* the doors of the proved one; its lister is a program */
+
 enum code {
     DONE, LONG, SHORT, MARK, VERSION, COUNT, KIND, OPCODE, FLOAT, NUMBER, LANE, ALIGN, LOCAL, OPERAND, DEEP, RESULT, TRAILING, NEST, LABEL,
     ROOM = 20, ARGS, OUT, FORM, SMALL, IMAGE,
@@ -22,6 +24,11 @@ enum { BLOCKS_MOST = 32 };
 /* An image (requests C-14, C-15): "WGS", version, place and depth in 2, 4 and 2 bytes, least byte first; then the locals and the stack. */
 enum { IMAGE_VERSION = 2, PLACE_AT = 5, DEPTH_AT = 9, LOCALS_AT = 11, STACK_AT = LOCALS_AT + SLOT * (PARAMETERS_MOST + LOCALS_MOST),
        IMAGE_BYTES = STACK_AT + SLOT * STACK_MOST };
+
+/* The header for C programs names the same limits. */
+_Static_assert(FILE_MOST == GEVURLAT_STRIP_MOST && MEMORY_MOST == GEVURLAT_MEMORY_MOST && STACK_MOST == GEVURLAT_STACK_MOST
+               && PARAMETERS_MOST == GEVURLAT_PARAMETERS_MOST && RESULTS_MOST == GEVURLAT_RESULTS_MOST && SLOT == GEVURLAT_VALUE_BYTES
+               && BLOCKS_MOST == GEVURLAT_NEST_MOST && IMAGE_BYTES == GEVURLAT_IMAGE_BYTES, "a limit of the header is another");
 
 /* An instruction has a byte at least. In its line a kind takes 5 bytes with the blank, all else less than 128: a name 29, sixteen bytes 64,
    a place 5. */
@@ -52,14 +59,5 @@ uint64_t plain_resume(const uint8_t *strip, size_t strip_len, uint8_t *memory, s
    it answers how many bytes that is. */
 uint64_t plain_list(const uint8_t *strip, size_t strip_len, uint8_t *out, size_t out_len);
 size_t plain_listing(const uint8_t *strip, size_t strip_len, uint8_t out[LISTING_MOST]);
-
-/* The proved ones. The proved lister is a program. */
-uint64_t gevurlat_check(const uint8_t *strip, size_t strip_len);
-uint64_t gevurlat_run(const uint8_t *strip, size_t strip_len, const uint8_t *args, size_t args_len, uint8_t *memory, size_t memory_len,
-                      uint8_t *results, size_t results_len, uint32_t budget);
-uint64_t gevurlat_start(const uint8_t *strip, size_t strip_len, const uint8_t *args, size_t args_len, uint8_t *memory, size_t memory_len,
-                        uint8_t *results, size_t results_len, uint8_t *image, size_t image_len, uint32_t budget);
-uint64_t gevurlat_resume(const uint8_t *strip, size_t strip_len, uint8_t *memory, size_t memory_len, uint8_t *results, size_t results_len,
-                         uint8_t *image, size_t image_len, uint32_t budget);
 
 #endif
