@@ -92,7 +92,7 @@ static void lend(size_t len)
         args[SLOT + i] = 37 * i + 11;
     memory_len = len;
     for (size_t i = 0; i < len; i++)
-        memory[i] = 91 * i + 5;
+        memory[i] = 91 * i + 29 * (i >> 8) + 83 * (i >> 16) + 5;
     memset(results, 0xEE, sizeof results);
 }
 

@@ -19,7 +19,7 @@ static size_t strip_len, args_len, memory_len, results_len;
 
 static void stop(const char *why)
 {
-    fprintf(stderr, "%s: %s %s\n", why, fields[0], fields[1]);
+    fprintf(stderr, "%s: %s %s\n", why, fields[0], fields[1] ? fields[1] : "");
     exit(1);
 }
 

@@ -119,6 +119,32 @@ static void cut(const struct strip *s, const struct lent *before, uint32_t budge
         otherwise("cut", s, before, budget, run, sum);
 }
 
+/* The limits of request C-15, at each and one past it: the memory, the stack, an image's room. */
+static void lend_most(void)
+{
+    static uint8_t memory[MEMORY_MOST + 1], image[IMAGE_BYTES];
+    const struct doors *const sides[] = { &plain, &proved };
+    for (int side = 0; side < 2; side++)
+        for (int more = 0; more < 2; more++) {
+            const struct doors *d = sides[side];
+            const size_t values = STACK_MOST + more, deep = 8 + 2 * STACK_MOST;
+            struct strip s = { { 'W', 'G', 'P', 1, 0, 0, 0, 0 }, 8 };
+            for (size_t i = 0; i < values; i++, s.len += 2)
+                s.bytes[s.len] = 0x41;
+            memset(s.bytes + s.len, 0x1A, values);
+            s.len += values;
+            s.bytes[s.len++] = END;
+            static const uint8_t alone[] = { 'W', 'G', 'P', 1, 0, 0, 0, 0, END };
+            if (d->run(s.bytes, s.len, NULL, 0, NULL, 0, NULL, 0, 9999) != (more ? answer(DEEP, deep, 0) : answer(DONE, 0, 2 * values + 1))
+                || d->run(alone, sizeof alone, NULL, 0, memory, MEMORY_MOST + more, NULL, 0, 9) != (more ? answer(ROOM, 0, 0) : answer(DONE, 0, 1))
+                || d->start(alone, sizeof alone, NULL, 0, NULL, 0, NULL, 0, image, IMAGE_BYTES - more, 9)
+                    != (more ? answer(SMALL, 0, 0) : answer(DONE, 0, 1))) {
+                cut_otherwise++;
+                printf("at the limits, %d past them, the %s doors answer otherwise\n", more, side ? "proved" : "plain");
+            }
+        }
+}
+
 /* Where a length is 0 the pointer may be NULL. */
 static void lend_nothing(void)
 {
@@ -405,6 +431,7 @@ int main(int n, char **words)
         run_official(words[i]);
     printf("official: %lu cases, %lu differ\n", cases, differing);
     lend_nothing();
+    lend_most();
     for (size_t len = FILE_MOST - 2; len <= FILE_MOST + 1; len++)
         run_long(len);
     run_chance(strtoul(words[1], NULL, 10));

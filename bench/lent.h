@@ -68,8 +68,9 @@ static void lend(const struct strip *s, struct lent *x)
     }
     x->results_len = s->len < 8 ? 0 : SLOT * (s->bytes[7] % 5);
     memset(x->results, 0xEE, sizeof x->results);
+    /* No two parts look alike, so that a load from another place is seen. */
     for (size_t i = 0; i < x->memory_len; i++)
-        x->memory[i] = 151 * i + 7;
+        x->memory[i] = 151 * i + 29 * (i >> 8) + 83 * (i >> 16) + 7;
     memset(x->image, 0xEE, sizeof x->image);
     x->image_len = IMAGE_BYTES + below(IMAGE_ROOM - IMAGE_BYTES + 1);
     x->budget = !below(4) ? below(80) : s->len < 8 || s->bytes[3] == 1 ? 1000000 : LOOP_BUDGET;

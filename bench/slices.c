@@ -1,7 +1,8 @@
 /* Holds the plain resume to the plain run, and what it takes for an image to the plain listing.
      slices CASES SEED
    over a few strips and CASES made by chance, half of them with blocks: every budget up to the end, or of a long run every one in a part
-   of it, every pair of budgets and some triples leave what one run leaves; at each place every depth; images damaged by chance. */
+   of it, every pair of budgets and some triples leave what one run leaves; at each place every depth, of a deep stack some; images
+   damaged by chance. */
 #include <stdio.h>
 #include <stdlib.h>
 #include <string.h>
@@ -152,7 +153,7 @@ static int unused_zero(const uint8_t *slots, const uint8_t *kinds, size_t count,
 /* Mark and version. */
 static const uint8_t front[] = { 0x57, 0x47, 0x53, IMAGE_VERSION % 256, IMAGE_VERSION / 256 };
 
-/* As request C-14 says it of the listing. */
+/* As requests C-14 and C-15 say it of the listing. */
 static int is_image(const struct strip *s, const uint8_t *image)
 {
     const size_t place = image[5] | image[6] << 8 | image[7] << 16 | (size_t)image[8] << 24, depth = image[9] | image[10] << 8;
@@ -262,7 +263,7 @@ static void tested(const struct strip *s, struct lent *x)
     some_damage(s, most);
 }
 
-/* One with blocks and, for sure, a full stack. */
+/* One with blocks over a stack that is full, or nearly. */
 static void make_full(struct strip *s, size_t memory_len)
 {
     begin_blocks(memory_len, 0);

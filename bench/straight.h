@@ -146,7 +146,7 @@ static uint32_t some_offset(void)
     return below(8) ? below(MEMORY_MOST) : (uint32_t)chance();
 }
 
-/* The address of an access is put on the stack. Answers the offset: small, or at times most of the way. */
+/* The address of an access is put on the stack. Answers the offset: small, or at times any part of the way. */
 static uint32_t put_address(void)
 {
     const uint32_t address = some_address(), by = address < MEMORY_MOST && !below(4) ? below(address + 1) : 0;

@@ -1,40 +1,95 @@
--- 02'S NUMBERS (C-15) FOR WHAT IS LENT: 20 is answered exactly where the memory has more than 1,048,576 bytes, and an image has room from 4,619 on.
+-- C-15 IN 02'S OWN NUMBERS. Of a strip that keeps every rule 20 is answered exactly where the memory has more than 1,048,576 bytes; 14 says that an
+-- instruction leaves more than 256 known values, and nowhere in a strip that keeps every rule are there more; an image has room from 4,619 bytes on.
 use Prim.Native.Nat.{ℕ, _≤_, _<_}
-use mathlib.Core.Path.{refl}
+use mathlib.Core.Path.{_≡_, subst}
 use mathlib.Core.List.{List}
 use mathlib.Core.Logic.{_↔_, inl, inr}
 use mathlib.Core.Option.{Option, some}
 use native.Mathlib.Omega.{arith}
 use lib.ListN.{length}
-use Rattle.card.specs.Card.{ROOM}
-use Rattle.rules.specs.Header.{Header}
-use Rattle.run.specs.Call.{Fails}
-use Rattle.run.specs.Run.{Roomy, runAsks}
-use Rattle.run.specs.Resume.{resumeAsks}
+use Rattle.card.specs.Card.{ROOM, DEEP}
+use Rattle.leb128.specs.Bytes.{bytes}
+use Rattle.limits.specs.Limits.{memoryLimit}
+use Rattle.opcode.specs.Table.{Code}
+use Rattle.instr.specs.declared.Instr.{Instr}
+use Rattle.rules.specs.Header.{Header, locals}
+use Rattle.rules.specs.Typing.{Frame, allValues, Types}
+use Rattle.rules.specs.Strip.{Reaches, Valid}
+use Rattle.rules.specs.Breach.{At, Breach, deep}
+use Rattle.rules.proofs.Onward.{reached-within}
+use Rattle.rules.proofs.Verdicts.{valid-no-breach}
+use Rattle.standard.specs.Standard.{Config}
+use Rattle.run.specs.Meter.{Left}
+use Rattle.run.specs.Call.{Fails, AllWell, Asks, breaks, fails, Calls, refused, metered}
+use Rattle.run.specs.Run.{Roomy, runAsks, Runs}
+use Rattle.run.specs.Resume.{resumeAsks, Resumes}
+use Rattle.run.specs.Told.{Told, told-done, told-trap, told-budget, Called, turned-away, told, Orderly}
+use Rattle.run.proofs.Promises.{call-told, run-call, resume-call}
 
--- of a run
-pub run-room : (args mem out : List ℕ) (img : Option (List ℕ)) (h : Header) → Fails (runAsks args mem out img h) ROOM ↔ (1048576 < length mem)
-run-room args mem out img h = (past, λ l. inl (λ k. omega (arith, k, l), refl))
+-- ---- 20
+
+never-room : {s : List ℕ} {h : Header} {b : Config} {out : List ℕ} {img : Option (List ℕ)} {budget : ℕ} {x : Left} → Told s h b out img budget x → x .answer .code ≡ ROOM → ⊥
+never-room (told-done k l e f g w) q = omega (arith, q)
+never-room (told-trap k l e f g) q = omega (arith, q)
+never-room (told-budget e) q = omega (arith, q)
+
+-- of any call that asks for the memory first, and for nothing else with that code
+module _ {s mem out : List ℕ} {img : Option (List ℕ)} {asks : Asks} {Starts : Header → Config → Type 0} {codes : List ℕ} (v : Valid s)
+    (call : Orderly s mem out img asks Starts codes) (first : (h : Header) (c : ℕ) → Fails (asks h) c → memoryLimit < length mem → c ≡ ROOM)
+    (only : (h : Header) → Fails (asks h) ROOM → length mem ≤ memoryLimit → ⊥) (well : (h : Header) → AllWell (asks h) → length mem ≤ memoryLimit) where
+  past : {budget : ℕ} {x : Left} → Called s mem out img budget asks Starts x → x .answer .code ≡ ROOM → 1048576 < length mem
+  past (turned-away (breaks b)) q = absurd (valid-no-breach v b)
+  past (turned-away (fails w f)) q = omega (arith, only (w .header) (subst (Fails (asks (w .header))) q f))
+  past (told w c a e t) q = absurd (never-room t q)
+
+  over : {budget : ℕ} {x : Left} → Calls s mem out img budget asks Starts x → 1048576 < length mem → x .answer .code ≡ ROOM
+  over (refused (breaks b)) l = absurd (valid-no-breach v b)
+  over (refused (fails {c} w f)) l = first (w .header) c f l
+  over (metered w c a e) l = absurd (let never : ⊥ = omega (arith, well (w .header) a, l) in never)
+
+  room-exact : {budget : ℕ} {x : Left} → Calls s mem out img budget asks Starts x → (x .answer .code ≡ ROOM) ↔ (1048576 < length mem)
+  room-exact r = (past (call-told call r), over r)
+
+pub run-room : {s args mem out : List ℕ} {img : Option (List ℕ)} {budget : ℕ} {x : Left} → Valid s → bytes mem → Runs s args mem out img budget x
+    → (x .answer .code ≡ ROOM) ↔ (1048576 < length mem)
+run-room {s} {args} {mem} {out} {img} v m = room-exact v (run-call img m) first only (λ h a. a .0)
   where
-    past : Fails (runAsks args mem out img h) ROOM → 1048576 < length mem
-    past (inl f) = omega (arith, f .0)
-    past (inr (_, inl f)) = omega (arith, f .1)
-    past (inr (_, inr (_, inl f))) = omega (arith, f .1)
-    past (inr (_, inr (_, inr (_, inl f)))) = omega (arith, f .1)
-    past (inr (_, inr (_, inr (_, inr (_, inl f))))) = omega (arith, f .1)
-    past (inr (_, inr (_, inr (_, inr (_, inr f))))) = absurd (f .1)
+    first : (h : Header) (c : ℕ) → Fails (runAsks args mem out img h) c → memoryLimit < length mem → c ≡ ROOM
+    first h c (inl f) l = f .1
+    first h c (inr f) l = absurd (let never : ⊥ = omega (arith, f .0, l) in never)
 
--- of a resume
-pub resume-room : (s mem out buffer : List ℕ) (h : Header) → Fails (resumeAsks s mem out buffer h) ROOM ↔ (1048576 < length mem)
-resume-room s mem out buffer h = (past, λ l. inl (λ k. omega (arith, k, l), refl))
+    only : (h : Header) → Fails (runAsks args mem out img h) ROOM → length mem ≤ memoryLimit → ⊥
+    only h (inl f) l = f .0 l
+    only h (inr (_, inl f)) l = omega (arith, f .1)
+    only h (inr (_, inr (_, inl f))) l = omega (arith, f .1)
+    only h (inr (_, inr (_, inr (_, inl f)))) l = omega (arith, f .1)
+    only h (inr (_, inr (_, inr (_, inr (_, inl f))))) l = omega (arith, f .1)
+    only h (inr (_, inr (_, inr (_, inr (_, inr f))))) l = f .1
+
+pub resume-room : {s mem out buffer : List ℕ} {budget : ℕ} {x : Left} → Valid s → Resumes s mem out buffer budget x → (x .answer .code ≡ ROOM) ↔ (1048576 < length mem)
+resume-room {s} {mem} {out} {buffer} v = room-exact v resume-call first only (λ h a. a .0)
   where
-    past : Fails (resumeAsks s mem out buffer h) ROOM → 1048576 < length mem
-    past (inl f) = omega (arith, f .0)
-    past (inr (_, inl f)) = omega (arith, f .1)
-    past (inr (_, inr (_, inl f))) = omega (arith, f .1)
-    past (inr (_, inr (_, inr (_, inl f)))) = omega (arith, f .1)
-    past (inr (_, inr (_, inr (_, inr f)))) = absurd (f .1)
+    first : (h : Header) (c : ℕ) → Fails (resumeAsks s mem out buffer h) c → memoryLimit < length mem → c ≡ ROOM
+    first h c (inl f) l = f .1
+    first h c (inr f) l = absurd (let never : ⊥ = omega (arith, f .0, l) in never)
 
--- of an image
+    only : (h : Header) → Fails (resumeAsks s mem out buffer h) ROOM → length mem ≤ memoryLimit → ⊥
+    only h (inl f) l = f .0 l
+    only h (inr (_, inl f)) l = omega (arith, f .1)
+    only h (inr (_, inr (_, inl f))) l = omega (arith, f .1)
+    only h (inr (_, inr (_, inr (_, inl f)))) l = omega (arith, f .1)
+    only h (inr (_, inr (_, inr (_, inr f)))) l = f .1
+
+-- ---- 14
+
+pub deep-many : {s : List ℕ} {p : ℕ} → Breach s DEEP p
+    → (h : Header) × (fs fs′ : List Frame) × (i : Instr) × (c : Code) × At s h p fs i c × Types (locals h) i c fs fs′ × (256 < length (allValues fs′))
+deep-many (deep {h} {p} {fs} {fs′} {i} {c} a t l) = (h, fs, fs′, i, c, a, t, l)
+
+pub reached-few : {s : List ℕ} {h : Header} {p : ℕ} {fs : List Frame} → Reaches s h p fs → length (allValues fs) ≤ 256
+reached-few r = reached-within r .values
+
+-- ---- 24
+
 pub image-room : (buffer : List ℕ) → Roomy (some buffer) ↔ (4619 ≤ length buffer)
 image-room buffer = (λ l. l, λ l. l)

@@ -13,10 +13,12 @@ use cases::strip_room;
 use libc::STDOUT_FILENO;
 
 // Every listing that is to be printed has room here; one that comes to 256 values has over a hundred thousand bytes.
-fn listing_room() -> [u8; 262144]
+const LISTING: usize = 262144;
+
+fn listing_room() -> [u8; LISTING]
     ensures { λ r. ⌜ 262144 ≡ length r ⌝ }
 {
-    [0xEE; 262144]
+    [0xEE; LISTING]
 }
 
 // list NAME STRIP OUTPUT OVER: the line ends with `touched` if a byte beyond the listing is not as it was; then the listing's own lines, but for the

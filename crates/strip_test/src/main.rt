@@ -1,8 +1,8 @@
 // Strips checked, run, rewritten and listed, as the lines of data/cases.txt say. One line each: the name, of a run its budget, then code, place and
 // steps (of a rewriting or a listing the length); after them the results and each part of the memory that has changed, or the output; the text of a
 // listing stands in the lines below. stdout was worked out by bench/strip_cases, a check, a run, a rewriter and a lister in C that were written from
-// documents 01, 02 and 002 and Core's table of opcodes with no use of this code, before this was first run. What the cases older than request C-15
-// answer had been worked out before, by others in another language, and is the same but where a limit moved.
+// documents 01, 02 and 002 and Core's table of opcodes with no use of this code, that of request C-15's cases before they were first run here. What
+// the older cases answer had been worked out before, by others in another language, and is the same but where a limit moved.
 mod list;
 
 use cases::answer;
@@ -124,7 +124,7 @@ fn run_in(strip: &[u8], args: &[u8], mem: &mut [u8], results: &mut [u8], budget:
 fn shorten(line: &[u8]) {
     let mut strip = strip_room();
     let n = bytes_in(line, 2, &mut strip);
-    let mut out = [0xEEu8; 64];
+    let mut out = [0xEEu8; 1024];
     let m = length_in(line, 3, &out);
     name(line);
     shorten_in(&strip[..n], &mut out[..m]);
