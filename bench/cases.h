@@ -37,6 +37,16 @@ static int split(char *line)
     return field_count && *fields[0] != '#';
 }
 
+/* The next case of standard input; answers whether there is one. */
+static int next_case(void)
+{
+    static char line[LINE_MOST];
+    while (fgets(line, sizeof line, stdin))
+        if (split(line))
+            return 1;
+    return 0;
+}
+
 static const char *field(size_t k)
 {
     if (field_count <= k)

@@ -212,10 +212,7 @@ static void every_byte(void)
 
 int main(void)
 {
-    static char line[LINE_MOST];
-    while (fgets(line, sizeof line, stdin)) {
-        if (!split(line))
-            continue;
+    while (next_case())
         switch (*fields[0]) {
         case 's': slices(); break;
         case 'c': cut(); break;
@@ -224,6 +221,5 @@ int main(void)
         case 'b': every_byte(); break;
         default: stop("no such case");
         }
-    }
     return 0;
 }

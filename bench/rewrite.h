@@ -63,13 +63,11 @@ static void shorten_instruction(struct shortened *t, const struct instruction *i
         shorten_signed(t, (int64_t)in->number);
         break;
     case MEMARG:
-        shorten_unsigned(t, in->exponent);
-        shorten_unsigned(t, in->index);
-        break;
     case MEMARG_LANE:
         shorten_unsigned(t, in->exponent);
         shorten_unsigned(t, in->index);
-        keep_byte(t, in->lane);
+        if (rows[in->op].immediates == MEMARG_LANE)
+            keep_byte(t, in->lane);
         break;
     case LANE_INDEX:
         keep_byte(t, in->lane);

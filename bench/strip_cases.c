@@ -109,10 +109,7 @@ static void rooms(void)
 
 int main(void)
 {
-    static char line[LINE_MOST];
-    while (fgets(line, sizeof line, stdin)) {
-        if (!split(line))
-            continue;
+    while (next_case())
         switch (*fields[0]) {
         case 'c': check(); break;
         case 'r': fields[0][1] == 'o' ? rooms() : run(); break;
@@ -121,6 +118,5 @@ int main(void)
         case 'l': list(); break;
         default: stop("no such case");
         }
-    }
     return 0;
 }
