@@ -1,4 +1,5 @@
 // The inspector's card: one name for each code of an answer, and the answer (document 01, "Numbers on the inspector's card").
+#![tactic(auto)]
 
 pub const DONE: u8 = 0;
 
@@ -55,7 +56,7 @@ pub const TRAP: u8 = 30;
 pub const BUDGET: u8 = 31;
 
 // What is answered of a strip: a code, a place in it, and the instructions completed.
-#[derive(Drop)]
+#[derive(Clone, Copy)]
 pub struct Answer {
     pub code: u8,
     pub place: usize,
