@@ -1,4 +1,5 @@
 // The limits of a strip, each under its name (document 01, "The strip file", "Values and shapes", "Instructions"; document 02, C-13, C-15).
+#![tactic(auto)]
 
 // A file's bytes.
 pub const FILE: usize = 65536;
