@@ -2,7 +2,7 @@
 // used where a contract fixes it: LANES by the lane index (lane), WIDTH in shift, LEAST in wrapping, LARGEST in sign, ALL in compare.
 
 // A lane of 8 bits.
-#[derive(Drop)]
+#[derive(Clone, Copy)]
 pub struct I8x16 {
     pub bits: u8,
 }
@@ -21,7 +21,7 @@ impl I8x16 {
 }
 
 // A lane of 16 bits.
-#[derive(Drop)]
+#[derive(Clone, Copy)]
 pub struct I16x8 {
     pub bits: u16,
 }
@@ -40,7 +40,7 @@ impl I16x8 {
 }
 
 // A lane of 32 bits.
-#[derive(Drop)]
+#[derive(Clone, Copy)]
 pub struct I32x4 {
     pub bits: u32,
 }
@@ -59,7 +59,7 @@ impl I32x4 {
 }
 
 // A lane of 64 bits.
-#[derive(Drop)]
+#[derive(Clone, Copy)]
 pub struct I64x2 {
     pub bits: u64,
 }

@@ -1,5 +1,5 @@
 -- The two's complement reading, over the width w: what the code computes for it and for its inverse.
-use Rattle.std.proofs.Common.{◌≡◌, ℕ, zero, suc, ◌+◌, ◌-◌, ◌*◌, ◌%◌, ◌^◌, ◌<◌, ◌≤◌, Bool, true, false, cond, T, ltb, ◌⊎◌, ℤ, pos, negsuc, ◌+ℤ◌, ◌-ℤ◌, ◌*ℤ◌, neg_ℤ, nat_abs, sym, refl, ap, ◌∙◌, subst, ap₂, subst₂, inl, inr, zero-le, le_trans, le_refl, lt_of_le_of_lt, le_of_lt, mod-eq_of_lt, mul-le-mul, eq-or-lt_of_le, pow-suc, zero-add, arith, ltb→lt, pow_pos, pow_mono, pow-add, w8, w16, w32, w64, Fits, SFits, to_z, of_z, ltb-false, ltb-true, le-ltb, lt-ltb}
+use Rattle.std.proofs.Common.{◌≡◌, ℕ, zero, suc, ◌+◌, ◌-◌, ◌*◌, ◌%◌, ◌^◌, ◌<◌, ◌≤◌, Bool, true, false, cond, T, ltb, ◌⊎◌, ℤ, pos, negsuc, ◌+ℤ◌, ◌-ℤ◌, ◌*ℤ◌, neg_ℤ, nat_abs, sym, refl, ap, ◌∙◌, subst, ap₂, subst₂, inl, inr, zero-le, le_trans, le_refl, lt_of_le_of_lt, le_of_lt, mod-eq_of_lt, mul-le-mul, eq-or-lt_of_le, pow-suc, zero-add, arith, ltb→lt, pow_pos, pow_mono, pow-add, w8, w16, w32, w64, Fits, SFits, to_z, of_z, ltb-false, ltb-true, le-ltb}
 use native.Mathlib.Nat.{sub-zero, mod_self, le-suc}
 use lib.Pow.{pow-lt}
 use lib.IntN.{sub_ℕ}

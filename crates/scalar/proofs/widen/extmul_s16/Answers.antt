@@ -1,0 +1,12 @@
+-- The bits of the exact product.
+use Rattle.std.proofs.Common.{sym, ap, ◌∙◌, w32, of_z}
+use Rattle.scalar.specs.Scalar.{wrap, iextmul}
+use Rattle.scalar.proofs.Laws.Twos.{crossed}
+use Rattle.scalar.proofs.Laws.Wrap.{wrap-held}
+use Rattle.scalar.proofs.widen.extmul_s16.Goals as goal
+
+pub returns : goal.returns
+unfolding iextmul
+returns c =
+    let s = c.product_s16 in
+    c.bits32.ensures ∙ ap (of_z w32) (crossed w32 s.result s.type_inv) ∙ sym (wrap-held w32 s.result s.type_inv) ∙ ap (wrap w32) s.ensures
