@@ -1,4 +1,6 @@
 // The lines of a file of cases, what they lend, and what the test programs print of each.
+#![tactic(auto)]
+
 mod reading;
 mod rooms;
 mod showing;

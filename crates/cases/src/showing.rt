@@ -1,6 +1,6 @@
 // What is printed: words with a blank between them.
 use crate::reading::{field, find};
-use libc::STDOUT_FILENO;
+use hexadecimal::STDOUT_FILENO;
 
 // The line's second word.
 pub fn name(line: &[u8]) {
