@@ -51,11 +51,11 @@ set-sets (v ∷ vs) out i j b h =
     set-sets vs (set out j v) i (suc j) b (omega arith) ∙ ap (λ (l : List ℕ). sets l (suc j) vs) (set_comm out j i v b (λ e. omega arith))
 
 -- the byte before a text that was written, and none before one that was not
-pub before : {xs out out' : List ℕ} {at n : ℕ} (b : ℕ) → Appends xs out (at + 1) n out' → (n ≡ at + 1 → ⊥) → Appends (b ∷ xs) out at n (set out' at b)
+pub before : {xs out : List ℕ} {at : ℕ} {out' : List ℕ} {n : ℕ} (b : ℕ) → Appends xs out (at + 1) n out' → (n ≡ at + 1 → ⊥) → Appends (b ∷ xs) out at n (set out' at b)
 before {xs} {out} {at = at} b (fits h) f =
     with-room (omega arith) (omega arith) (set-sets xs out at (at + 1) b (omega arith) ∙ ap (λ (k : ℕ). sets (set out at b) k xs) (omega arith))
 before b (no_room h) f = absurd (f refl)
 
-pub none_before : {xs out out' : List ℕ} {at n : ℕ} (b : ℕ) → 1 ≤ length xs → Appends xs out (at + 1) n out' → n ≡ at + 1 → Appends (b ∷ xs) out at at out'
+pub none_before : {xs out : List ℕ} {at : ℕ} {out' : List ℕ} {n : ℕ} (b : ℕ) → 1 ≤ length xs → Appends xs out (at + 1) n out' → n ≡ at + 1 → Appends (b ∷ xs) out at at out'
 none_before b some (fits h) e = absurd (let none : ⊥ = omega arith in none)
 none_before b some (no_room h) e = no_room (omega arith)

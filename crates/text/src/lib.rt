@@ -1,5 +1,7 @@
 // Text in ASCII that grows in a buffer. Each function writes at place `at` of `out` and answers the place after what it wrote; without room it
 // writes nothing and answers `at`.
+#![tactic(auto)]
+
 ghost use Rattle.std.specs.Prelude.{[], ◌∷◌};
 ghost use Rattle.text.specs.Append.{Appends};
 ghost use Rattle.text.specs.Decimal.{spelled};
@@ -24,7 +26,7 @@ pub fn put(bytes: &[u8], out: &mut [u8], at: usize) -> usize
     if out.len() - at < bytes.len() {
         return at;
     }
-    at + bytes::copy(bytes, &mut out[at..])
+    at + buffer::copy(bytes, &mut out[at..])
 }
 
 pub fn decimal(n: u64, out: &mut [u8], at: usize) -> usize
