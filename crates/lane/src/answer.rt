@@ -5,7 +5,7 @@ ghost use Rattle.lane.specs.Answer.{scalar_if, vector_if};
 use crate::V128;
 
 // A lane as an i32 or an i64, or a refusal: its code, place 0 and the value 0.
-#[derive(Drop)]
+#[derive(Clone, Copy)]
 pub struct LaneAnswer {
     pub code: u8,
     pub place: usize,
@@ -13,7 +13,7 @@ pub struct LaneAnswer {
 }
 
 // A vector, or a refusal: its code, place 0 and zeros.
-#[derive(Drop)]
+#[derive(Clone, Copy)]
 pub struct VectorAnswer {
     pub code: u8,
     pub place: usize,

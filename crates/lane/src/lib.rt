@@ -1,4 +1,6 @@
 // The operations on v128 values, by themselves: a module for each shape, named as in Core. What is done to one lane is `scalar`.
+#![tactic(auto)]
+
 pub mod answer;
 pub mod i16x8;
 pub mod i32x4;
@@ -13,7 +15,7 @@ mod whole;
 pub use answer::{LaneAnswer, VectorAnswer};
 
 // A value of kind v128: its sixteen bytes, byte 0 first.
-#[derive(Drop)]
+#[derive(Clone, Copy)]
 pub struct V128 {
     pub bytes: [u8; 16],
 }

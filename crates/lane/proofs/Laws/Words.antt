@@ -9,7 +9,7 @@ use lib.Arith.{lt-one}
 use lib.Dec.{lit<}
 use lib.Bits.{bit_and, and_zero_r, and_block, and_mod, and_le_r}
 use lib.Pow.{pow_pos, pow_mono, split, high, low, field, shr-shr, shr_lt, mod-mod-pow}
-use mir.Syntax.{Width, w8, w16, w32, w64}
+use mir.Syntax.{Width, w8, w16, w32, w64, w128}
 use mir.Val.{bits}
 use Rattle.operation.specs.Vector.{number, lane, build, Sixteen}
 use Rattle.operation.proofs.Laws.Number.{field_of, field-low}
@@ -138,6 +138,7 @@ word_lane w8 v c n l = within 8 8 (number v) n c l
 word_lane w16 v c n l = within 16 4 (number v) n c l
 word_lane w32 v c n l = within 32 2 (number v) n c l
 word_lane w64 v c n l = within 64 1 (number v) n c l
+word_lane w128 v c n l = elim l [ ]
 
 -- two words, each byte of which f made of that byte of a, are the vector of which f made each byte
 pub words-bytewise : (f : ℕ → ℕ) (a v : List ℕ) → Stays 8 f → Sixteen v → v ≡ build 8 2 (λ c. fieldwise 8 8 f (lane w64 a c))

@@ -1,0 +1,21 @@
+use mathlib.Core.Path.{refl, ◌∙◌, ap}
+use native.Mathlib.Omega.{arith}
+use mir.Syntax.{w8, w16}
+use Rattle.operation.proofs.Laws.Vectors.{sixteen-zeros}
+use Rattle.lane.specs.Inner.Scalars.{narrowed}
+use Rattle.lane.proofs.Laws.Build.{built-none, built-more, built-all}
+use Rattle.lane.proofs.lanes.narrowing.narrow8.Goals as goal
+
+pub loop-i-init : goal.loop-i-init
+loop-i-init c = (omega arith, built-none 1 _ _ sixteen-zeros)
+
+pub loop-i-preserved : goal.loop-i-preserved
+loop-i-preserved c =
+    let l = c.loop-i in (
+      omega arith,
+      built-more 1 l.i _ l.r.bytes _ c.narrowed8.result (omega arith) l.invariant.1
+          (c.narrowed8.ensures ∙ ap (narrowed w16 w8 c.args.op) c.either16.ensures) c.put8.ensures.sixteen c.put8.ensures.same,
+    )
+
+pub returns : goal.returns
+returns c = built-all 1 _ 16 _ _ c.loop-i.invariant.0 (omega arith) refl c.loop-i.invariant.1

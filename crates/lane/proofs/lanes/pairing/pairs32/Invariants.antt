@@ -1,0 +1,13 @@
+-- The first i lanes are done.
+use Prim.Native.Nat.{◌≤◌, ◌-◌, ◌+◌, ◌*◌}
+use mir.Syntax.{w16, w32}
+use Rattle.operation.specs.Vector.{lane}
+use Rattle.lane.specs.Inner.Scalars.{paired}
+use Rattle.lane.proofs.Laws.Build.{Built}
+use Rattle.lane.proofs.lanes.pairing.pairs32.Given as goal
+
+abbrev pub invariant-loop-i : goal.invariant-loop-i
+invariant-loop-i l = (l.i ≤ 4) × Built 4 l.i (λ n. paired w16 w32 l.op (lane w16 l.a.bytes (2 * n)) (lane w16 l.a.bytes (2 * n + 1))) l.r.bytes
+
+abbrev pub decreases-loop-i : goal.decreases-loop-i
+decreases-loop-i l = 4 - l.i

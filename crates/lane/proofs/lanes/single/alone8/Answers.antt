@@ -1,0 +1,16 @@
+-- A lane of zeros is zero.
+use mathlib.Core.Path.{◌∙◌, ap}
+use mathlib.Core.Bool.{cond}
+use lib.Dec.{eqb}
+use lib.ListN.{replicate}
+use mir.Syntax.{w8}
+use Rattle.operation.specs.Vector.{lane}
+use Rattle.operation.proofs.Laws.Build.{build-same}
+use Rattle.operation.proofs.Laws.Lane.{lane-zeros}
+use Rattle.lane.proofs.lanes.single.alone8.Goals as goal
+
+pub returns : goal.returns
+returns c =
+    let x = c.args.x in
+    c.with8.ensures
+    ∙ build-same 1 16 (λ n. cond (eqb n 0) x (lane w8 (replicate 16 0) n)) (λ n. cond (eqb n 0) x 0) (λ n h. ap (cond (eqb n 0) x) (lane-zeros w8 n))

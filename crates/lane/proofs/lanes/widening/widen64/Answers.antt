@@ -1,0 +1,22 @@
+use mathlib.Core.Path.{refl, ◌∙◌, ap₂}
+use native.Mathlib.Omega.{arith}
+use mir.Syntax.{w32, w64}
+use Rattle.operation.proofs.Laws.Vectors.{sixteen-zeros}
+use Rattle.lane.specs.Inner.Scalars.{widened}
+use Rattle.lane.proofs.Laws.Build.{built-none, built-more, built-all}
+use Rattle.lane.proofs.lanes.widening.widen64.Goals as goal
+
+pub loop-i-init : goal.loop-i-init
+loop-i-init c = (omega arith, built-none 8 _ _ sixteen-zeros)
+
+pub loop-i-preserved : goal.loop-i-preserved
+loop-i-preserved c =
+    let l = c.loop-i in (
+      omega arith,
+      built-more 8 l.i _ l.r.bytes _ c.widened64.result (omega arith) l.invariant.1
+          (c.widened64.ensures ∙ ap₂ (widened w32 w64 c.args.op) c.get32.ensures c.get32-in-loop-i.ensures)
+          c.put64.ensures.sixteen c.put64.ensures.same,
+    )
+
+pub returns : goal.returns
+returns c = built-all 8 _ 2 _ _ c.loop-i.invariant.0 (omega arith) refl c.loop-i.invariant.1
