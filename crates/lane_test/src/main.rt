@@ -1,18 +1,25 @@
 // Runs every operation of lane on the cases of data/cases.txt. Prints for each its name, how many cases it has and how many
 // of them failed, and last the same of all.
+#![tactic(auto)]
+
 mod apply;
 mod text;
 mod value;
 
 use apply::apply;
-use libc::STDOUT_FILENO;
+use input::Input;
+use std::fs::File;
+use std::io::{Error, ErrorKind};
 use text::{byte_at, next_line, value_at};
 use value::same;
+
+// Standard output's number, as POSIX has it.
+const STDOUT_FILENO: i32 = 1;
 
 // The length of a case's line: code, index, three arguments and the value answered.
 const CASE: usize = 137;
 
-#[derive(Drop)]
+#[derive(Clone, Copy)]
 struct Count {
     cases: u64,
     failures: u64,
@@ -73,7 +80,7 @@ fn begin(line: &[u8]) -> u8 {
 }
 
 // After a line: the operation at hand, the count of its cases and that of all.
-#[derive(Drop)]
+#[derive(Clone, Copy)]
 struct Tally {
     op: u8,
     own: Count,
@@ -131,15 +138,12 @@ fn run(s: &[u8]) {
     print_count(t.all);
 }
 
-fn main() {
-    let path = b"cases.txt";
-    let fd = os::open_read(path);
-    if fd < 0 {
-        os::fail(path);
-        return;
-    }
+fn main(rt: HostRuntime) -> std::io::Result<()> {
+    let mut file = File::open(&rt, "cases.txt")?;
     let mut text = [0u8; 262144];
-    let n = io::read_full(fd, &mut text);
-    libc::close(fd);
+    let Input::Bytes(n) = input::read_all(&mut file, &mut text) else {
+        return Err(Error::new(ErrorKind::Other, "cases.txt cannot be read"));
+    };
     run(&text[..n]);
+    Ok(())
 }
