@@ -37,10 +37,10 @@ begun w [] rest e l = refl
 begun (u_last {n = n} h g) (b ∷ bs) rest e l = absurd (one_left n b bs rest e l)
 begun (s_low {n = n} h g) (b ∷ bs) rest e l = absurd (one_left n b bs rest e l)
 begun (s_high {n = n} h g k q) (b ∷ bs) rest e l = absurd (one_left n b bs rest e l)
-begun (more {sign = sign} {N = N} {n = n} {bs = cs} h u g w q) (b ∷ bs) rest e l =
+begun {N = N} (more {sign = sign} {n = n} {bs = cs} h u g w q) (b ∷ bs) rest e l =
     let head : n ≡ b = cc in
     let tail : cs ≡ bs ++ rest = cc in
-    more-step sign N b bs (rw head at h) g ∙ ap (before b) (begun w bs rest tail l)
+    more-step sign N b bs (rw head at h) g ∙ ap (before b) (begun {N = N - 7} w bs rest tail l)
 
 -- what a finding says of the bytes
 abbrev pub Met : Bool → ℕ → List ℕ → Read → Type 0

@@ -5,7 +5,7 @@ ghost use Rattle.leb128.specs.Promise.{ReadsNumber};
 ghost use Rattle.leb128.specs.Inner.Room.{width_of, allowed_in, extended_to};
 
 // What stands at a place: a number, as its bits, and how many bytes it takes; or why there is none.
-#[derive(Drop)]
+#[derive(Clone, Copy)]
 pub enum Leb {
     Val(u64, usize),
     Short,

@@ -6,7 +6,7 @@ ghost use Rattle.leb128.specs.Promise.{WritesNumber, CountsBytes};
 ghost use Rattle.leb128.specs.Inner.Room.{width_of, int, is_negative, magnitude_of};
 
 // The place after the number; or there is too little room for it.
-#[derive(Drop)]
+#[derive(Clone, Copy)]
 pub enum Wrote {
     To(usize),
     Small,

@@ -1,0 +1,12 @@
+-- The reading loop keeps `Reading`; each way out of it is one answer of `number_at`.
+use Prim.Native.Nat.{◌-◌}
+use lib.ListN.{length}
+use Rattle.leb128.specs.Inner.Room.{width_of}
+use Rattle.leb128.proofs.ReadLoop.{Reading}
+use Rattle.leb128.proofs.read.number.Given as goal
+
+abbrev pub invariant-loop-i : goal.invariant-loop-i
+invariant-loop-i l = Reading l.s l.at l.signed (width_of l.top) l.room l.scale l.value l.i
+
+abbrev pub decreases-loop-i : goal.decreases-loop-i
+decreases-loop-i l = length l.s - l.i
