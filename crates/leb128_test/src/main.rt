@@ -1,6 +1,8 @@
 // Numbers read and written; stdout has what document 01 says of each, worked out by hand.
+#![tactic(auto)]
+
+use hexadecimal::STDOUT_FILENO;
 use leb128::{Leb, Wrote};
-use libc::STDOUT_FILENO;
 
 fn main() {
     u32_whole();
