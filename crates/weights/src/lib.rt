@@ -1,1 +1,2 @@
 // Document 01's test weights that are marked P. A statement and its proof only.
+#![tactic(auto)]
