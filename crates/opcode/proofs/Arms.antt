@@ -7,7 +7,7 @@ use mathlib.Core.Logic.{inl, inr, ⊎_elim}
 use Prim.Native.Nat.{ℕ, ◌≤◌}
 use lib.Dec.{T, eqb, eqb→eq}
 use lib.ListN.{get_or}
-use mir.Syntax.{Body, skip, seq, assign, block, loop, cond, switch, exit, return, call, Arms, arm, default, no_default}
+use mir.Syntax.{Body, skip, unreachable, seq, assign, block, loop, cond, switch, exit, return, call, call_v, lend_static, Arms, arm, default, no_default}
 use mir.Val.{has_key}
 use mir.Facts.{and_yes, or_yes}
 use types.Run.{OneOf, hit}
@@ -31,6 +31,9 @@ arms (cond c b b') = []
 arms (exit n) = []
 arms return = []
 arms (call g cs p) = []
+arms (call_v _ _ _ _) = []
+arms (lend_static _ _ _) = []
+arms unreachable = []
 
 abbrev pub keys : Body → ℕ → List ℕ
 keys b i = get_or (arms b) i []

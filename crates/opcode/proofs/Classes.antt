@@ -16,7 +16,6 @@ use Rattle.opcode.specs.Table.{Code, plain, control, vector, Row, carried, float
 use Rattle.opcode.specs.Immediate.{Immediates, nothing, index, block_type, word, long, memory, memory_lane, lane_index, sixteen_bytes, sixteen_lanes}
 use Rattle.opcode.specs.Immediate.{immediates, moved, lane_count, moved_by, lanes_of}
 use Rattle.opcode.specs.Number.{class_number, CLASS_FLOAT, CLASS_UNASSIGNED, class_of}
-use Rattle.opcode.proofs.Every.{below-or-past}
 
 abbrev class_at : ℕ → Immediates
 class_at n = get_or (nothing ∷ index ∷ word ∷ long ∷ memory ∷ memory_lane ∷ lane_index ∷ sixteen_bytes ∷ sixteen_lanes ∷ []) n block_type

@@ -10,7 +10,7 @@ use native.Mathlib.Omega.{arith}
 use lib.Dec.{T, eqb, eqb→eq}
 use lib.ListN.{length}
 use borrow.Author.Tests.{eq-eqb}
-use Rattle.opcode.specs.Kind.{Kind, i32, i64, v128, kind_byte, kind_name}
+use Rattle.opcode.specs.Kind.{i32, i64, v128, kind_byte, kind_name}
 use Rattle.opcode.specs.Table.{Row, carried, float, unassigned, vectors, vector_at, latest, plain_at}
 use Rattle.opcode.specs.Immediate.{Immediates, nothing, index, block_type, word, long, memory, memory_lane, lane_index, sixteen_bytes, sixteen_lanes}
 use Rattle.opcode.specs.Number.{class_number, class_of}

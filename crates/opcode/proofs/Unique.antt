@@ -3,7 +3,7 @@
 use mathlib.Core.Path.{◌≡◌, sym, ◌∙◌}
 use Prim.Native.Nat.{ℕ}
 use mathlib.Core.Bool.{Bool}
-use Rattle.opcode.proofs.is_known.Reads as is_Known
+use Rattle.opcode.proofs.is_known.Reads as is-known
 use Rattle.opcode.proofs.since.Reads as since
 use Rattle.opcode.proofs.id_of.Reads as id-of
 use Rattle.opcode.proofs.table.entry.Reads as entry
@@ -13,7 +13,7 @@ use Rattle.opcode.proofs.moved.Reads as moved
 use Rattle.opcode.proofs.lanes.Reads as lanes
 use Rattle.opcode.proofs.effect.Reads as effect
 
-pub one_known : (v : ℕ) {r r' : Bool} → is_Known.Post tt (v, tt) r (v, tt) → is_Known.Post tt (v, tt) r' (v, tt) → r ≡ r'
+pub one_known : (v : ℕ) {r r' : Bool} → is-known.Post tt (v, tt) r (v, tt) → is-known.Post tt (v, tt) r' (v, tt) → r ≡ r'
 one_known v p q = p ∙ sym q
 
 pub one-since : (b : ℕ) {r r' : ℕ} → since.Post tt (b, tt) r (b, tt) → since.Post tt (b, tt) r' (b, tt) → r ≡ r'

@@ -43,7 +43,7 @@ class_number sixteen_bytes = 7
 class_number sixteen_lanes = 8
 class_number block_type = 9
 
--- and its CLASS_FLOAT and CLASS_UNASSIGNED; in a name here an underscore would be the place of an operand
+-- and its CLASS_FLOAT and CLASS_UNASSIGNED
 abbrev pub CLASS_FLOAT : ℕ
 CLASS_FLOAT = 10
 

@@ -1,5 +1,7 @@
 // What the code asks of an instruction. An instruction goes from function to function as one number, its id: the first byte, or 256
 // and FD's number.
+#![tactic(auto)]
+
 pub mod kind;
 mod table;
 
