@@ -1,4 +1,6 @@
 // The instructions' names.
+#![tactic(auto)]
+
 mod rows;
 
 ghost use Rattle.std.specs.Prelude.{◌≡◌};

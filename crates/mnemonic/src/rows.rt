@@ -10,7 +10,7 @@ fn copy(names: &[u8], n: usize, out: &mut [u8; 32])
 {
     let from = n * 32;
     let to = from + 32;
-    bytes::copy(&names[from..to], out);
+    buffer::copy(&names[from..to], out);
 }
 
 // FD's numbers from 00 on, from 10 on, and so forth.
