@@ -1,15 +1,12 @@
 -- One item of an instruction, and items in order: each passes, or one thing is wrong with the first that does not.
-use Prim.Native.Nat.{ℕ, zero, suc, ◌+◌, ◌<◌, ◌≤◌, ◌^◌}
-use mathlib.Core.Bool.{Bool, true, false}
-use mathlib.Core.List.{List, [], ◌∷◌, ◌++◌}
+use Prim.Native.Nat.{ℕ, ◌+◌, ◌<◌}
+use mathlib.Core.Bool.{false}
+use mathlib.Core.List.{List, [], ◌∷◌}
 use mathlib.Core.Path.{◌≡◌, refl, sym, ap, subst, ◌∙◌}
-use native.Mathlib.Nat.{add-zero}
 use native.Mathlib.Omega.{arith}
-use lib.ListN.{length, drop, length-drop, replicate}
-use lib.IntN.{pos}
+use lib.ListN.{length, length-drop}
 use Rattle.card.specs.Card.{SHORT, KIND, NUMBER, LANE, ALIGN}
 use Rattle.leb128.proofs.Exact.{stands_same, stands-cut}
-use Rattle.opcode.specs.BlockType.{is_block_type}
 use Rattle.instr.specs.Refuses.{Form, number, byte, ItemAt, a_number, a_byte, Stops, cut_number, no_byte, Bad, bad_number, Part, any, block, lane, exponent, form, Permits, Right, Wrong, cut, no_block_type, no_number, large_index, large_exponent, Next, here, after}
 
 -- ---- one item
@@ -31,9 +28,11 @@ module _ (s : List ℕ) (p : ℕ) where
 
   holds-bad : {f : Form} {v q : ℕ} → ItemAt s p f v q → Bad s p f → ⊥
   holds-bad (a_number {n = n} a) (bad_number c) = c.none _ n a
+  holds-bad (a_byte _) c = elim c [ ]
 
   stops-bad : {f : Form} → Stops s p f → Bad s p f → ⊥
   stops-bad (cut_number a) (bad_number c) = c.whole a
+  stops-bad (no_byte _) c = elim c [ ]
 
   allows-once : (i : Part) {v q v' q' : ℕ} → ItemAt s p (form i) v q → ItemAt s p (form i) v' q' → Permits i v → Permits i v'
   allows-once (any f) a b w = tt
@@ -130,6 +129,7 @@ module _ (s : List ℕ) where
   falls-once a b = next-once a.next b.next a.wrong b.wrong
 
   through-next : {is : List Part} {p q r c l : ℕ} {j : Part} → Through is p q → Next s is p r j → Wrong s r j c l → ⊥
+  through-next none_left n a = elim n [ ]
   through-next {p = p} (passing t o) here a = passes-wrong s p t a
   through-next {p = p} {q} (passing {i = i} {is = js} t o) (after u m) a =
       through-next (subst (λ (x : ℕ). Through js x q) (holds-once s p t.holds u.holds) o) m a

@@ -1,12 +1,12 @@
 -- What the other crates ask of an instruction that was decoded.
-use Prim.Native.Nat.{ℕ, ◌+◌, ◌<◌, ◌≤◌, ◌^◌}
+use Prim.Native.Nat.{ℕ, ◌+◌, ◌<◌, ◌≤◌}
 use mathlib.Core.List.{List, ◌++◌}
 use mathlib.Core.Logic.{◌⊎◌, inl, inr}
 use mathlib.Core.Path.{◌≡◌, refl, sym, ap, ap₂, subst, ◌∙◌}
 use native.Mathlib.Omega.{arith}
 use lib.ListN.{length, length-append, length-drop}
 use Rattle.opcode.specs.Table.{End, Code, plain, Row, carried, float, unassigned, latest, plain_at, row_at}
-use Rattle.opcode.specs.Immediate.{Immediates, memory, memory_lane, lane_index, sixteen_lanes, immediates, moved_by, lanes_of}
+use Rattle.opcode.specs.Immediate.{Immediates, memory_lane, lane_index, sixteen_lanes, immediates, moved_by, lanes_of}
 use Rattle.opcode.specs.Number.{id_of}
 use Rattle.opcode.proofs.Id.{Way, byte, number, beyond, way, row-of-id}
 use Rattle.opcode.proofs.Inverse.{byte_of, code-back}

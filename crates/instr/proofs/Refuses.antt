@@ -26,7 +26,7 @@ use Rattle.opcode.specs.Table.{Row, Code, carried, float, unassigned, PREFIX, ro
 use Rattle.opcode.specs.Immediate.{Immediates, nothing, index, block_type, word, long, memory, memory_lane, lane_index, sixteen_bytes, sixteen_lanes, immediates, moved_by, lanes_of}
 use Rattle.instr.specs.Layout.{u32, Writes, InOrder, immediate_fields, fields_of, row_in, layout, Below, AllowedIn, Allowed, Head, head, Typed, Stands, refusal}
 use Rattle.instr.specs.Decode.{Item, got, no, and_then, and_read, item_of, number_item, byte_at, lane_at, block_at, exponent_at, lanes_at, sixteen_at, immediates_at, body_of, opcode_number, decode_at}
-use Rattle.instr.specs.Refuses.{number, byte, ItemAt, a_number, a_byte, cut_number, no_byte, bad_number, Part, any, block, lane, exponent, form, Permits, Right, Wrong, cut, no_block_type, no_number, large_index, large_exponent, Opcode, one_byte, prefixed, parts, parts_of, Next, here, after, Reading, first, after_prefix, immediate, Refuses, item, not_assigned, a_float, Decodes, whole, refused}
+use Rattle.instr.specs.Refuses.{number, byte, ItemAt, a_number, a_byte, cut_number, no_byte, bad_number, Part, any, block, lane, exponent, form, Permits, Wrong, cut, no_block_type, no_number, large_index, large_exponent, Opcode, one_byte, prefixed, parts, parts_of, Reading, first, after_prefix, immediate, Refuses, item, not_assigned, a_float, Decodes, whole, refused}
 use Rattle.instr.specs.declared.Instr.{Instr}
 use Rattle.instr.specs.declared.Decoded.{Decoded}
 use Rattle.instr.proofs.Parts.{passes-wrong, wrong-once, byte-same, u32-same, wrong-coded, Falls, further, falls-here, falls-once, Through, none_left, passing, through-falls}

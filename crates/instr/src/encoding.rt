@@ -240,5 +240,5 @@ fn put_bytes(out: &mut [u8], at: usize, a: [u8; 16]) -> usize
     requires { at + 16 ≤ length out.old }
     ensures { Put out.old at a result out.new }
 {
-    at + bytes::copy(&a, &mut out[at..])
+    at + buffer::copy(&a, &mut out[at..])
 }

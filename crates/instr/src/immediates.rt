@@ -179,6 +179,6 @@ fn sixteen(s: &[u8], p: usize) -> [u8; 16]
 {
     let mut a = [0u8; 16];
     let end = p + 16;
-    bytes::copy(&s[p..end], &mut a);
+    buffer::copy(&s[p..end], &mut a);
     a
 }

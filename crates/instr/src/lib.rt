@@ -1,4 +1,6 @@
 // One instruction: decoded from any place of some bytes, encoded in its shortest form. Each is told the version.
+#![tactic(auto)]
+
 mod decoding;
 mod encoding;
 mod immediates;
@@ -16,7 +18,7 @@ pub use encoding::{encode, encoded_len};
 pub use scanning::{scan, summary};
 
 // The opcode's two numbers and the immediates, those that the instruction lacks zero. `word` and `long` are the bits of a signed number.
-#[derive(Drop)]
+#[derive(Clone, Copy)]
 pub struct Instr {
     pub first: u8,
     pub number: u32,
@@ -30,7 +32,7 @@ pub struct Instr {
     pub bytes: [u8; 16],
 }
 
-#[derive(Drop)]
+#[derive(Clone, Copy)]
 pub struct Decoded {
     pub code: u8,
     pub place: usize,
@@ -39,7 +41,7 @@ pub struct Decoded {
 }
 
 // What the run asks: the instruction, the id by which the table knows it, and what the table says of it.
-#[derive(Drop)]
+#[derive(Clone, Copy)]
 pub struct Fetched {
     pub id: u32,
     pub entry: u64,
@@ -48,7 +50,7 @@ pub struct Fetched {
 
 // What the check asks: what the table says of the instruction, and the one immediate that the rules read: the index of a local or of a
 // block, or a block type; 0 where there is none of these.
-#[derive(Drop)]
+#[derive(Clone, Copy)]
 pub struct Scanned {
     pub code: u8,
     pub place: usize,
@@ -57,7 +59,7 @@ pub struct Scanned {
     pub immediate: u32,
 }
 
-#[derive(Drop)]
+#[derive(Clone, Copy)]
 pub struct Encoded {
     pub code: u8,
     pub place: usize,

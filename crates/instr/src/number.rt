@@ -6,7 +6,7 @@ ghost use Rattle.instr.specs.Inner.Steps.{item};
 use leb128::Leb;
 
 // Its bits and the place after it; or the code and the place of a refusal.
-#[derive(Drop)]
+#[derive(Clone, Copy)]
 pub(crate) enum Read {
     Got(u64, usize),
     No(u8, usize),

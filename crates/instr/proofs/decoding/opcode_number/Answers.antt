@@ -1,0 +1,13 @@
+-- FD's number is read, or there is none.
+use native.Mathlib.Nat.{add-zero}
+use borrow.Author.Tests.{eq-eqb, ne_eqb}
+use Rattle.instr.specs.Decode.{number_item, opcode_number}
+use Rattle.instr.proofs.decoding.opcode_number.Goals as goal
+
+pub returns-then-first-eq-PREFIX : goal.returns-then-first-eq-PREFIX
+unfolding opcode_number number_item
+returns-then-first-eq-PREFIX c = rw (eq-eqb _ _ c.if-first-eq-PREFIX.true) c.u32_at.ensures
+
+pub returns-else-first-eq-PREFIX : goal.returns-else-first-eq-PREFIX
+unfolding opcode_number
+returns-else-first-eq-PREFIX c = rw (ne_eqb _ _ c.if-first-eq-PREFIX.false, add-zero)
