@@ -2,8 +2,10 @@
 // EE where nothing was written; what scanning answers, the kinds that the table has for it, and the id that fetching tells. stdout was
 // worked out from documents 01, 02 and 002 by a decoder and an encoder written for that in another language, its kinds by the table of
 // bench/, with no use of this code. Version 1 where none is named.
+#![tactic(auto)]
+
+use hexadecimal::STDOUT_FILENO;
 use instr::{Fetched, Instr, Scanned};
-use libc::STDOUT_FILENO;
 
 fn main() {
     every_opcode();
