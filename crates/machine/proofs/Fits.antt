@@ -3,29 +3,29 @@
 use Prim.Native.Nat.{ℕ, ◌+◌, ◌-◌, ◌^◌, ◌≤◌, ◌<◌, max, zero-le}
 use mathlib.Core.Path.{◌≡◌, refl, ap, ap₂, sym, ◌∙◌}
 use mathlib.Core.Bool.{Bool, true, false, cond}
-use mathlib.Core.List.{List, ◌∷◌, reverse}
+use mathlib.Core.List.{List}
 use native.Mathlib.Omega.{arith}
-use lib.Dec.{leb, ltb}
+use lib.Dec.{leb}
 use lib.ListN.{length}
 use borrow.Author.Tests.{lt-leb, leb-false}
-use mir.Syntax.{Width, w8, w16, w32, w64, w128}
+use mir.Syntax.{Width}
 use Rattle.operation.specs.Vector.{le}
 use Rattle.operation.specs.Op.{Loadop, Whole, Widen, Repeat, ZeroPad, Op, Load, LoadLane, Store, StoreLane, Const, Shuffle, Splat, ExtractLane, ReplaceLane}
-use Rattle.operation.specs.Op.{Unary, Binary, Bitselect, Test, Shift, extracted}
-use Rattle.limits.specs.Limits.{slot, stack_limit}
+use Rattle.operation.specs.Op.{Unary, Binary, Bitselect, Test, Shift}
+use Rattle.limits.specs.Limits.{slot}
 use Rattle.opcode.specs.Kind.{Kind}
 use Rattle.opcode.specs.Table.{Plain, End, Drop, LocalGet, LocalSet, LocalTee, I32Const, I64Const, I32Add, I32Sub, I32Eqz, I32LtU, Code, plain, control, vector}
 use Rattle.opcode.specs.Immediate.{moved}
 use Rattle.instr.specs.declared.Instr.{Instr}
-use Rattle.machine.specs.Value.{Value, I32, I64}
-use Rattle.machine.specs.Exec.{State, Outcome, goes, done, trap, stuck, push_scalar, go_on, access, of_kinds, pop_i32, pop_v128, exec_plain, exec_vector, exec}
+use Rattle.machine.specs.Value.{Value}
+use Rattle.machine.specs.Exec.{State, Outcome, goes, trap, stuck, access, pop_i32, pop_v128, exec_plain, exec_vector, exec}
 use Rattle.machine.specs.Inner.Flat.{slot_at, top_of, low32, reach}
 use Rattle.machine.specs.Inner.Fit.{taken_by_plain, taken_by_op, taken_by, Slotted, bounds_at, bounds_op, bounds_of}
 use Rattle.machine.specs.Answer.{Reach, in_reach, out_of_reach}
 use Rattle.machine.specs.Accesses.{Accesses, load, load_extend, load_splat, load_zero, load_lane, store, store_lane}
 use Rattle.machine.specs.Inner.Rep.{Rep}
 use Rattle.machine.proofs.Laws.Rep.{low-i32}
-use Rattle.machine.proofs.Laws.Pops.{pop-i32, pop-v128, pop-any, pop-scalar, named, same_kind, on-not-trap}
+use Rattle.machine.proofs.Laws.Pops.{pop-i32, pop-v128, pop-any, pop-scalar, named, on-not-trap}
 use Rattle.machine.proofs.Laws.Update.{all_held}
 use Rattle.machine.proofs.Traps.{traps-exact}
 

@@ -1,20 +1,18 @@
 -- WHO MAY TRAP: an instruction traps exactly where it accesses bytes and the memory ends before them.
 use Prim.Native.Nat.{ℕ, ◌+◌, ◌<◌}
-use mathlib.Core.Path.{◌≡◌, refl, ap, sym, ◌∙◌, subst}
-use mathlib.Core.Bool.{Bool, true, false, cond}
+use mathlib.Core.Path.{◌≡◌, refl, ap, ◌∙◌, subst}
+use mathlib.Core.Bool.{Bool, cond}
 use mathlib.Core.List.{List, ◌∷◌}
 use mathlib.Core.Logic.{◌↔◌}
 use native.Mathlib.Omega.{arith}
-use lib.Dec.{ltb}
 use lib.ListN.{length}
 use borrow.Author.Tests.{lt-leb}
-use Rattle.limits.specs.Limits.{stack_limit}
 use Rattle.opcode.specs.Kind.{Kind}
 use Rattle.opcode.specs.Table.{Code, carried}
 use Rattle.opcode.specs.Immediate.{moved_by}
 use Rattle.instr.specs.declared.Instr.{Instr}
 use Rattle.machine.specs.Value.{Value, I32, V128}
-use Rattle.machine.specs.Exec.{State, Outcome, goes, done, trap, stuck, pop_i32, pop_v128, go_on, access, exec}
+use Rattle.machine.specs.Exec.{State, Outcome, trap, pop_i32, pop_v128, access, exec}
 use Rattle.machine.specs.Accesses.{Accesses, load, load_extend, load_splat, load_zero, load_lane, store, store_lane}
 use Rattle.machine.proofs.Laws.Pops.{on-not-trap}
 use Rattle.machine.proofs.Outcomes.{of-exec}

@@ -4,7 +4,7 @@ ghost use Rattle.machine.specs.Answer.{told_bounds};
 ghost use Rattle.machine.specs.Inner.Fit.{bounds_at};
 
 // An access is within the memory, or this is its first address at or past the memory's end.
-#[derive(Drop)]
+#[derive(Clone, Copy)]
 pub enum Bounds {
     Clear,
     Past(u64),

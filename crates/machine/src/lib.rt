@@ -1,4 +1,6 @@
 // One instruction: what the standard's machine does, over flat bytes.
+#![tactic(auto)]
+
 mod access;
 mod instruction;
 mod slot;

@@ -1,6 +1,6 @@
 -- Inner: what the code asks of an instruction before it does it, and what it answers. Proofs show that the standard's machine going on implies the
 -- first.
-use Rattle.std.specs.Prelude.{ℕ, ◌+◌, ◌-◌, ◌≤◌, ◌<◌, max, ◌≡◌, cond, List, leb, length}
+use Rattle.std.specs.Prelude.{ℕ, ◌+◌, ◌≤◌, ◌<◌, max, ◌≡◌, cond, List, leb, length}
 use Rattle.operation.specs.Shape.{lanes}
 use Rattle.operation.specs.Vector.{lane}
 use Rattle.operation.specs.Shape.{i8x16}
