@@ -6,7 +6,7 @@ use mathlib.Core.List.{List, map}
 use Rattle.opcode.specs.Kind.{Kind, kind_byte}
 use Rattle.image.specs.Slots.{Tells, yes, no}
 use Rattle.image.proofs.slots.formed.Reads as formed
-use Rattle.image.proofs.picture.place_in.Reads as IsPlace-in
+use Rattle.image.proofs.picture.place_in.Reads as place-in
 use Rattle.image.proofs.picture.shows.Reads as shows
 use Rattle.image.proofs.picture.write.Reads as write
 
@@ -21,7 +21,7 @@ tells-once (no n) (no m) = refl
 pub one-formed : (κs : _) (a : _) (e e' : _) (r r' : Bool) → formed.Post κs a r e → formed.Post κs a r' e' → (ks : List Kind) → a.0.now ≡ map kind_byte ks → r ≡ r'
 one-formed κs a e e' r r' p q ks h = tells-once (p ks h) (q ks h)
 
-pub one_place : (κs : _) (a : _) (e e' : _) (r r' : ℕ) → IsPlace-in.Post κs a r e → IsPlace-in.Post κs a r' e' → r ≡ r'
+pub one_place : (κs : _) (a : _) (e e' : _) (r r' : ℕ) → place-in.Post κs a r e → place-in.Post κs a r' e' → r ≡ r'
 one_place κs a e e' r r' p q = p ∙ sym q
 
 pub one-shows : (κs : _) (a : _) (e e' : _) (r r' : Bool) → shows.Post κs a r e → shows.Post κs a r' e' → (ls vs : List Kind) → a.1.0.now ≡ map kind_byte ls

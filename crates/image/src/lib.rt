@@ -1,4 +1,6 @@
 // Values in slots of sixteen bytes, and the image of a run that has spent its budget (document 02, C-14, C-15).
+#![tactic(auto)]
+
 mod picture;
 mod slots;
 

@@ -111,7 +111,7 @@ pub fn write(image: &mut [u8], place: usize, depth: usize, locals: &[u8], stack:
         return;
     }
     let front = front(place, depth);
-    bytes::copy(&front, image);
+    buffer::copy(&front, image);
     fill(image, FRONT, limits::LOCAL_BYTES, locals);
     fill(image, STACK_AT, limits::STACK_BYTES, stack);
 }
@@ -149,7 +149,7 @@ fn fill(image: &mut [u8], at: usize, room: usize, slots: &[u8])
     ensures { image.new ≡ sets image.old at (filled room slots.now) }
 {
     let past = at + room;
-    let next = at + bytes::copy(slots, &mut image[at..]);
+    let next = at + buffer::copy(slots, &mut image[at..]);
     clear(image, next, past);
 }
 

@@ -1,0 +1,15 @@
+-- The copy has room, and the zeros begin after it.
+use Prim.Native.Nat.{ℕ, ◌+◌}
+use mathlib.Core.Path.{refl, ap}
+use native.Mathlib.Omega.{arith}
+use Rattle.buffer.proofs.Writing.{part-copied}
+use Rattle.image.proofs.Painting.{fill-all}
+use Rattle.image.proofs.picture.fill.Goals as goal
+
+pub returns : goal.returns
+returns c =
+    let a = c.args in
+    let e = c.copy.ensures in
+    fill-all a.image.now a.slots.now a.at a.room _
+    (part-copied a.image.now a.slots.now a.at _ (omega (arith, c.requires)) refl (omega (arith, c.requires)) e.1) (ap (λ (n : ℕ). a.at + n) e.0)
+    c.clear.ensures
