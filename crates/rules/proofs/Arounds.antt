@@ -134,6 +134,7 @@ module _ {s : List ℕ} {h : Header} where
       (bs, same a r (λ o. opens-branches o if_branches refl) (branches-plain if_branches), begun-same (below ++ branch_kinds g) f.dead k)
   known_next {p} {n} {i} r opens_block there (bs, a, k) = ((p + n) ∷ bs, begun a r block_opens, begun-inside false (block_results i.block) there k)
   known_next {p} {n} {i} r opens_loop there (bs, a, k) = ((p + n) ∷ bs, begun a r loop_opens, begun-inside true (block_results i.block) there k)
+  known_next r (closes x) there ([], a, k) = elim k [ ]
   known_next r (closes {f = f} {g = g} x) there (b ∷ bs, a, block r' k) = (bs, ended a r, begun-same (g.values ++ f.results) g.dead k)
 
   pub around-reached : {p : ℕ} {fs : List Frame} → Reaches s h p fs → Known s h p fs

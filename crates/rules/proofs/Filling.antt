@@ -86,10 +86,12 @@ filled u l = record { under = u; whole = refl; none_live = l }
 
 -- a branch goes to the same block
 pub to-frame : {fs gs : List Frame} {n : ℕ} {g : Frame} → AllFill fs gs → Target gs n g → (f : Frame) × Target fs n f × (branch_kinds f ≡ branch_kinds g)
+to-frame none t = elim t [ ]
 to-frame (each {f = f} w ws) innermost = (f, innermost, ap branch_kinds (sym w.whole))
 to-frame (each w ws) (outer t) = let x = to-frame ws t in (x.0, outer x.1, x.2)
 
 pub to-stack : {fs gs : List Frame} {n : ℕ} {f : Frame} → AllFill fs gs → Target fs n f → (g : Frame) × Target gs n g × (branch_kinds g ≡ branch_kinds f)
+to-stack none t = elim t [ ]
 to-stack (each {g = g} w ws) innermost = (g, innermost, ap branch_kinds w.whole)
 to-stack (each w ws) (outer t) = let x = to-stack ws t in (x.0, outer x.1, x.2)
 

@@ -7,7 +7,7 @@ use lib.ListN.{length}
 use Rattle.opcode.specs.Kind.{Kind}
 use Rattle.opcode.specs.Table.{End, Control, Block, Loop, Br, BrIf, Plain, Code, plain, control}
 use Rattle.instr.specs.declared.Instr.{Instr}
-use Rattle.rules.specs.Typing.{Frame, all_values, Target, Local, Typed, by_signature, got, set, teed, Types, ordinary, branches, may_branch, opens_block}
+use Rattle.rules.specs.Typing.{Frame, all_values, Target, Local, Typed, by_signature, dropped, got, set, teed, Types, ordinary, branches, may_branch, opens_block}
 use Rattle.rules.specs.Typing.{opens_loop, closes, Names, get_names, set_names, tee_names, Opens, block_opens, loop_opens, Branches, br_branches}
 use Rattle.rules.specs.Typing.{if_branches, Ends}
 use Rattle.rules.proofs.Typings.{end-untyped, control-untyped}
@@ -59,6 +59,7 @@ declared-local : {ls ins outs : List Kind} {n : ℕ} {c : Code} → Typed ls n c
 declared-local (by_signature p) get_names = absurd (let z : ◌≡◌ {A = ℕ} 0 1 = cc in omega arith)
 declared-local (by_signature p) set_names = absurd (let z : ◌≡◌ {A = ℕ} 0 1 = cc in omega arith)
 declared-local (by_signature p) tee_names = absurd (let z : ◌≡◌ {A = ℕ} 0 1 = cc in omega arith)
+declared-local dropped names = elim names [ ]
 declared-local (got {k} l) get_names = (k, l)
 declared-local (set {k} l) set_names = (k, l)
 declared-local (teed {k} l) tee_names = (k, l)

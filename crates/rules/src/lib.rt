@@ -1,1 +1,2 @@
 // The rules of a whole strip. Statements only: the check is above.
+#![tactic(auto)]
