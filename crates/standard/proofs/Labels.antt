@@ -1,7 +1,6 @@
 -- A strip that keeps the rules: from a sound state every block that is open finds its end, so every forward branch does.
 use Prim.Native.Nat.{ℕ}
-use mathlib.Core.List.{List, [], ◌∷◌}
-use Rattle.rules.specs.Header.{Header}
+use mathlib.Core.List.{List}
 use Rattle.rules.specs.Typing.{Frame}
 use Rattle.rules.specs.Strip.{Valid}
 use Rattle.standard.specs.Standard.{Label, Config}

@@ -31,6 +31,7 @@ never_stuck {s} v b sound (suc k) = by (runs s v.header k b) refl (never_stuck v
     by (going c) e (safe_going there long) = safe-from k e long (safe-step v c there)
     by (ended vs m) e safe = safe
     by (trapped a n) e safe = safe
+    by halted e safe = elim safe [ ]
 
 -- what is safe is not stuck
 pub safe-unhalted : {s : List ℕ} {h : Header} {b : Config} {g : Stage} → Safe s h b g → g ≡ halted → ⊥

@@ -2,7 +2,7 @@
 use Prim.Native.Nat.{ℕ, zero, suc, ◌+◌}
 use mathlib.Core.Path.{◌≡◌, refl, ap, ◌∙◌}
 use mathlib.Core.Bool.{Bool, true, false, cond}
-use mathlib.Core.List.{List, [], ◌++◌, map}
+use mathlib.Core.List.{List, []}
 use native.Mathlib.Nat.{add-zero}
 use lib.Dec.{eqb, ltb}
 use lib.ListN.{length}
@@ -16,10 +16,10 @@ use Rattle.instr.specs.declared.Decoded.{Decoded}
 use Rattle.instr.specs.Layout.{row_in}
 use Rattle.instr.specs.Decode.{decode_at}
 use Rattle.machine.specs.Value.{Value}
-use Rattle.machine.specs.Exec.{State, Outcome, goes, done, trap, stuck, go_on, exec}
+use Rattle.machine.specs.Exec.{State, goes, stuck, go_on, exec}
 use Rattle.machine.proofs.Outcomes.{of-exec}
-use Rattle.rules.specs.Header.{Header, header_bytes}
-use Rattle.standard.specs.Standard.{Config, Stage, going, ended, trapped, halted, after, step_row, step, onward, runs, begin}
+use Rattle.rules.specs.Header.{Header}
+use Rattle.standard.specs.Standard.{going, halted, after, step_row, step, onward, runs, begin}
 use Rattle.standard.specs.One.{ConfigOne, StageOne, going_one, ended_one, trapped_one, halted_one, after_one, row_one, by_one, step_one, onward_one, runs_one, begin_one, bare, bare_stage}
 
 -- the stack is full where it was

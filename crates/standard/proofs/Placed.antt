@@ -135,6 +135,7 @@ module _ {s : List ℕ} (v : Valid s) where
       by (going d) (safe_going there long) x = placed-step d there x
       by (ended vs m) safe x = tt
       by (trapped a n) safe x = tt
+      by halted safe x = elim safe [ ]
 
   pub step-placed : (c d : Config) → Sound s h c → Placed s h c → step s h c ≡ going d → Placed s h d
   step-placed c d sound placed e = subst Good e (placed-step c sound placed)

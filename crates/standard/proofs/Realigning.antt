@@ -1,25 +1,24 @@
 -- ALIGNED ACCESS EARNS NO DIFFERENT ANSWER, of whole strips: two that differ in alignment exponents at most make the standard's machine do the same
 -- steps.
 use Prim.Native.Nat.{ℕ, zero, suc, ◌+◌}
-use mathlib.Core.Path.{◌≡◌, refl, ap, sym, ◌∙◌, subst}
-use mathlib.Core.Bool.{Bool, true, false, cond}
+use mathlib.Core.Path.{◌≡◌, refl, ap, sym, ◌∙◌}
+use mathlib.Core.Bool.{cond}
 use mathlib.Core.List.{List, [], ◌∷◌}
 use mathlib.Core.Option.{Option}
 use lib.Dec.{eqb}
-use lib.ListN.{length}
 use Rattle.opcode.specs.Kind.{Kind}
-use Rattle.opcode.specs.Table.{Plain, Block, Loop, Br, BrIf, Code, plain, control, vector}
+use Rattle.opcode.specs.Table.{Block, Loop, Br, BrIf, Code, plain, control, vector}
 use Rattle.instr.specs.declared.Instr.{Instr}
 use Rattle.machine.specs.Value.{Value, I32, I64, V128}
-use Rattle.machine.specs.Exec.{State, Outcome, exec}
+use Rattle.machine.specs.Exec.{State, Outcome}
 use Rattle.machine.specs.Accesses.{aligned}
 use Rattle.machine.proofs.Aligned.{aligned-alike}
-use Rattle.rules.specs.Header.{Header, locals}
+use Rattle.rules.specs.Header.{Header}
 use Rattle.rules.specs.Typing.{Frame, Types, ordinary, branches, may_branch, opens_block, opens_loop, closes}
 use Rattle.rules.specs.Strip.{Reads, Reaches, front, past, Valid}
 use Rattle.standard.specs.Closing.{is_end, close}
-use Rattle.standard.specs.Standard.{Label, Config, Stage, going, ended, trapped, halted, with_stack, after, leave, along, beyond, jump, branch, branch_if, step_plain, step_code, step, onward, runs}
-use Rattle.standard.specs.Safety.{Nested, outermost, inside, Fits, Sound, Safe, safe_going}
+use Rattle.standard.specs.Standard.{Label, Config, Stage, going, ended, trapped, halted, with_stack, after, leave, along, beyond, branch, branch_if, step_plain, step_code, step, onward, runs}
+use Rattle.standard.specs.Safety.{Nested, outermost, inside, Sound, Safe, safe_going}
 use Rattle.standard.specs.Exponents.{Realigned}
 use Rattle.standard.proofs.Steps.{step-does}
 use Rattle.standard.proofs.Unwinding.{Next, last, goes_on, what-next, same_end}
@@ -119,3 +118,4 @@ module _ {s t : List ℕ} (v : Valid s) (r : Realigned s t v.header) where
       by (going c) (safe_going there long) = realigned-step c there
       by (ended vs m) safe = refl
       by (trapped a n) safe = refl
+      by halted safe = elim safe [ ]

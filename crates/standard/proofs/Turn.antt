@@ -172,7 +172,7 @@ module _ {s : List ℕ} (v : Valid s) (c : Config) where
   here : {f : Frame} {fs : List Frame} → Fits s h f fs c → Live (f ∷ fs) → Reaches s h c.place (f ∷ fs) → Sound s h c
   here {f} {fs} fits live reached = record { frame = f; outer = fs; reached = reached; live = live; fits = fits }
 
-  typed-safe : {f : Frame} {fs fs' : List Frame} {n : ℕ} {i : Instr} {k : Code} → Fits s h f fs c → Live (f ∷ fs) → Reaches s h c.place (f ∷ fs)
+  typed-safe : {f : Frame} {fs : List Frame} {n : ℕ} {i : Instr} {k : Code} {fs' : List Frame} → Fits s h f fs c → Live (f ∷ fs) → Reaches s h c.place (f ∷ fs)
       → Reads h.version s c.place i k n
       → Types (locals h) i k (f ∷ fs) fs' → Within fs' → Good (step_code s h c n i k)
   typed-safe {fs = fs} {n = n} {i} {k} fits live reached r (ordinary {outs = outs} {below = below} {f = f} t x) w =

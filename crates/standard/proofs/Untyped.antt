@@ -58,6 +58,16 @@ module _ (rs : List Kind) (i : Instr) (σ : State) (ls : List Kind) (held : map 
   undeclared-stuck (plain LocalGet) get_names never = local-stuck σ i.index _ (λ l. absurd (never _ (kind-of l)))
   undeclared-stuck (plain LocalSet) set_names never = any-stuck σ.stack _ (λ v st e. local-stuck σ i.index _ (λ l. absurd (never _ (kind-of l))))
   undeclared-stuck (plain LocalTee) tee_names never = any-stuck σ.stack _ (λ v st e. local-stuck σ i.index _ (λ l. absurd (never _ (kind-of l))))
+  undeclared-stuck (plain End) names never = elim names [ ]
+  undeclared-stuck (plain Drop) names never = elim names [ ]
+  undeclared-stuck (plain I32Const) names never = elim names [ ]
+  undeclared-stuck (plain I64Const) names never = elim names [ ]
+  undeclared-stuck (plain I32Add) names never = elim names [ ]
+  undeclared-stuck (plain I32Sub) names never = elim names [ ]
+  undeclared-stuck (plain I32Eqz) names never = elim names [ ]
+  undeclared-stuck (plain I32LtU) names never = elim names [ ]
+  undeclared-stuck (control _) names never = elim names [ ]
+  undeclared-stuck (vector _) names never = elim names [ ]
 
   -- ---- 13: an operand is missing or of another kind
 

@@ -107,9 +107,9 @@ module _ {s t : List ℕ} {h : Header} (codes : Codes s t h) where
   winds reached r opens_loop w u = skip_block r (codes.reads reached r).1 refl w.blocks u
   winds reached r (closes x) w u = unwinds (λ room k. (closed_in r refl, closed_in (codes.reads reached r).1 refl)) (past reached r (closes x) w) u
 
-  unwind : {p q : ℕ} {fs : List Frame} {f : Frame} → Reaches s h p fs → Onward s h p fs q (f ∷ []) → Unwinds s t h p fs
-  unwind reached here = strip-only
-  unwind {p} {q} reached (next {n = n} r x w o) = winds reached r x w (unwind (past reached r x w) o)
+  unwind : {p q : ℕ} {fs : List Frame} {f : Frame} → Onward s h p fs q (f ∷ []) → Reaches s h p fs → Unwinds s t h p fs
+  unwind here reached = strip-only
+  unwind {p} {q} (next {n = n} r x w o) reached = winds reached r x w (unwind o (past reached r x w))
 
 -- with any room
 pub any-room : {ver : ℕ} {s : List ℕ} {room p q : ℕ} → ClosesIn ver s room p q → Closes ver s p q
@@ -144,8 +144,8 @@ same_by {s} {t} {h} {f = f} {g} {fs} few (unwinds {m = m} c reached u) =
 module _ {s : List ℕ} (v : Valid s) {p : ℕ} {f g : Frame} {fs : List Frame} (reached : Reaches s v.header p (f ∷ g ∷ fs)) where
   -- EVERY FORWARD BRANCH FINDS ITS END
   pub finds-end : Left s v.header p f g fs
-  finds-end = left_by (reached-within reached).blocks (unwind same_codes reached (to_end v reached))
+  finds-end = left_by (reached-within reached).blocks (unwind same_codes (to_end v reached) reached)
 
   -- the same in a strip of the same codes
   pub same_end : {t : List ℕ} → Codes s t v.header → close v.header.version t p ≡ close v.header.version s p
-  same_end codes = same_by (reached-within reached).blocks (unwind codes reached (to_end v reached))
+  same_end codes = same_by (reached-within reached).blocks (unwind codes (to_end v reached) reached)

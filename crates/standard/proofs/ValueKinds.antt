@@ -25,6 +25,7 @@ local-inside first = omega arith
 local-inside (later l) = let deeper = local-inside l in omega arith
 
 pub local-kind : {k : Kind} {n : ℕ} (vs : List Value) → Local (map kind_of vs) n k → kind_of (get_or vs n (I32 0)) ≡ k
+local-kind [] never = elim never [ ]
 local-kind (v ∷ vs) first = refl
 local-kind (v ∷ vs) (later l) = local-kind vs l
 
