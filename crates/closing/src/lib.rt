@@ -1,5 +1,7 @@
 // The `end` that closes a block, found from the bytes. They were checked, so the search goes over an instruction and asks nothing of it but where the
 // next one stands.
+#![tactic(auto)]
+
 mod passing;
 
 ghost use Rattle.std.specs.Prelude.{◌≡◌, ◌||◌, eqb};

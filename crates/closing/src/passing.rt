@@ -8,7 +8,7 @@ ghost use Rattle.closing.specs.Search.{past_number, past_bytes, past_row, passed
 use leb128::Leb;
 
 // The group of an instruction, and the place after it.
-#[derive(Drop)]
+#[derive(Clone, Copy)]
 pub(crate) struct Passed {
     pub group: u8,
     pub next: usize,
@@ -27,7 +27,7 @@ pub(crate) fn pass(s: &[u8], at: usize) -> Passed
 }
 
 // An opcode's id, and the place after it.
-#[derive(Drop)]
+#[derive(Clone, Copy)]
 pub(crate) struct Opcode {
     pub id: u32,
     pub next: usize,
