@@ -10,12 +10,10 @@ use Rattle.limits.specs.Limits.{file_limit}
 use Rattle.opcode.specs.Kind.{Kind}
 use Rattle.opcode.specs.Table.{End, plain}
 use Rattle.instr.proofs.Ranges.{stands-some, stands-inside, end-first, end-one}
-use Rattle.rules.specs.Header.{kinds}
 use Rattle.rules.specs.Typing.{Frame, Ends, ends}
 use Rattle.rules.specs.Strip.{Reads, Valid}
 use Rattle.rules.specs.Breach.{Breach, result, trailing}
 use Rattle.checker.specs.Inner.Stack.{Top, Under}
-use Rattle.checker.specs.Walk.{strip}
 use Rattle.checker.specs.Inner.Blocks.{top_first}
 use Rattle.checker.specs.Inner.Parts.{AtEnd}
 use Rattle.checker.proofs.Closings.{ends-not, ends-here}

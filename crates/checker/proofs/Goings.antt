@@ -14,7 +14,6 @@ use Rattle.limits.specs.Limits.{file_limit, stack_limit, nest_limit}
 use Rattle.leb128.specs.Bytes.{bytes}
 use Rattle.opcode.specs.Kind.{Kind}
 use Rattle.opcode.specs.Table.{End, Code, plain, carried}
-use Rattle.opcode.specs.Immediate.{long}
 use Rattle.opcode.specs.Number.{group_of_code}
 use Rattle.opcode.specs.Entry.{entry_of, group_in}
 use Rattle.opcode.proofs.Id.{row-of-id}

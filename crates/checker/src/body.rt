@@ -12,7 +12,7 @@ use crate::{answer, stack, turns, walk};
 use card::Answer;
 
 // The check's code and place; and what is known at the place that was asked: its code is DONE where the walk stood there.
-#[derive(Drop)]
+#[derive(Clone, Copy)]
 pub(crate) struct Walked {
     pub code: u8,
     pub place: usize,

@@ -11,7 +11,7 @@ use opcode::kind;
 
 // A code and a place, and what the header tells of the instructions: the version, how many locals there are, the kinds that the strip's own `end`
 // takes, the top one first in a number, and where the first one stands.
-#[derive(Drop)]
+#[derive(Clone, Copy)]
 pub(crate) struct Head {
     pub code: u8,
     pub place: usize,

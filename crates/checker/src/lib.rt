@@ -1,4 +1,6 @@
 // The check of a whole strip: its header, then its instructions one after the other.
+#![tactic(auto)]
+
 mod blocks;
 mod body;
 mod header;

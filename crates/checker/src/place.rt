@@ -17,7 +17,7 @@ pub const MARKS: usize = OPEN + 1;
 
 // The check's code and place; and, where an instruction stands at the place that was asked, in no dead code: the values on the stack and the open
 // blocks there.
-#[derive(Drop)]
+#[derive(Clone, Copy)]
 pub struct Surveyed {
     pub code: u8,
     pub place: usize,

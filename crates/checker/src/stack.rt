@@ -11,7 +11,7 @@ ghost use Rattle.checker.specs.Walk.{KindBytes};
 ghost use Rattle.checker.specs.Inner.Stack.{Keeps, Top, Under, Small, Leaves, Applies};
 
 // A code, and how many values the stack holds then.
-#[derive(Drop)]
+#[derive(Clone, Copy)]
 pub(crate) struct Judged {
     pub code: u8,
     pub depth: usize,

@@ -16,7 +16,7 @@ use crate::{blocks, numbers, stack, typing};
 use opcode::kind;
 
 // A code, and then: the values on the stack, the open blocks, how many values are under the innermost, and whether code is dead in it.
-#[derive(Drop)]
+#[derive(Clone, Copy)]
 pub struct State {
     pub code: u8,
     pub depth: usize,

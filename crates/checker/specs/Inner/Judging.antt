@@ -1,5 +1,5 @@
 -- Inner: one instruction inside these frames, a constructor for each line of the card that may be its answer.
-use Rattle.std.specs.Prelude.{ℕ, ◌+◌, ◌≤◌, ◌<◌, ◌^◌, ◌≡◌, Bool, true, false, cond, List, ◌++◌, length, drop}
+use Rattle.std.specs.Prelude.{ℕ, ◌≤◌, ◌<◌, ◌^◌, ◌≡◌, Bool, true, false, cond, List, ◌++◌, length, drop}
 use Rattle.std.proofs.Math.Option.{some}
 use Rattle.card.specs.Card.{DONE, LOCAL, OPERAND, DEEP, RESULT, NEST, LABEL}
 use Rattle.limits.specs.Limits.{stack_limit, nest_limit, result_limit}
