@@ -1,7 +1,7 @@
 -- What a run answers, put together: what is asked first, then what the instructions leave.
 use Prim.Native.Nat.{ℕ, ◌≤◌, ◌<◌}
 use mathlib.Core.Path.{◌≡◌, refl, ap, sym, ◌∙◌, subst}
-use mathlib.Core.List.{List, []}
+use mathlib.Core.List.{List}
 use mathlib.Core.Logic.{inl, inr}
 use mathlib.Core.Option.{Option, none, some}
 use native.Mathlib.Omega.{arith}
@@ -10,11 +10,10 @@ use Rattle.card.specs.Card.{DONE, SMALL}
 use Rattle.card.specs.declared.Answer.{Answer}
 use Rattle.image.specs.Image.{image_bytes}
 use Rattle.image.proofs.Held.{slots-long}
-use Rattle.rules.specs.Strip.{Valid}
 use Rattle.standard.specs.Standard.{begin}
-use Rattle.run.specs.Meter.{Left, leaves, meter}
+use Rattle.run.specs.Meter.{leaves, meter}
 use Rattle.run.specs.Call.{Asks, TurnsAway, fails, Calls, refused, metered}
-use Rattle.run.specs.Run.{Roomy, run_asks, Begins, Runs}
+use Rattle.run.specs.Run.{Roomy, Runs}
 use Rattle.run.specs.Inner.Steps.{Prepared, Asked, turned, well, lent, Drove}
 use Rattle.run.proofs.Pausing.{lent_none, lent-some}
 

@@ -14,14 +14,14 @@ use Rattle.opcode.specs.Kind.{Kind, kind_byte}
 use Rattle.machine.specs.Value.{Value}
 use Rattle.image.specs.Slots.{InSlots, Tells}
 use Rattle.image.proofs.Judging.{told-yes, told-no}
-use Rattle.rules.specs.Header.{Header, Declares}
+use Rattle.rules.specs.Header.{Header}
 use Rattle.rules.specs.Strip.{Valid}
 use Rattle.rules.proofs.Onward.{declared}
 use Rattle.checker.specs.Check.{Checked}
 use Rattle.checker.proofs.Exact.{done-exact, breach-exact}
 use Rattle.run.specs.Call.{Fails, TurnsAway, breaks, fails}
 use Rattle.run.specs.Run.{Slots, run_asks}
-use Rattle.run.specs.Inner.Steps.{Prepared, Asked, turned, well}
+use Rattle.run.specs.Inner.Steps.{Asked, turned, well}
 use Rattle.run.proofs.HeaderBytes.{inside, Counts, counts-read, parameter-count, parameter-kinds, result_count_lem}
 
 -- the counts of a strip that keeps the rules are those of its header

@@ -9,7 +9,6 @@ use Rattle.operation.proofs.Laws.Number.{Bytes}
 use Rattle.machine.specs.Memory.{stored}
 use Rattle.machine.specs.Inner.Rep.{Rep}
 use Rattle.rules.specs.Header.{Header, header_bytes}
-use Rattle.rules.specs.Strip.{Valid}
 use Rattle.rules.proofs.Onward.{declared}
 use Rattle.standard.specs.Standard.{Config, begin}
 use Rattle.standard.specs.Safety.{Sound}

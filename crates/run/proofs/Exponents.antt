@@ -7,7 +7,7 @@ use Rattle.leb128.specs.Bytes.{bytes}
 use Rattle.rules.specs.Header.{Header}
 use Rattle.rules.specs.Strip.{Valid}
 use Rattle.rules.proofs.Verdicts.{valid-no-breach}
-use Rattle.standard.specs.Standard.{Config, Stage, going, ended, trapped, step}
+use Rattle.standard.specs.Standard.{Config, Stage, going, ended, trapped, halted, step}
 use Rattle.standard.specs.Safety.{Sound, Safe, safe_going}
 use Rattle.standard.specs.Exponents.{Realigned}
 use Rattle.standard.proofs.Turn.{safe-step}
@@ -34,6 +34,7 @@ module _ {s t : List ℕ} (v : Valid s) (r : Realigned s t v.header) where
       by (going d) (safe_going there long) next = next d there
       by (ended vs m) safe next = refl
       by (trapped a j) safe next = refl
+      by halted safe next = elim safe [ ]
 
   module _ {args mem out : List ℕ} {img : Option (List ℕ)} {budget : ℕ} (m : bytes mem) where
     answered-too : {x : Left} → Runs s args mem out img budget x → Runs t args mem out img budget x

@@ -79,6 +79,7 @@ module _ {s : List ℕ} (v : Valid s) (b : Config) (out : List ℕ) (img : Optio
       go (ended vs m) f (safe_ended i g there t kinds range l) on =
           told_done k (omega arith) r f (sound-finishes v c sound f) (all-long vs range ∙ ap (λ (n : ℕ). slot * n) (sym (length-map vs kind_of) ∙ ap length kinds))
       go (trapped a n) f safe on = told_trap k (omega arith) r f (sound-strays v c sound f)
+      go halted f safe on = elim safe [ ]
 
   -- the answer is one of three, and never that the machine is stuck
   pub metered-tells : Sound s h b → Told s h b out img budget (meter s h budget 0 b out img)

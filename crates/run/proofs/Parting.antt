@@ -9,7 +9,7 @@ use Rattle.card.specs.Card.{DONE, TRAP, BUDGET}
 use Rattle.rules.specs.Header.{Header}
 use Rattle.standard.specs.Standard.{Config, Stage, going, ended, trapped, halted, step, runs}
 use Rattle.standard.proofs.Along.{no_steps, runs-along, one_more}
-use Rattle.run.specs.Meter.{Left, leaves, STUCK, paused, meter, meter_by}
+use Rattle.run.specs.Meter.{Left, STUCK, meter, meter_by}
 
 -- the same is answered and left, but for the steps, which are n more, and for the image's buffer
 pub record Further (n : ℕ) (x y : Left) : Type 0 where

@@ -1,5 +1,5 @@
 -- What is written where the budget is spent is the image of where the machine is.
-use Prim.Native.Nat.{ℕ, zero, suc, ◌+◌, ◌*◌, ◌≤◌, ◌<◌}
+use Prim.Native.Nat.{ℕ, suc, ◌+◌, ◌*◌, ◌≤◌, ◌<◌}
 use mathlib.Core.Path.{◌≡◌, refl, ap, ap₂, sym, ◌∙◌, subst}
 use mathlib.Core.Bool.{Bool, true, false, cond}
 use mathlib.Core.List.{List, [], ◌∷◌, ◌++◌, append-nil, reverse}
@@ -7,24 +7,22 @@ use mathlib.Core.Option.{Option, none, some}
 use native.Mathlib.Nat.{zero-lt-suc}
 use native.Mathlib.Omega.{arith}
 use borrow.Author.Tests.{eq-eqb, ne_eqb, ltb-true, ltb-false, lt-ltb, le-ltb}
-use lib.Dec.{eqb, ltb}
+use lib.Dec.{ltb}
 use lib.ListN.{length, get_or, take, drop, length-append, length-map, length-reverse}
 use lib.Seq.{take-add, drop-drop}
 use Rattle.card.specs.Card.{BUDGET}
 use Rattle.card.specs.declared.Answer.{Answer}
-use Rattle.limits.specs.Limits.{slot, local_count, stack_limit, local_bytes, stack_bytes}
-use Rattle.machine.specs.Value.{Value, I32, kind_of, AllInRange, bytes_of, all_bytes}
-use Rattle.machine.specs.Memory.{part}
+use Rattle.limits.specs.Limits.{slot, stack_limit}
+use Rattle.machine.specs.Value.{Value, I32, kind_of, bytes_of, all_bytes}
 use Rattle.machine.specs.Inner.Flat.{slot_at}
 use Rattle.machine.specs.Inner.Rep.{Slots}
 use Rattle.image.specs.Image.{image_bytes, painted}
 use Rattle.image.proofs.Laws.{painted-image}
 use Rattle.image.proofs.Painting.{painted-none}
 use Rattle.rules.specs.Header.{Header, locals}
-use Rattle.rules.specs.Strip.{Valid}
 use Rattle.standard.specs.Standard.{Config, whole_stack}
 use Rattle.run.specs.Meter.{leaves, picture_of, paused, meter}
-use Rattle.run.specs.Inner.Carried.{open_in, Carries}
+use Rattle.run.specs.Inner.Carried.{Carries}
 use Rattle.run.specs.Inner.Steps.{lent, Went, stops, pauses, pictured}
 use Rattle.run.proofs.Marking.{part_bytes}
 use Rattle.run.proofs.Picturing.{few-locals, few-values, in-range, picture-long}

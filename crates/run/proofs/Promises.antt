@@ -17,14 +17,14 @@ use Rattle.rules.specs.Strip.{Valid}
 use Rattle.rules.proofs.Onward.{declared}
 use Rattle.rules.specs.Breach.{Breach, long, stub, unmarked, other_version, parameters, further, results, kind, kinds_short, short, block_type, opcode, float, number, lane, align, local, nest, label, operand, deep, result, trailing, breach}
 use Rattle.checker.proofs.Exact as Exact
-use Rattle.standard.specs.Standard.{Config, going, ended, step, runs, begin}
+use Rattle.standard.specs.Standard.{Config, going, ended, step, runs}
 use Rattle.standard.specs.Safety.{Sound, Placed, Safe, safe_going, safe_ended}
 use Rattle.standard.proofs.Begin.{begin-sound}
 use Rattle.standard.proofs.Never.{never_stuck}
 use Rattle.standard.proofs.Along.{one_more}
 use Rattle.standard.proofs.Placed.{begin-placed, runs-placed}
 use Rattle.run.specs.Meter.{Left, picture_of, paused}
-use Rattle.run.specs.Call.{Fails, AllWell, Asks, breaks, fails, Calls, refused, metered}
+use Rattle.run.specs.Call.{Fails, Asks, breaks, fails, Calls, refused, metered}
 use Rattle.run.specs.Run.{Slots, Roomy, run_asks, Begins}
 use Rattle.run.specs.Resume.{Pictures, resume_asks}
 use Rattle.run.specs.Told.{Told, told_done, told_trap, told_budget, OneOf, OnCard, run_codes, resume_codes, Called, turned_away, told, Orderly, Pauses}

@@ -1,20 +1,20 @@
 -- A state that an image shows, as the code holds it: the marks that the survey tells are those of its labels, the slots of the image its values.
-use Prim.Native.Nat.{ℕ, zero, suc, ◌+◌, ◌*◌, ◌-◌, ◌≤◌, ◌<◌}
+use Prim.Native.Nat.{ℕ, suc, ◌+◌, ◌*◌, ◌≤◌}
 use mathlib.Core.Path.{◌≡◌, refl, ap, ap₂, sym, ◌∙◌, subst}
-use mathlib.Core.Bool.{Bool, true, false, cond}
-use mathlib.Core.List.{List, [], ◌∷◌, ◌++◌, map, reverse, reverse-reverse, reverse-cons, append_assoc}
+use mathlib.Core.Bool.{true, false}
+use mathlib.Core.List.{List, [], ◌∷◌, ◌++◌, reverse, reverse-cons, append_assoc}
 use native.Mathlib.Omega.{arith}
-use lib.ListN.{length, get_or, set, take, drop, replicate, length-append, length-map, length-reverse, length-replicate}
+use lib.ListN.{length, get_or, take, length-append, length-reverse}
 use lib.Seq.{take_at, drop_at, get_or-append-add}
-use Rattle.limits.specs.Limits.{slot, stack_limit, local_count, local_bytes, stack_bytes, nest_limit}
+use Rattle.limits.specs.Limits.{slot, local_count, local_bytes, stack_bytes}
 use Rattle.opcode.specs.Kind.{Kind}
 use Rattle.opcode.specs.BlockType.{block_results}
 use Rattle.instr.specs.declared.Instr.{Instr}
 use Rattle.opcode.specs.Table.{Code}
-use Rattle.machine.specs.Value.{Value, I32, AllInRange, bytes_of, all_bytes}
+use Rattle.machine.specs.Value.{Value, AllInRange, bytes_of, all_bytes}
 use Rattle.machine.specs.Memory.{part}
 use Rattle.machine.specs.Inner.Flat.{slot_at}
-use Rattle.machine.specs.Inner.Rep.{Slots, Rep}
+use Rattle.machine.specs.Inner.Rep.{Slots}
 use Rattle.machine.proofs.Laws.Rep.{sixteen-bytes}
 use Rattle.operation.proofs.Laws.Number.{Bytes}
 use Rattle.image.specs.Image.{front_bytes, image_bytes, filled}
@@ -22,19 +22,17 @@ use Rattle.image.proofs.Held.{all-long}
 use Rattle.image.proofs.Parts.{length-filled}
 use Rattle.image.proofs.Showing.{local-fit, stack-fit}
 use Rattle.image.proofs.Laws.{shown-parts}
-use Rattle.rules.specs.Header.{Header, locals}
-use Rattle.rules.specs.Typing.{Frame, holding, opened, all_values, Types, ordinary, branches, may_branch, opens_block, opens_loop, closes}
-use Rattle.rules.specs.Strip.{Reaches, front, past, Valid}
+use Rattle.rules.specs.Header.{Header}
+use Rattle.rules.specs.Typing.{Frame, holding, opened, deadened, branch_kinds, all_values, Types, ordinary, branches, may_branch, opens_block, opens_loop, closes}
+use Rattle.rules.specs.Strip.{Reaches, front, past}
 use Rattle.rules.proofs.Onward.{declared}
 use Rattle.checker.specs.Survey.{way, marks_of}
-use Rattle.standard.specs.Standard.{Label, Config, with_stack, whole_stack, count_under}
+use Rattle.standard.specs.Standard.{Label, Config, whole_stack}
 use Rattle.standard.specs.Safety.{Nested, outermost, inside, Sound, bodies}
 use Rattle.standard.proofs.Nestings.{nested-under}
 use Rattle.standard.proofs.ValueKinds.{reverse-range}
 use Rattle.standard.proofs.Rebuilding.{whole-range}
-use Rattle.run.specs.Meter.{picture_of}
-use Rattle.run.specs.Resume.{Pictures}
-use Rattle.run.specs.Inner.Carried.{way_of, Marked, open_in, Carries, Going}
+use Rattle.run.specs.Inner.Carried.{Marked, open_in, Carries, Going}
 use Rattle.run.specs.Inner.Steps.{Resumable}
 use Rattle.run.proofs.Results.{all_append, all_one}
 use Rattle.run.proofs.Start.{value-slot}
@@ -58,11 +56,11 @@ one_more f (g ∷ fs) l a = (l, a)
 
 types-one : {ls : List Kind} {i : Instr} {c : Code} {fs gs : List Frame} → Types ls i c fs gs → AllOne fs → AllOne gs
 types-one (ordinary {outs = outs} {below = below} {f = f} {fs = fs} t has) a = same-one f (holding f (below ++ outs)) fs refl a
-types-one (branches {f = f} {fs = fs} t has) a = same-one f _ fs refl a
-types-one (may_branch {f = f} {fs = fs} t has) a = same-one f _ fs refl a
-types-one {i = i} (opens_block {fs = fs}) a = one_more _ fs (block-few i.block) a
-types-one {i = i} (opens_loop {fs = fs}) a = one_more _ fs (block-few i.block) a
-types-one (closes {f = f} {g = g} {fs = fs} e) a = same-one g _ fs refl a.1
+types-one (branches {f = f} {fs = fs} t has) a = same-one f (deadened f) fs refl a
+types-one (may_branch {below = below} {f = f} {g = g} {fs = fs} t has) a = same-one f (holding f (below ++ branch_kinds g)) fs refl a
+types-one {i = i} (opens_block {fs = fs}) a = one_more (opened false (block_results i.block)) fs (block-few i.block) a
+types-one {i = i} (opens_loop {fs = fs}) a = one_more (opened true (block_results i.block)) fs (block-few i.block) a
+types-one (closes {f = f} {g = g} {fs = fs} e) a = same-one g (holding g (g.values ++ f.results)) fs refl a.1
 
 pub reached-one : {s : List ℕ} {h : Header} {p : ℕ} {fs : List Frame} → Reaches s h p fs → AllOne fs
 reached-one (front d) = tt

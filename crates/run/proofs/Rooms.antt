@@ -48,14 +48,17 @@ others-pass ((P or c) ∷ qs) o (inl f) = o.0 (sym f.1)
 others-pass ((P or c) ∷ qs) o (inr f) = others-pass qs o.1 f.1
 
 only-past : (n : ℕ) (qs : List {1} Question) → MemoryFirst n qs → Fails qs ROOM → 1048576 < n
+only-past n [] m f = elim m [ ]
 only-past n ((P or c) ∷ qs) m (inl f) = let no : n ≤ 1048576 → ⊥ = λ l. f.0 (m.2 l) in omega (arith, no)
 only-past n ((P or c) ∷ qs) m (inr f) = absurd (others-pass qs m.3 f.1)
 
 first_past : (n : ℕ) (qs : List {1} Question) (c : ℕ) → MemoryFirst n qs → Fails qs c → 1048576 < n → c ≡ ROOM
+first_past n [] c m f l = elim m [ ]
 first_past n ((P or d) ∷ qs) c m (inl f) l = f.1 ∙ m.0
 first_past n ((P or d) ∷ qs) c m (inr f) l = absurd (let never : ⊥ = omega (arith, m.1 f.0, l) in never)
 
 well-within : (n : ℕ) (qs : List {1} Question) → MemoryFirst n qs → AllWell qs → n ≤ 1048576
+well-within n [] m w = elim m [ ]
 well-within n ((P or c) ∷ qs) m w = m.1 w.0
 
 -- of any call that asks so

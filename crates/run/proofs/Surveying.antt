@@ -1,8 +1,8 @@
 -- What a resume asks, in the card's order: what the survey of the strip tells at the image's place, and what the image shows there.
-use Prim.Native.Nat.{ℕ, ◌+◌, ◌*◌, ◌-◌, ◌^◌, ◌≤◌, ◌<◌}
+use Prim.Native.Nat.{ℕ, ◌+◌, ◌*◌, ◌-◌, ◌≤◌, ◌<◌}
 use mathlib.Core.Path.{◌≡◌, refl, ap, ap₂, sym, ◌∙◌, subst}
 use mathlib.Core.Bool.{Bool, true, false}
-use mathlib.Core.List.{List, [], ◌∷◌, ◌++◌, map, reverse, reverse-reverse}
+use mathlib.Core.List.{List, ◌++◌, map, reverse}
 use mathlib.Core.Logic.{inl, inr}
 use mathlib.Core.Option.{Option, some}
 use native.Mathlib.Omega.{arith}
@@ -18,33 +18,30 @@ use Rattle.image.specs.Slots.{Tells}
 use Rattle.image.specs.Image.{image_bytes, place_in, Shows}
 use Rattle.image.proofs.Judging.{told-yes, told-no}
 use Rattle.rules.specs.Header.{Header, locals}
-use Rattle.rules.specs.Typing.{Frame, all_values, Live}
+use Rattle.rules.specs.Typing.{Frame, all_values}
 use Rattle.rules.specs.Strip.{Reaches, Valid}
-use Rattle.rules.specs.Around.{Around}
 use Rattle.rules.proofs.Onward.{declared, reached-within, reached-once}
 use Rattle.rules.proofs.Verdicts.{breach-coded}
 use Rattle.checker.specs.declared.place.Surveyed.{Surveyed}
 use Rattle.checker.specs.Survey.{marks_of, fronted, Surveys, breaks, misses, finds}
 use Rattle.checker.proofs.Marks.{marks-many}
 use Rattle.checker.proofs.Surveys.{Found, survey-found, survey-nowhere}
-use Rattle.standard.specs.Standard.{Label, Config, whole_stack}
-use Rattle.standard.specs.Safety.{Nested, bodies}
+use Rattle.standard.specs.Standard.{Config, whole_stack}
+use Rattle.standard.specs.Safety.{Nested}
 use Rattle.standard.proofs.Nestings.{nested-many}
 use Rattle.standard.proofs.ValueKinds.{reverse-kinds, reverse-range}
 use Rattle.standard.proofs.Rebuilding.{Rebuilt, sound-some}
-use Rattle.run.specs.Meter.{Left, leaves, picture_of, meter}
-use Rattle.run.specs.Call.{Fails, TurnsAway, breaks as breaks-rule, fails, Calls, refused, metered}
-use Rattle.run.specs.Run.{Slots}
+use Rattle.run.specs.Meter.{leaves, meter}
+use Rattle.run.specs.Call.{Fails, breaks as breaks-rule, fails, refused, metered}
 use Rattle.run.specs.Resume.{Pictures, resume_asks, Resumes}
-use Rattle.run.specs.Inner.Carried.{Marked, open_in}
-use Rattle.run.specs.Inner.Steps.{lent, Resumable, Resumed}
+use Rattle.run.specs.Inner.Carried.{Marked}
+use Rattle.run.specs.Inner.Steps.{Resumable, Resumed}
 use Rattle.run.proofs.HeaderBytes.{Counts, counts-read, inside, local-count, local_kinds}
 use Rattle.run.proofs.Asking.{results-told}
 use Rattle.run.proofs.Marking.{marked-kept}
 use Rattle.run.proofs.Picturing.{frames, lowest-first, sound-shows, place-in, rebuilt-pictures}
 use Rattle.run.proofs.Pausing.{lent-some}
 use Rattle.run.proofs.Restoring.{reached-one, marks-of, bodies-many}
-use Rattle.run.proofs.Unique.{header-once}
 use Rattle.run.proofs.Answering.{turned-call}
 
 -- ---- what a survey tells of a strip that keeps the rules

@@ -15,7 +15,7 @@ use Rattle.instr.specs.declared.Instr.{Instr}
 use Rattle.instr.specs.declared.Decoded.{Decoded}
 use Rattle.instr.specs.Decode.{decode_at}
 use Rattle.machine.specs.Value.{Value, kind_of}
-use Rattle.machine.specs.Exec.{State, Outcome, goes, trap, exec}
+use Rattle.machine.specs.Exec.{State, Outcome, goes, done, trap, stuck, exec}
 use Rattle.rules.specs.Header.{Header, locals}
 use Rattle.rules.specs.Typing.{Frame, holding, all_values, Types, ordinary, branches, may_branch, opens_block, opens_loop, closes, Live}
 use Rattle.rules.specs.Strip.{Reads, Within, Valid}
@@ -108,8 +108,10 @@ module _ {s : List ℕ} (h : Header) (c : Config) {f : Frame} {fs : List Frame} 
     ordinary-way (goes τ) q (on kept) =
         goes_to r (ordinary-group k e d) (over-at whole q (room kept)) (steps ∙ ap (after c n) q ∙ goes_after c fits n w kept)
     ordinary-way (trap a m) q (strayed l) = traps-at r (ordinary-group k e d) (over-trapped whole q) (steps ∙ ap (after c n) q)
+    ordinary-way (done vs) q fine = elim fine [ ]
+    ordinary-way stuck q fine = elim fine [ ]
 
-typed-way : {s : List ℕ} (h : Header) (c : Config) {f : Frame} {fs fs' : List Frame} {n : ℕ} {i : Instr} {k : Code} → Fits s h f fs c → Live (f ∷ fs) → Reads h.version s c.place i k n
+typed-way : {s : List ℕ} (h : Header) (c : Config) {f : Frame} {fs : List Frame} {n : ℕ} {i : Instr} {k : Code} {fs' : List Frame} → Fits s h f fs c → Live (f ∷ fs) → Reads h.version s c.place i k n
     → Types (locals h) i k (f ∷ fs) fs' → Within fs' → Way s h c i n
 typed-way h c {fs = fs} {n = n} {i} {k} fits live r (ordinary {outs = outs} {below = below} {f = f} t x) w =
     ordinary-way h c fits r (end-untyped t) (λ y. control-untyped t) w (exec h.results k i c.state) refl

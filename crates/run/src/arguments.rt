@@ -11,6 +11,6 @@ pub(crate) fn locals_of(args: &[u8], count: usize) -> Locals
     ensures { (result.bytes ≡ stored (replicate local_bytes 0) 0 args.now) × (result.count ≡ count) }
 {
     let mut bytes = [0u8; limits::LOCAL_BYTES];
-    bytes::copy(args, &mut bytes);
+    buffer::copy(args, &mut bytes);
     Locals { bytes, count }
 }

@@ -13,14 +13,14 @@ use crate::ends::end_of;
 use checker::LOOP;
 
 // Where the strip goes on, and the values there. Place 0: it is left, with its results from the slot `depth` on.
-#[derive(Drop)]
+#[derive(Clone, Copy)]
 pub(crate) struct Next {
     pub at: usize,
     pub depth: usize,
 }
 
 // The same of a branch, and the blocks that are open there.
-#[derive(Drop)]
+#[derive(Clone, Copy)]
 pub(crate) struct Target {
     pub at: usize,
     pub depth: usize,

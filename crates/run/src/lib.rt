@@ -1,4 +1,6 @@
 // A run with a budget, and a run that is resumed: what is asked first, then the instructions.
+#![tactic(auto)]
+
 mod arguments;
 mod blocks;
 mod ends;
@@ -16,13 +18,13 @@ use card::Answer;
 pub use resuming::resume;
 
 // The operand stack: slots of which the lowest `depth` hold values.
-#[derive(Drop)]
+#[derive(Clone, Copy)]
 pub(crate) struct Stack {
     pub bytes: [u8; limits::STACK_BYTES],
     pub depth: usize,
 }
 
-#[derive(Drop)]
+#[derive(Clone, Copy)]
 pub(crate) struct Locals {
     pub bytes: [u8; limits::LOCAL_BYTES],
     pub count: usize,
@@ -30,7 +32,7 @@ pub(crate) struct Locals {
 
 // The blocks that are open: three numbers for each, the outermost first, and at last how many there are. This is a number of the array so that the
 // loop over the instructions need not hold it.
-#[derive(Drop)]
+#[derive(Clone, Copy)]
 pub(crate) struct Labels {
     pub marks: [usize; MARKS],
 }
@@ -40,7 +42,7 @@ pub(crate) const OPEN: usize = checker::OPEN;
 pub(crate) const MARKS: usize = checker::MARKS;
 
 // The ends of blocks that a branch has looked for.
-#[derive(Drop)]
+#[derive(Clone, Copy)]
 pub(crate) struct Closings {
     pub words: [u32; ENDS],
 }

@@ -113,7 +113,7 @@ fn stack_in(image: &[u8], depth: usize) -> Stack
     let mut bytes = [0u8; limits::STACK_BYTES];
     let from = image::FRONT + limits::LOCAL_BYTES;
     let end = from + limits::STACK_BYTES;
-    bytes::copy(&image[from..end], &mut bytes);
+    buffer::copy(&image[from..end], &mut bytes);
     Stack { bytes, depth }
 }
 
@@ -125,6 +125,6 @@ fn locals_in(image: &[u8], count: usize) -> Locals
     let mut bytes = [0u8; limits::LOCAL_BYTES];
     let from = image::FRONT;
     let end = from + limits::LOCAL_BYTES;
-    bytes::copy(&image[from..end], &mut bytes);
+    buffer::copy(&image[from..end], &mut bytes);
     Locals { bytes, count }
 }

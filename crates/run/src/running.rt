@@ -60,7 +60,7 @@ pub(crate) fn drive(
 }
 
 // Why it stopped, and how many values are on the stack there.
-#[derive(Drop)]
+#[derive(Clone, Copy)]
 pub(crate) struct Stop {
     pub code: u8,
     pub place: usize,
@@ -171,5 +171,5 @@ fn put_results(stack: &[u8], from: usize, out: &mut [u8])
 {
     let first = limits::SLOT * from;
     let end = first + out.len();
-    bytes::copy(&stack[first..end], out);
+    buffer::copy(&stack[first..end], out);
 }

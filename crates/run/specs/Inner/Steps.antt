@@ -10,7 +10,7 @@ use Rattle.image.specs.Image.{image_bytes, painted}
 use Rattle.rules.specs.Header.{Header, locals}
 use Rattle.rules.specs.Strip.{Valid}
 use Rattle.standard.specs.Standard.{Config, whole_stack, begin}
-use Rattle.run.specs.Meter.{Left, leaves, meter, paused}
+use Rattle.run.specs.Meter.{leaves, meter, paused}
 use Rattle.run.specs.Call.{TurnsAway}
 use Rattle.run.specs.Run.{Slots, run_asks}
 use Rattle.run.specs.Resume.{Pictures}
