@@ -1,10 +1,12 @@
 // The rewriter: the same strip, every number in its shortest form.
+#![tactic(auto)]
+
 ghost use Rattle.std.specs.Prelude.{◌≡◌, length};
 ghost use Rattle.rules.specs.Strip.{Valid};
 ghost use Rattle.rewrite.specs.Rewrite.{answer, Rewrites};
 ghost use Rattle.rewrite.specs.Inner.Pass.{AtPass, Passed};
 
-#[derive(Drop)]
+#[derive(Clone, Copy)]
 pub struct Rewritten {
     pub code: u8,
     pub place: usize,
@@ -32,7 +34,7 @@ fn shorten(strip: &[u8], out: &mut [u8]) -> Rewritten
     if out.len() < len {
         return refused(card::SMALL, 0);
     }
-    bytes::copy(&strip[..start], out);
+    buffer::copy(&strip[..start], out);
     pass(version, strip, start, out, true);
     Rewritten {
         code: card::DONE,
