@@ -1,4 +1,6 @@
 // The listing of a strip as text (02, C-11, C-13): one line an instruction, with the kinds on the stack before it.
+#![tactic(auto)]
+
 mod immediates;
 mod line;
 mod stack;
@@ -12,7 +14,7 @@ ghost use Rattle.listing.specs.Inner.Pass.{Passed};
 
 use checker::State;
 
-#[derive(Drop)]
+#[derive(Clone, Copy)]
 pub struct Listed {
     pub code: u8,
     pub place: usize,
@@ -20,7 +22,7 @@ pub struct Listed {
 }
 
 // After a line: the next instruction's place, what is known there, and the line's length.
-#[derive(Drop)]
+#[derive(Clone, Copy)]
 pub struct Next {
     pub at: usize,
     pub state: State,
