@@ -1,5 +1,7 @@
 // Strips rewritten; stdout has what documents 01 and 02 say of each, worked out by hand. Each row: code, place, length, the output, which was all EE.
-use libc::STDOUT_FILENO;
+#![tactic(auto)]
+
+use hexadecimal::STDOUT_FILENO;
 
 fn main() {
     shortened();
