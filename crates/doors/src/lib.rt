@@ -1,4 +1,6 @@
 // The doors for the firmware, which is C: include/gevurlat.h declares them.
+#![tactic(auto)]
+
 ghost use Rattle.std.specs.Prelude.{◌<◌, ◌^◌, ◌≡◌};
 ghost use Rattle.std.proofs.Math.Option.{none, some};
 ghost use Rattle.checker.specs.Check.{Checked};
