@@ -3,7 +3,7 @@ ghost use Rattle.std.specs.Prelude.{◌≡◌, length};
 ghost use Rattle.io.specs.Counts.{IsPrefixLen};
 
 use cases::{answer, bytes_in, decimal, end_line, length_in, name, number_in, strip_room};
-use libc::STDOUT_FILENO;
+use hexadecimal::STDOUT_FILENO;
 
 // Every listing that is to be printed has room here; one that comes to 256 values has over a hundred thousand bytes.
 const LISTING: usize = 262144;

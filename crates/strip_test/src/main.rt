@@ -3,25 +3,27 @@
 // listing stands in the lines below. stdout was worked out by bench/strip_cases, a check, a run, a rewriter and a lister in C that were written from
 // documents 01, 02 and 002 and Core's table of opcodes with no use of this code, that of request C-15's cases before they were first run here. What
 // the older cases answer had been worked out before, by others in another language, and is the same but where a limit moved.
+#![tactic(auto)]
+
 mod list;
 
 use cases::{
     answer, bytes_in, changes, decimal, end_line, fill, find, hex, length_in, memory_room, name,
     number_in, strip_room,
 };
+use input::Input;
 use list::{list, rooms};
+use std::fs::File;
+use std::io::{Error, ErrorKind};
 
-fn main() {
-    let path = b"cases.txt";
-    let fd = os::open_read(path);
-    if fd < 0 {
-        os::fail(path);
-        return;
-    }
+fn main(rt: HostRuntime) -> std::io::Result<()> {
+    let mut file = File::open(&rt, "cases.txt")?;
     let mut text = [0u8; 131072];
-    let n = io::read_full(fd, &mut text);
-    libc::close(fd);
+    let Input::Bytes(n) = input::read_all(&mut file, &mut text) else {
+        return Err(Error::new(ErrorKind::Other, "cases.txt cannot be read"));
+    };
     lines(&text[..n]);
+    Ok(())
 }
 
 fn lines(s: &[u8]) {
