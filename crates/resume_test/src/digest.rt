@@ -1,5 +1,5 @@
 // One number for much that calls leave.
-use libc::STDOUT_FILENO;
+use hexadecimal::STDOUT_FILENO;
 use strip::Answer;
 
 pub(crate) const EMPTY: u32 = 5381;

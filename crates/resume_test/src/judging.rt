@@ -3,7 +3,7 @@ use crate::{BUFFER, digest, in_32_bits, left};
 use cases::{
     bytes_in, decimal, end_line, fill, length_in, memory_room, name, number_in, strip_room,
 };
-use libc::STDOUT_FILENO;
+use hexadecimal::STDOUT_FILENO;
 use strip::Answer;
 
 // Strips that are resumed from many images are short.

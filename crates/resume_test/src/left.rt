@@ -2,7 +2,7 @@
 ghost use Rattle.std.specs.Prelude.{◌≤◌, ◌<◌, length};
 
 use cases::{answer, changes, hex};
-use libc::STDOUT_FILENO;
+use hexadecimal::STDOUT_FILENO;
 use strip::Answer;
 
 pub(crate) fn print(a: Answer, mem: &[u8], results: &[u8]) {

@@ -1,6 +1,8 @@
 // Runs in slices (requests C-14, C-15), as the lines of data/cases.txt say: budgets that are cut, and images that are good or not. Each line says
 // what was answered and what was left: the results, each part of the memory that has changed, and the image. stdout was worked out by
 // bench/resume_cases, an interpreter in C that was written from documents 01 and 02 with no use of this code, before this was first run.
+#![tactic(auto)]
+
 mod cutting;
 mod digest;
 mod judging;
@@ -8,22 +10,22 @@ mod left;
 
 use cases::find;
 use cutting::{cut, slices};
+use input::Input;
 use judging::{bytes, places, resume};
+use std::fs::File;
+use std::io::{Error, ErrorKind};
 
 // More bytes than an image has.
 const BUFFER: usize = image::BYTES + 64;
 
-fn main() {
-    let path = b"cases.txt";
-    let fd = os::open_read(path);
-    if fd < 0 {
-        os::fail(path);
-        return;
-    }
+fn main(rt: HostRuntime) -> std::io::Result<()> {
+    let mut file = File::open(&rt, "cases.txt")?;
     let mut text = io::large_buffer();
-    let n = io::read_full(fd, &mut text);
-    libc::close(fd);
+    let Input::Bytes(n) = input::read_all(&mut file, &mut text) else {
+        return Err(Error::new(ErrorKind::Other, "cases.txt cannot be read"));
+    };
     lines(&text[..n]);
+    Ok(())
 }
 
 fn lines(s: &[u8]) {
