@@ -2,9 +2,9 @@
 ghost use Rattle.std.specs.Prelude.{◌<◌, length};
 ghost use Rattle.io.specs.Counts.{IsPrefixLen};
 
+use crate::lines::{bytes_at, field, number_at};
 use crate::part::within;
 use crate::report::report;
-use crate::text::{bytes_at, field, number_at};
 use card::Answer;
 
 // More than any strip of the file has instructions.
@@ -14,7 +14,7 @@ const BUDGET: u32 = 1000000;
 const UNTOUCHED: u8 = 0xEE;
 
 // What the check answered and the strip's byte at that place, what the run did, and the results after it.
-#[derive(Drop)]
+#[derive(Clone, Copy)]
 pub(crate) struct Got {
     pub verdict: Answer,
     pub named: u8,

@@ -1,14 +1,14 @@
 // How many cases there were of each sort, and how many of them differed.
-use libc::STDOUT_FILENO;
+use hexadecimal::STDOUT_FILENO;
 
-#[derive(Drop)]
+#[derive(Clone, Copy)]
 pub(crate) enum Sort {
     Call,
     Trap,
     Refusal,
 }
 
-#[derive(Drop)]
+#[derive(Clone, Copy)]
 pub(crate) struct Count {
     calls: u64,
     traps: u64,

@@ -1,6 +1,6 @@
 // A group of cases shares a memory.
+use crate::lines::{bytes_at, field, number_at};
 use crate::part::within;
-use crate::text::{bytes_at, field, number_at};
 
 // `memory N`: that many bytes, all zero; answers their number. `memory skip` is none.
 pub(crate) fn begin(s: &[u8], at: usize, memory: &mut [u8]) -> usize {

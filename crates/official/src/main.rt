@@ -1,36 +1,40 @@
 // Runs the official WebAssembly tests that fit strips: data/official-simd.txt, of version 1, and data/official-control.txt, of version 2;
 // README.md says how their lines are read. Prints for each file of the suite how many cases it has and how many of them differ, and
 // after those of each text the same of all.
+#![tactic(auto)]
+
 mod case;
 mod count;
 mod group;
+mod lines;
 mod part;
 mod report;
-mod text;
 
 ghost use Rattle.std.specs.Prelude.{◌≡◌, ◌<◌, length};
 
 use count::{Count, Sort};
-use libc::STDOUT_FILENO;
-use text::{field, next_line, number_at};
+use hexadecimal::STDOUT_FILENO;
+use input::Input;
+use lines::{field, next_line, number_at};
+use std::fs::File;
+use std::io::{Error, ErrorKind};
+use std::rt::Files;
 
-fn main() {
-    text_at(b"official-simd.txt");
-    text_at(b"official-control.txt");
+fn main(rt: HostRuntime) -> std::io::Result<()> {
+    text_at(&rt, "official-simd.txt")?;
+    text_at(&rt, "official-control.txt")
 }
 
-fn text_at(path: &[u8]) {
-    let fd = os::open_read(path);
-    if fd < 0 {
-        os::fail(path);
-        return;
-    }
+fn text_at<R: Files>(rt: &R, path: &str) -> std::io::Result<()> {
+    let mut file = File::open(rt, path)?;
     let mut text = room();
-    let n = io::read_full(fd, &mut text);
-    libc::close(fd);
+    let Input::Bytes(n) = input::read_all(&mut file, &mut text) else {
+        return Err(Error::new(ErrorKind::Other, "a text cannot be read"));
+    };
     let mut strips = [0usize; 2048];
     let mut memory = io::large_buffer();
     run(&text[..n], &mut strips, &mut memory);
+    Ok(())
 }
 
 // For the whole text.
@@ -41,7 +45,7 @@ fn room() -> [u8; 1048576]
 }
 
 // The bytes of the group's memory, the cases so far of this file and those of the files before it.
-#[derive(Drop)]
+#[derive(Clone, Copy)]
 struct State {
     memory: usize,
     file: Count,

@@ -2,9 +2,9 @@
 ghost use Rattle.std.specs.Prelude.{◌<◌, length};
 
 use crate::case::Got;
-use crate::text::next_line;
+use crate::lines::next_line;
 use card::Answer;
-use libc::STDOUT_FILENO;
+use hexadecimal::STDOUT_FILENO;
 
 // The rest of the line at `at`.
 pub(crate) fn name(s: &[u8], at: usize) {
