@@ -6,8 +6,6 @@ use native.Mathlib.Omega.{arith}
 use borrow.Author.Tests.{eq-eqb, ne_eqb}
 use lib.ListN.{length, take, length-append}
 use lib.Seq.{length-take-le}
-use mir.Syntax.{w8, w32, w64}
-use mir.Val.{Fits}
 use Rattle.io.specs.Counts.{IsPrefixLen}
 use Rattle.card.specs.Card.{DONE}
 use Rattle.card.specs.declared.Answer.{Answer}
@@ -30,21 +28,18 @@ from_front {after = after} {next} p room =
     let within : next + 0 ≤ length after = room-left 0 p (omega arith) in
     ((omega arith, sym (length-take-le next after (omega arith))), text-grows p (omega arith))
 
--- what the prover knows of an answer's fields
-abbrev Small : Answer → Type 0
-Small a = Fits w8 a.code × (Fits w64 a.place × (Fits w32 a.steps × Unit {0}))
-
-module _ (a : Answer) (small : Small a) (results : List ℕ) {out₀ out₁ : List ℕ} {i : ℕ} (room : 63 + 3 * length results ≤ length out₀)
+module _ (a : Answer) (small-code : a.code < 2 ^ 8) (small-place : a.place < 2 ^ 64) (small-steps : a.steps < 2 ^ 32) (results : List ℕ)
+    {out₀ out₁ : List ℕ} {i : ℕ} (room : 63 + 3 * length results ≤ length out₀)
     (p : Appends (decimal a.code ++ blank ∷ []) out₀ 0 i out₁) where
   code-short : length (decimal a.code ++ blank ∷ []) ≤ 21
-  code-short = number_short a.code blank (omega (arith, small.0.fits))
+  code-short = number_short a.code blank (omega (arith, small-code))
 
   pub place-room : i + 21 ≤ length out₁
   place-room = room-left 21 p (omega (arith, code-short))
 
   module _ {out₂ : List ℕ} {j : ℕ} (q : Appends (decimal a.place ++ blank ∷ []) out₁ i j out₂) where
     place_short : length (decimal a.place ++ blank ∷ []) ≤ 21
-    place_short = number_short a.place blank (omega (arith, small.1.0.fits))
+    place_short = number_short a.place blank (omega (arith, small-place))
 
     abbrev two : List ℕ
     two = (decimal a.code ++ blank ∷ []) ++ (decimal a.place ++ blank ∷ [])
@@ -60,7 +55,7 @@ module _ (a : Answer) (small : Small a) (results : List ℕ) {out₀ out₁ : Li
 
     module _ {out₃ : List ℕ} {k : ℕ} (r : Appends (decimal a.steps ++ newline ∷ []) out₂ j k out₃) where
       steps-short : length (decimal a.steps ++ newline ∷ []) ≤ 21
-      steps-short = number_short a.steps newline (omega (arith, small.1.1.0.fits))
+      steps-short = number_short a.steps newline (omega (arith, small-steps))
 
       abbrev row : List ℕ
       row = two ++ (decimal a.steps ++ newline ∷ [])
