@@ -1,7 +1,8 @@
 // The listing of a strip that keeps every rule.
 ghost use Rattle.rules.specs.Strip.{Valid};
 
-pub(crate) fn print(strip: &[u8])
+// Whether it was written.
+pub(crate) fn print(strip: &[u8]) -> bool
     requires { Valid strip.now }
 {
     let mut kinds = [0u8; limits::STACK];
@@ -13,9 +14,10 @@ pub(crate) fn print(strip: &[u8])
         let n = listing::next_line(strip, at, &mut kinds, &mut blocks, state, &mut text);
         let len = n.len;
         if !crate::wrote(&text[..len]) {
-            return;
+            return false;
         }
         state = n.state;
         at = n.at;
     }
+    true
 }
