@@ -2,8 +2,8 @@
  * Gevurlat: the check of a strip and its run, at once or in slices, for firmware
  * in C99 or C++. Link with libdoors.a; docs/FIRMWARE.md says how it is built.
  *
- * Every function returns, whatever bytes come in. They call memcpy and memset
- * and nothing else, allocate nothing and keep nothing between two calls.
+ * Every function returns, whatever bytes come in. They call memcpy, memmove and
+ * memset and nothing else, allocate nothing and keep nothing between two calls.
  * docs/FIRMWARE.md says how much stack each takes.
  *
  * What the caller owes, since nothing proves a C caller:
