@@ -5,10 +5,8 @@ use Rattle.run.proofs.Promises.{run_call, place-most}
 use Rattle.doors.proofs.Reading.{called}
 use Rattle.doors.proofs.gevurlat_start.Goals as goal
 
--- src/lib.rt:46:5
 pub pack-requires : goal.pack-requires
 pack-requires c = omega (arith, place-most (run_call (some _) (λ k. (c.slice_known-1.given k).fits)) c.run-started.ensures (λ k. (c.type_inv.strip k).fits))
 
--- src/lib.rt:34:1
 pub returns : goal.returns
 returns c = called c.pack.result c.run-started.result c.pack.ensures (Runs _ _ _ _ (some _) _) _ _ _ c.run-started.ensures

@@ -6,7 +6,6 @@ use Rattle.operation.specs.Vector.{le}
 use Rattle.machine.specs.Inner.Flat.{put_slot, low32}
 use Rattle.machine.proofs.step.numbers.lt_u.Goals as goal
 
--- src/step/numbers.rt:62:1
 pub returns : goal.returns
 returns c =
     let a = c.args in
