@@ -56,7 +56,7 @@ pub const TRAP: u8 = 30;
 pub const BUDGET: u8 = 31;
 
 // What is answered of a strip: a code, a place in it, and the instructions completed.
-#[derive(Clone, Copy)]
+#[derive(Clone, Copy, PartialEq, Eq)]
 pub struct Answer {
     pub code: u8,
     pub place: usize,

@@ -2,9 +2,7 @@
 #![tactic(auto)]
 
 mod reading;
-mod rooms;
 mod showing;
 
-pub use reading::{bytes_in, field, find, length_in, number_in};
-pub use rooms::{memory_room, strip_room};
-pub use showing::{answer, changes, decimal, end_line, fill, hex, name};
+pub use reading::{Case, Fields};
+pub use showing::{Left, UNTOUCHED, memory};

@@ -1,68 +1,65 @@
-// What is printed: words with a blank between them.
-use crate::reading::{field, find};
-use hexadecimal::STDOUT_FILENO;
+// What is printed of a call.
+ghost use Rattle.std.specs.Prelude.{◌≡◌, ◌%◌, IfOk, EachIndex, slice_index, vec_len};
 
-// The line's second word.
-pub fn name(line: &[u8]) {
-    let from = field(line, 1);
-    let to = find(line, from, b' ');
-    io::write_all(STDOUT_FILENO, &line[from..to]);
-}
+use card::Answer;
+use hexadecimal::Hex;
+use std::alloc::{AllocError, Global};
+use std::fmt;
 
-pub fn answer(code: u8, place: usize, last: usize) {
-    decimal(code as u64);
-    decimal(place as u64);
-    decimal(last as u64);
-}
-
-pub fn decimal(n: u64) {
-    blank();
-    io::print_decimal(STDOUT_FILENO, n);
-}
-
-pub fn hex(s: &[u8]) {
-    if 0 < s.len() {
-        blank();
-    }
-    hexadecimal::print(s);
-}
-
-fn blank() {
-    io::write_all(STDOUT_FILENO, b" ");
-}
-
-pub fn end_line() {
-    io::write_all(STDOUT_FILENO, b"\n");
-}
+// What results, images and outputs hold before a call.
+pub const UNTOUCHED: u8 = 0xEE;
 
 // What the memory holds before a run, at each address.
-fn before(i: usize) -> u8 {
-    (i % 256) as u8
+fn before(address: usize) -> u8
+    ensures { result ≡ address % 256 }
+{
+    (address % 256) as u8
 }
 
-pub fn fill(mem: &mut [u8]) {
-    let mut i = 0;
-    while i < mem.len() {
-        mem[i] = before(i);
-        i += 1;
+// A memory of so many bytes, as it is before a run.
+pub fn memory(alloc: Global, len: usize) -> Result<Vec<u8>, AllocError>
+    ensures len { IfOk result (λ bytes. vec_len bytes ≡ len) }
+    ensures values { IfOk result (λ bytes. EachIndex bytes.items (λ k. slice_index bytes.items k ≡ k % 256)) }
+{
+    (0..len).map(before).collect(alloc)
+}
+
+// What a call leaves: the answer, the results if there are any, and each part of the memory that is not as it was.
+#[derive(Drop)]
+pub struct Left<'a> {
+    pub answer: Answer,
+    pub results: &'a [u8],
+    pub memory: &'a [u8],
+}
+
+impl<'a> fmt::Display for Left<'a> {
+    fn fmt<W: fmt::Write>(&self, f: &mut fmt::Formatter<W>) -> fmt::Result {
+        let Answer { code, place, steps } = self.answer;
+        write!(f, "{code} {place} {steps}")?;
+        if !self.results.is_empty() {
+            write!(f, " {}", Hex(self.results))?;
+        }
+        write!(f, "{}", Changes(self.memory))
     }
 }
 
-// Each part of the memory that is not as it was: its first address and its bytes.
-pub fn changes(mem: &[u8]) {
-    let mut inside = false;
-    let mut i = 0;
-    while i < mem.len() {
-        let changed = mem[i] != before(i);
-        if changed {
-            if !inside {
-                blank();
-                io::print_decimal(STDOUT_FILENO, i as u64);
-                io::write_all(STDOUT_FILENO, b":");
+// Of each part its first address and its bytes.
+#[derive(Clone, Copy)]
+struct Changes<'a>(&'a [u8]);
+
+impl<'a> fmt::Display for Changes<'a> {
+    fn fmt<W: fmt::Write>(&self, f: &mut fmt::Formatter<W>) -> fmt::Result {
+        let mut inside = false;
+        for (address, byte) in self.0.iter().enumerate() {
+            let changed = *byte != before(address);
+            if changed && !inside {
+                write!(f, " {address}:")?;
             }
-            hexadecimal::print_byte(mem[i]);
+            if changed {
+                write!(f, "{byte:02x}")?;
+            }
+            inside = changed;
         }
-        inside = changed;
-        i += 1;
+        Ok(())
     }
 }

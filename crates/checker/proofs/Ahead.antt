@@ -1,12 +1,12 @@
 -- A strip that keeps every rule: at a place that is reached stands its own `end`, the last, or an instruction after which the next place is reached.
 use Prim.Native.Nat.{ℕ, ◌+◌, ◌<◌}
 use mathlib.Core.Path.{◌≡◌, refl, sym, ap, subst, ◌∙◌}
-use mathlib.Core.Bool.{Bool}
 use mathlib.Core.List.{List, [], ◌∷◌}
 use mathlib.Core.Logic.{◌⊎◌, inl, inr}
 use native.Mathlib.Omega.{arith}
 use lib.ListN.{length}
-use Rattle.card.specs.Card.{DONE}
+use Rattle.std.specs.Prelude.{Ok, Err}
+use Rattle.std.specs.declared.result.Result.{Result}
 use Rattle.opcode.specs.Kind.{Kind}
 use Rattle.opcode.specs.Table.{End, Code, plain}
 use Rattle.instr.specs.declared.Instr.{Instr}
@@ -17,6 +17,7 @@ use Rattle.rules.specs.Strip.{Reads, Within, Reaches, Valid}
 use Rattle.rules.proofs.Typings.{types-once}
 use Rattle.rules.proofs.Sorts.{typed-local, typed-label, typed-opens, typed-ends, typed-inner}
 use Rattle.rules.proofs.Onward.{Onward, here, next, from_front, reads-once, compare}
+use Rattle.checker.specs.declared.turns.State.{State}
 use Rattle.checker.specs.Walk.{Framed}
 use Rattle.checker.specs.Inner.Judging.{Judges, no_local, too_nested, no_label, untyped, no_results, too_deep, typed}
 
@@ -54,12 +55,16 @@ reached-inside v a = let it = ahead-read (ahead v a) in omega (arith, stands-som
 
 -- what is typed is not turned away
 module _ {ls : List Kind} {i : Instr} {c : Code} {fs fs' : List Frame} (t : Types ls i c fs fs') (w : Within fs') where
-  pub passed : {rs : List Kind} {kinds blocks : List ℕ} {depth nest floor code : ℕ} {dead : Bool} → Judges ls rs i c fs kinds blocks depth nest floor dead code
-      → (code ≡ DONE) × Framed rs kinds blocks depth nest floor dead fs'
+  -- so a judgement tells what is known then
+  abbrev pub Passes : List Kind → List ℕ → List ℕ → Result State ℕ → Type 0
+  Passes rs kinds blocks (Ok st) = Framed rs kinds blocks st.depth st.nest st.floor st.dead fs'
+  Passes rs kinds blocks (Err e) = ⊥
+
+  pub passed : {rs : List Kind} {kinds blocks : List ℕ} {r : Result State ℕ} → Judges ls rs i c fs kinds blocks r → Passes rs kinds blocks r
   passed (no_local names f) = let k = typed-local t names in absurd (f k.0 k.1)
   passed (too_nested o big) = absurd (let z : ⊥ = omega (arith, (typed-opens t o).0, w.blocks) in z)
   passed (no_label b f) = let k = typed-label t b in absurd (f k.0 k.1)
   passed (untyped e names labels f) = absurd (f fs' t)
   passed (no_results e f) = absurd (f (typed-ends t e))
   passed (too_deep u big) = absurd (let z : ⊥ = omega (arith, ap (λ (x : List Frame). length (all_values x)) (types-once u t), w.values) in z)
-  passed {rs} {kinds} {blocks} {depth} {nest} {floor} {dead = dead} (typed u f) = (refl, subst (Framed rs kinds blocks depth nest floor dead) (types-once u t) f)
+  passed {rs} {kinds} {blocks} (typed {st} u f) = subst (Framed rs kinds blocks st.depth st.nest st.floor st.dead) (types-once u t) f

@@ -6,7 +6,9 @@ use mathlib.Core.List.{List, [], ◌∷◌, ◌++◌, map, reverse, append-nil, 
 use mathlib.Core.Option.{some}
 use native.Mathlib.Omega.{arith}
 use lib.ListN.{length, set, length-append, length-reverse}
-use Rattle.card.specs.Card.{DONE, OPERAND, DEEP}
+use Rattle.std.specs.Prelude.{Some, None, Ok, Err}
+use Rattle.std.specs.declared.result.Result.{Result}
+use Rattle.card.specs.Card.{OPERAND, DEEP}
 use Rattle.limits.specs.Limits.{stack_limit}
 use Rattle.operation.specs.Vector.{number}
 use Rattle.opcode.specs.Kind.{Kind, kind_byte}
@@ -40,44 +42,42 @@ module _ {ins outs : List Kind} {effect : ℕ} (small : Small ins outs) (is : pa
   one_left (k ∷ []) e z = (k, e, omega (arith, high_byte, ap (λ (x : List Kind). number (map kind_byte x)) e))
   one_left (k ∷ j ∷ os) e z = absurd (let no : ⊥ = omega (arith, small.one, ap length e) in no)
 
-  module _ {outer : List Kind} {f : Frame} {kinds : List ℕ} {depth floor base : ℕ} {dead : Bool} (t : Top kinds depth floor dead outer f) (l : depth ≤ stack_limit) (u : Under f ins floor base) where
-    pub applies-lacks : {after : List ℕ} {d : ℕ} → stack_limit < base → Applies outer f ins outs after OPERAND d
-    applies-lacks b = lacks (under_none t u l b)
-
-    pub applies-none : base ≤ stack_limit → effect / 2 ^ 24 ≡ 0 → Applies outer f ins outs kinds DONE base
+  module _ {outer : List Kind} {f : Frame} {kinds : List ℕ} {depth floor base : ℕ} {dead : Bool} (t : Top kinds depth floor dead outer f) (u : Under f ins floor (Some base)) where
+    pub applies-none : base ≤ stack_limit → effect / 2 ^ 24 ≡ 0 → Applies outer f ins outs kinds (Ok base)
     applies-none b z =
-        let it = under-below u b in
+        let it = under-below u refl in
         let same : it.0 ++ outs ≡ it.0 = ap (λ (x : List Kind). it.0 ++ x) (none_left outs refl z) ∙ append-nil it.0 in
         let whole : outer ++ (it.0 ++ outs) ≡ outer ++ it.0 = ap (λ (x : List Kind). outer ++ x) same in
         let held = subst (λ (n : ℕ). KindBytes kinds n (outer ++ it.0)) it.2 (part t it.1) in
         fits it.0 it.1 (omega (arith, ap length whole, held.many)) (subst (KindBytes kinds base) (sym whole) held)
 
-    pub applies-over : {after : List ℕ} {d : ℕ} → (effect / 2 ^ 24 ≡ 0 → ⊥) → base ≡ stack_limit → Applies outer f ins outs after DEEP d
+    pub applies-over : {after : List ℕ} → (effect / 2 ^ 24 ≡ 0 → ⊥) → base ≡ stack_limit → Applies outer f ins outs after (Err DEEP)
     applies-over z b =
-        let it = under-below u (omega arith) in
+        let it = under-below u refl in
         over it.0 it.1 (omega (arith, it.2, t.floor_is, length-append outer (it.0 ++ outs), length-append it.0 outs, ap length (one_left outs refl z).1))
 
-    pub applies-one : (effect / 2 ^ 24 ≡ 0 → ⊥) → length kinds ≡ stack_limit → base < stack_limit → Applies outer f ins outs (set kinds base (effect / 2 ^ 24)) DONE (base + 1)
+    pub applies-one : (effect / 2 ^ 24 ≡ 0 → ⊥) → length kinds ≡ stack_limit → base < stack_limit → Applies outer f ins outs (set kinds base (effect / 2 ^ 24)) (Ok (base + 1))
     applies-one z long b =
-        let it = under-below u (omega arith) in
+        let it = under-below u refl in
         let k = one_left outs refl z in
         let held = subst (λ (n : ℕ). KindBytes kinds n (outer ++ it.0)) it.2 (part t it.1) in
         let more : KindBytes (set kinds base (effect / 2 ^ 24)) (base + 1) ((outer ++ it.0) ++ outs) = rw (k.1, k.2) (held_more held (omega arith) k.0) in
         let whole = subst (KindBytes (set kinds base (effect / 2 ^ 24)) (base + 1)) (append_assoc outer it.0 outs) more in
         fits it.0 it.1 (omega (arith, whole.many)) whole
 
+-- they are not there
+pub applies-lacks : {outer ins outs : List Kind} {f : Frame} {floor : ℕ} {after : List ℕ} → Under f ins floor None → Applies outer f ins outs after (Err OPERAND)
+applies-lacks u = lacks (under_none u refl)
+
 -- of any kinds
 module _ {ins outs outer : List Kind} {f : Frame} {kinds after : List ℕ} {depth floor base : ℕ} {dead : Bool}
-    (t : Top kinds depth floor dead outer f) (l : depth ≤ stack_limit) (u : Under f ins floor base) where
-  pub exchanges-lacks : {d : ℕ} → stack_limit < base → Applies outer f ins outs after OPERAND d
-  exchanges-lacks b = lacks (under_none t u l b)
-
-  by-leaving : {code d : ℕ} (below : List Kind) → Has f below ins → Leaves (outer ++ below) outs after code d → Applies outer f ins outs after code d
+    (t : Top kinds depth floor dead outer f) (u : Under f ins floor (Some base)) where
+  by-leaving : {r : Result ℕ ℕ} (below : List Kind) → Has f below ins → Leaves (outer ++ below) outs after r → Applies outer f ins outs after r
   by-leaving below h (too_many big) = over below h (subst (λ (x : List Kind). stack_limit < length x) (append_assoc outer below outs) big)
-  by-leaving {d = d} below h (left-all small g) =
+  by-leaving below h (left-all {d} small g) =
       fits below h (subst (λ (x : List Kind). length x ≤ stack_limit) (append_assoc outer below outs) small) (subst (KindBytes after d) (append_assoc outer below outs) g)
 
-  pub exchanges : {code d : ℕ} → base ≤ stack_limit → ((below : List Kind) → KindBytes kinds base below → Leaves below outs after code d) → Applies outer f ins outs after code d
-  exchanges b left =
-      let it = under-below u b in
+  pub exchanges : {r : Result ℕ ℕ} → ((below : List Kind) → KindBytes kinds base below → Leaves below outs after r) → Applies outer f ins outs after r
+  exchanges left =
+      let it = under-below u refl in
       by-leaving it.0 it.1 (left (outer ++ it.0) (subst (λ (n : ℕ). KindBytes kinds n (outer ++ it.0)) it.2 (part t it.1)))

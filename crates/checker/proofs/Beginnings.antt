@@ -6,7 +6,8 @@ use mathlib.Core.List.{List, [], ◌∷◌, ◌++◌, append-nil}
 use native.Mathlib.Omega.{arith}
 use lib.ListN.{length, get_or, set}
 use lib.Seq.{get_or-set_same}
-use Rattle.card.specs.Card.{DONE, NEST}
+use Rattle.std.specs.Prelude.{Ok, Err}
+use Rattle.card.specs.Card.{NEST}
 use Rattle.limits.specs.Limits.{nest_limit}
 use Rattle.opcode.specs.Kind.{Kind}
 use Rattle.opcode.specs.BlockType.{is_block_type, block_results}
@@ -26,8 +27,8 @@ opens-types true = opens_loop
 opens-types false = opens_block
 
 module _ {rs : List Kind} {kinds blocks : List ℕ} {depth nest floor : ℕ} {dead : Bool} (loop : Bool) where
-  pub begins-none : {ls : List Kind} {i : Instr} {fs : List Frame} {after : List ℕ} {d n l : ℕ} {e : Bool} → Framed rs kinds blocks depth nest floor dead fs → nest ≡ nest_limit
-      → Judges ls rs i (control (opener loop)) fs kinds after d n l e NEST
+  pub begins-none : {ls : List Kind} {i : Instr} {fs : List Frame} {after : List ℕ} → Framed rs kinds blocks depth nest floor dead fs → nest ≡ nest_limit
+      → Judges ls rs i (control (opener loop)) fs kinds after (Err NEST)
   begins-none w z = too_nested (opens_of loop) (omega (arith, nested-many w.nested, z))
 
   module _ (type b : ℕ) (less : nest < nest_limit) (long : length blocks ≡ nest_limit) (is : b ≡ word floor type loop dead) (is-type : is_block_type type ≡ true) where
@@ -48,9 +49,9 @@ module _ {rs : List Kind} {kinds blocks : List ℕ} {depth nest floor : ℕ} {de
         }
 
     pub begins : {ls : List Kind} {i : Instr} {fs : List Frame} → i.block ≡ type → Framed rs kinds blocks depth nest floor dead fs
-        → Judges ls rs i (control (opener loop)) fs kinds (set blocks nest b) depth (nest + 1) depth false DONE
+        → Judges ls rs i (control (opener loop)) fs kinds (set blocks nest b) (Ok (record { depth = depth; nest = nest + 1; floor = depth; dead = false }))
     begins {ls} {i} {fs} e w =
-        frames-case (λ x. Framed rs kinds blocks depth nest floor dead x → Judges ls rs i (control (opener loop)) x kinds (set blocks nest b) depth (nest + 1) depth false DONE)
+        frames-case (λ x. Framed rs kinds blocks depth nest floor dead x → Judges ls rs i (control (opener loop)) x kinds (set blocks nest b) (Ok (record { depth = depth; nest = nest + 1; floor = depth; dead = false })))
         w.nested
         (λ f rest v.
         typed (opens-types loop)

@@ -5,6 +5,9 @@ use mathlib.Core.Bool.{Bool}
 use mathlib.Core.List.{List, [], ◌∷◌, ◌++◌, map, append-nil, append_assoc}
 use native.Mathlib.Omega.{arith}
 use lib.ListN.{length}
+use Rattle.std.specs.Prelude.{Some, Err}
+use Rattle.std.specs.declared.option.Option.{Option}
+use Rattle.std.specs.declared.result.Result.{Result}
 use Rattle.card.specs.Card.{RESULT}
 use Rattle.limits.specs.Limits.{stack_limit}
 use Rattle.operation.specs.Vector.{number}
@@ -17,22 +20,22 @@ use Rattle.rules.proofs.Typings.{has-once}
 use Rattle.checker.specs.Walk.{KindBytes, OpenBlocks, Framed}
 use Rattle.checker.specs.Inner.Stack.{Top, Under, under, missing, Leaves, too_many, left}
 use Rattle.checker.specs.Inner.Blocks.{top_first}
-use Rattle.checker.specs.Inner.Judging.{Judges, no_results, too_deep, typed}
+use Rattle.checker.specs.Inner.Judging.{Judges, no_results, too_deep, typed, at_depth}
 use Rattle.checker.proofs.Unders.{part, under-below}
 use Rattle.checker.proofs.Words.{type_up}
 use Rattle.checker.proofs.Nests.{nested-as, Closing, nested-dead, framed-top}
 
 -- it has its results, or not
-module _ {top : Frame} {floor base : ℕ} where
-  pub ends-not : {fs : List Frame} → Under top top.results floor base → (base ≡ floor → ⊥) → Ends (top ∷ fs) → ⊥
-  ends-not u z (ends h) = by u refl
-    where
-      by : {b : ℕ} → Under top top.results floor b → b ≡ base → ⊥
-      by (under below h') q = z (sym q ∙ (let same : length {A = Kind} [] ≡ length below = ap length (has-once refl h h') in omega (arith, same)))
-      by (missing big never) q = never [] h
+module _ {top : Frame} {floor : ℕ} where
+  pub ends-not : {r : Option ℕ} {fs : List Frame} → Under top top.results floor r → (r ≡ Some floor → ⊥) → Ends (top ∷ fs) → ⊥
+  ends-not (under below h') z (ends h) =
+      let same : length {A = Kind} [] ≡ length below = ap length (has-once refl h h') in
+      let here : floor + length below ≡ floor = omega (arith, same) in
+      z (ap (λ (n : ℕ). Some n) here)
+  ends-not (missing never) z (ends h) = never [] h
 
-  pub ends-here : Under top top.results floor base → base ≡ floor → floor ≤ stack_limit → Has top [] top.results
-  ends-here u z l = let it = under-below u (omega arith) in none it.0 it.1 (omega (arith, it.2, z))
+  pub ends-here : {r : Option ℕ} → Under top top.results floor r → r ≡ Some floor → Has top [] top.results
+  ends-here u z = let it = under-below u z in none it.0 it.1 (omega (arith, it.2))
     where
       none : (below : List Kind) → Has top below top.results → length below ≡ 0 → Has top [] top.results
       none [] h e = h
@@ -58,10 +61,10 @@ module _ {rs : List Kind} {kinds blocks : List ℕ} {depth nest floor : ℕ} {de
       let same = append-nil (all_values (k.next ∷ k.rest)) in
       subst (KindBytes kinds floor) same (subst (λ (n : ℕ). KindBytes kinds n (all_values (k.next ∷ k.rest) ++ [])) none (part t (all_known {below = []} {ins = k.top.values} refl)))
 
-  module _ {base : ℕ} (u : Under k.top k.top.results floor base) where
-    pub closes-not : {ls : List Kind} {i : Instr} {after blocks' : List ℕ} {d n l : ℕ} {e : Bool} → (base ≡ floor → ⊥) → Judges ls rs i (plain End) fs after blocks' d n l e RESULT
-    closes-not {ls} {i} {after} {blocks'} {d} {n} {l} {e} z =
-        subst (λ (x : List Frame). Judges ls rs i (plain End) x after blocks' d n l e RESULT) (sym k.frames) (no_results refl (ends-not u z))
+  module _ {r : Option ℕ} (u : Under k.top k.top.results floor r) where
+    pub closes-not : {ls : List Kind} {i : Instr} {after blocks' : List ℕ} → (r ≡ Some floor → ⊥) → Judges ls rs i (plain End) fs after blocks' (Err RESULT)
+    closes-not {ls} {i} {after} {blocks'} z =
+        subst (λ (x : List Frame). Judges ls rs i (plain End) x after blocks' (Err RESULT)) (sym k.frames) (no_results refl (ends-not u z))
 
     module _ {l : ℕ} {e : Bool} (h : Has k.top [] k.top.results) (floor-told : l ≡ k.outer-floor) (dead-told : e ≡ k.outer-dead) where
       outside : OpenBlocks rs blocks (nest - 1) l e ((holding k.next (k.next.values ++ k.top.results)) ∷ k.rest)
@@ -74,12 +77,12 @@ module _ {rs : List Kind} {kinds blocks : List ℕ} {depth nest floor : ℕ} {de
           framed-top' : k.next.dead ≡ k.outer-dead
           framed-top' = nested-dead k.around
 
-      by-leaving : {ls : List Kind} {i : Instr} {after : List ℕ} {code d : ℕ} → Leaves (all_values (k.next ∷ k.rest)) k.top.results after code d
-          → Judges ls rs i (plain End) (k.top ∷ k.next ∷ k.rest) after blocks d (nest - 1) l e code
+      by-leaving : {ls : List Kind} {i : Instr} {after : List ℕ} {r : Result ℕ ℕ} → Leaves (all_values (k.next ∷ k.rest)) k.top.results after r
+          → Judges ls rs i (plain End) (k.top ∷ k.next ∷ k.rest) after blocks (at_depth r (nest - 1) l e)
       by-leaving (too_many big) =
           too_deep (closes (ends h)) (subst (λ (x : List Kind). stack_limit < length x)
           (append_assoc (all_values k.rest) k.next.values k.top.results) big)
-      by-leaving {after = after} {d = d} (left small g) =
+      by-leaving {after = after} (left {d} small g) =
           let same = append_assoc (all_values k.rest) k.next.values k.top.results in
           typed (closes (ends h))
           (record {
@@ -88,7 +91,7 @@ module _ {rs : List Kind} {kinds blocks : List ℕ} {depth nest floor : ℕ} {de
             within = record { blocks = omega (arith, framed-here.within.blocks); values = subst (λ (x : List Kind). length x ≤ stack_limit) same small };
           })
 
-      pub closes_by : {ls : List Kind} {i : Instr} {after : List ℕ} {code d : ℕ}
-          → Leaves (all_values (k.next ∷ k.rest)) k.top.results after code d → Judges ls rs i (plain End) fs after blocks d (nest - 1) l e code
-      closes_by {ls} {i} {after} {code} {d} x =
-          subst (λ (y : List Frame). Judges ls rs i (plain End) y after blocks d (nest - 1) l e code) (sym k.frames) (by-leaving x)
+      pub closes_by : {ls : List Kind} {i : Instr} {after : List ℕ} {r : Result ℕ ℕ}
+          → Leaves (all_values (k.next ∷ k.rest)) k.top.results after r → Judges ls rs i (plain End) fs after blocks (at_depth r (nest - 1) l e)
+      closes_by {ls} {i} {after} {r} x =
+          subst (λ (y : List Frame). Judges ls rs i (plain End) y after blocks (at_depth r (nest - 1) l e)) (sym k.frames) (by-leaving x)

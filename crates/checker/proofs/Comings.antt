@@ -10,7 +10,8 @@ use borrow.Author.Tests.{eqb-true, eqb-false}
 use lib.Dec.{eqb}
 use lib.ListN.{length, get_or, set, length-set}
 use lib.Seq.{get_or-set_same, get_or-set_other}
-use Rattle.card.specs.declared.Answer.{Answer}
+use Rattle.std.specs.Prelude.{Some, None, Ok}
+use Rattle.std.specs.declared.option.Option.{Option}
 use Rattle.limits.specs.Limits.{stack_limit, nest_limit}
 use Rattle.leb128.specs.Bytes.{bytes}
 use Rattle.opcode.specs.Kind.{Kind}
@@ -25,21 +26,16 @@ use Rattle.rules.specs.Header.{Header, header_bytes, locals}
 use Rattle.rules.specs.Typing.{Frame, Types, ordinary, branches, may_branch, opens_block, opens_loop, closes, block_opens, loop_opens, br_branches, if_branches}
 use Rattle.rules.specs.Strip.{Reads, Reaches, front, past, Valid}
 use Rattle.rules.specs.Around.{Around, around_none, begun, ended, same}
-use Rattle.rules.specs.Breach.{Breach, Says, breach}
 use Rattle.rules.proofs.Typings.{end-untyped, control-untyped}
 use Rattle.rules.proofs.Sorts.{opens-control, opens-branches, branches-plain, typed-inner}
 use Rattle.rules.proofs.Headers.{declares-once}
 use Rattle.rules.proofs.Onward.{declared, reads-once, reached-beyond}
-use Rattle.rules.proofs.Verdicts.{valid-no-breach}
 use Rattle.checker.specs.declared.turns.State.{State}
-use Rattle.checker.specs.declared.body.Walked.{Walked}
-use Rattle.checker.specs.Check.{Checked}
 use Rattle.checker.specs.Walk.{Framed, outset}
 use Rattle.checker.specs.Inner.Judging.{Judges, Faces}
 use Rattle.checker.specs.Inner.Going.{Begins, Going}
 use Rattle.checker.specs.Inner.Coming.{Noted, Coming, Stood}
 use Rattle.checker.proofs.Nests.{nested-many}
-use Rattle.checker.proofs.Counted.{checked}
 use Rattle.checker.proofs.Goings.{first-going, gone-on, coded, is-end, stepped}
 use Rattle.checker.proofs.Ahead.{Ahead, stops, goes, ahead, reached-inside}
 
@@ -116,21 +112,20 @@ module _ {s : List ℕ} {v n takes : ℕ} {kinds blocks bodies : List ℕ} {dept
 -- ---- toward a place
 
 -- what is known at the place, if the walk stood there; if not, the place is not reached before this one
-pub record Toward (s : List ℕ) (v n takes place least : ℕ) (kinds blocks bodies : List ℕ) (state : State) (at : ℕ) (held words begun : List ℕ) (there : State) : Type 0 where
+pub record Toward (s : List ℕ) (v n takes place least : ℕ) (kinds blocks bodies : List ℕ) (state : State) (at : ℕ) (held words begun : List ℕ) (there : Option State) : Type 0 where
   pub coming : Coming s v n takes kinds blocks bodies state.depth state.nest state.floor state.dead at
-  pub well : state.code ≡ DONE
-  pub known : there.code ≡ DONE → Coming s v n takes held words begun there.depth there.nest there.floor there.dead place
-  pub not-before : (there.code ≡ DONE → ⊥) → (h : Header) (fs : List Frame) → Reaches s h place fs → least ≤ place
+  pub known : (st : State) → there ≡ Some st → Coming s v n takes held words begun st.depth st.nest st.floor st.dead place
+  pub not-before : there ≡ None → (h : Header) (fs : List Frame) → Reaches s h place fs → least ≤ place
 
 after-header : {s : List ℕ} {h : Header} {p : ℕ} {fs : List Frame} → Reaches s h p fs → length (header_bytes h) ≤ p
 after-header (front d) = omega arith
 after-header (past r q t w) = omega (arith, after-header r)
 
 pub toward-first : {s : List ℕ} {v n takes start : ℕ} (place : ℕ) (kinds blocks bodies held words starts : List ℕ) → length kinds ≡ stack_limit
-    → length blocks ≡ nest_limit → length bodies ≡ nest_limit → Begins s v n takes start → {o there : State} → o ≡ outset → (there.code ≡ DONE → ⊥)
-    → Toward s v n takes place start kinds blocks bodies o start held words starts there
-toward-first {s} {v} {n} {takes} {start} place kinds blocks bodies held words starts lk lb ld b {there = there} e z =
-    subst (λ (x : State). Toward s v n takes place start kinds blocks bodies x start held words starts there) (sym e)
+    → length blocks ≡ nest_limit → length bodies ≡ nest_limit → Begins s v n takes start → {o : State} → o ≡ outset
+    → Toward s v n takes place start kinds blocks bodies o start held words starts None
+toward-first {s} {v} {n} {takes} {start} place kinds blocks bodies held words starts lk lb ld b e =
+    subst (λ (x : State). Toward s v n takes place start kinds blocks bodies x start held words starts None) (sym e)
     (record {
       coming =
           record {
@@ -141,39 +136,38 @@ toward-first {s} {v} {n} {takes} {start} place kinds blocks bodies held words st
             noted = tt;
             bodies_long = ld;
           };
-      well = refl;
-      known = λ x. absurd (z x);
+      known = λ st x. absurd (let z : ◌≡◌ {A = ℕ} 0 1 = cc in omega arith);
       not-before = λ x h fs r.
           let one : h ≡ b.header = declares-once s h b.header (declared r) b.setting.declares in
           omega (arith, after-header r, ap (λ (x : Header). length (header_bytes x)) one, b.start_is);
     })
 
 -- the walk stands at the place now, or not yet, or no more
-module _ {s : List ℕ} {v n takes place : ℕ} {kinds blocks bodies : List ℕ} {state : State} {at : ℕ} {held words begun : List ℕ} {there : State}
+module _ {s : List ℕ} {v n takes place : ℕ} {kinds blocks bodies : List ℕ} {state : State} {at : ℕ} {held words begun : List ℕ} {there : Option State}
     (w : Toward s v n takes place at kinds blocks bodies state at held words begun there) where
   abbrev Now : Bool → Type 0
-  Now b = Toward s v n takes place (suc at) kinds blocks bodies state at (cond b kinds held) (cond b blocks words) (cond b bodies begun) (cond b state there)
+  Now b = Toward s v n takes place (suc at) kinds blocks bodies state at (cond b kinds held) (cond b blocks words) (cond b bodies begun) (cond b (Some state) there)
 
   now : (b : Bool) → eqb at place ≡ b → Now b
   now true e =
       record {
         coming = w.coming;
-        well = w.well;
-        known = λ x.
-            subst (Coming s v n takes kinds blocks bodies state.depth state.nest state.floor state.dead) (eqb-true at place e) w.coming;
-        not-before = λ z. absurd (z w.well);
+        known = λ st x.
+            let same : state ≡ st = cc in
+            subst (λ (y : State). Coming s v n takes kinds blocks bodies y.depth y.nest y.floor y.dead place) same
+            (subst (Coming s v n takes kinds blocks bodies state.depth state.nest state.floor state.dead) (eqb-true at place e) w.coming);
+        not-before = λ z. absurd (let no : ◌≡◌ {A = ℕ} 0 1 = cc in omega arith);
       }
   now false e =
       record {
         coming = w.coming;
-        well = w.well;
         known = w.known;
         not-before = λ z h fs r. ⊎_elim (λ x. absurd (eqb-false at place e x)) (λ l. l) (eq-or-lt_of_le (w.not-before z h fs r));
       }
 
-  pub noted-now : {held' words' begun' : List ℕ} {there' : State}
+  pub noted-now : {held' words' begun' : List ℕ} {there' : Option State}
       → (held' ≡ cond (eqb at place) kinds held) × (words' ≡ cond (eqb at place) blocks words) × (begun' ≡ cond (eqb at place) bodies begun)
-      × (there' ≡ cond (eqb at place) state there)
+      × (there' ≡ cond (eqb at place) (Some state) there)
       → Toward s v n takes place (suc at) kinds blocks bodies state at held' words' begun' there'
   noted-now {held'} {words'} {begun'} {there'} e =
       let here : Bool = eqb at place in
@@ -182,13 +176,13 @@ module _ {s : List ℕ} {v n takes place : ℕ} {kinds blocks bodies : List ℕ}
       (subst (λ (x : List ℕ). Toward s v n takes place (suc at) kinds blocks bodies state at (cond here kinds held) (cond here blocks words) x there') (sym e.2)
       (subst (Toward s v n takes place (suc at) kinds blocks bodies state at (cond here kinds held) (cond here blocks words) (cond here bodies begun)) (sym e.3) (now here refl))))
 
-module _ {s : List ℕ} {v n takes place : ℕ} {kinds blocks bodies : List ℕ} {state : State} {at : ℕ} {held words begun : List ℕ} {there : State}
+module _ {s : List ℕ} {v n takes place : ℕ} {kinds blocks bodies : List ℕ} {state : State} {at : ℕ} {held words begun : List ℕ} {there : Option State}
     (w : Toward s v n takes place (suc at) kinds blocks bodies state at held words begun there) where
   abbrev going : Going s v n takes kinds blocks state.depth state.nest state.floor state.dead at
   going = w.coming.going
 
   -- an instruction that is read before the place ends before it
-  passes-by : {i : Instr} {c : Code} {len : ℕ} → Reads going.header.version s at i c len → (there.code ≡ DONE → ⊥) → (h : Header) (fs : List Frame)
+  passes-by : {i : Instr} {c : Code} {len : ℕ} → Reads going.header.version s at i c len → there ≡ None → (h : Header) (fs : List Frame)
       → Reaches s h place fs → at + len ≤ place
   passes-by r z h fs x =
       let one : h ≡ going.header = declares-once s h going.header (declared x) going.setting.declares in
@@ -225,45 +219,23 @@ module _ {s : List ℕ} {v n takes place : ℕ} {kinds blocks bodies : List ℕ}
               omega (arith, ends-file k);
         }
 
-  -- a strip that breaks a rule
-  pub broken-there : {code p : ℕ} → Breach s code p → Stood s v n takes place held words begun there
-  broken-there b = record { known = w.known; nowhere = λ x k fs r. valid-no-breach k b }
-
   -- and another is passed
   module _ (d : Scanned) (is : d ≡ scan_of (decode_in v s at)) (b : bytes s) (z : d.code ≡ DONE) (other : (eqb state.nest 0 && eqb (group_in d.entry) 0) ≡ false)
       {kinds' blocks' : List ℕ} {state' : State}
       (j : (c : Code) (i : Instr) (ls rs : List Kind) (fs : List Frame)
       → Faces s n takes d.entry d.immediate kinds blocks state.depth state.nest state.floor state.dead c i ls rs fs
-      → Judges ls rs i c fs kinds' blocks' state'.depth state'.nest state'.floor state'.dead state'.code) (e : state'.code ≡ DONE) where
+      → Judges ls rs i c fs kinds' blocks' (Ok state')) where
     pub room_in : state.nest < state'.nest → state.nest < nest_limit
-    room_in more = let g = stepped going d is b z other j e in omega (arith, nested-many g.2.nested, g.2.within.blocks, more)
+    room_in more = let g = stepped going d is b z other j in omega (arith, nested-many g.2.nested, g.2.within.blocks, more)
 
     onward : {bodies' : List ℕ} → Coming s v n takes kinds' blocks' bodies' state'.depth state'.nest state'.floor state'.dead (at + d.len)
         → Toward s v n takes place (at + d.len) kinds' blocks' bodies' state' (at + d.len) held words begun there
-    onward c = record { coming = c; well = e; known = w.known; not-before = passes-by (coded going d is b z).1 }
+    onward c = record { coming = c; known = w.known; not-before = passes-by (coded going d is b z).1 }
 
     pub toward-in : state.nest < state'.nest → length blocks' ≡ nest_limit → length kinds' ≡ stack_limit
         → Toward s v n takes place (at + d.len) kinds' blocks' (set bodies state.nest (at + d.len)) state' (at + d.len) held words begun there
-    toward-in more lb lk = let g = stepped going d is b z other j e in onward (comes-in w.coming (coded going d is b z).1 g.1 g.2 lk lb more)
+    toward-in more lb lk = let g = stepped going d is b z other j in onward (comes-in w.coming (coded going d is b z).1 g.1 g.2 lk lb more)
 
     pub toward-on : state'.nest ≤ state.nest → length blocks' ≡ nest_limit → length kinds' ≡ stack_limit
         → Toward s v n takes place (at + d.len) kinds' blocks' bodies state' (at + d.len) held words begun there
-    toward-on most lb lk = let g = stepped going d is b z other j e in onward (comes-on w.coming (coded going d is b z).1 g.1 g.2 lk lb most)
-
--- ---- where the walk ends
-
-module _ {s : List ℕ} {v n takes place : ℕ} {held words begun : List ℕ} {there : State} {a : Answer} {r : Walked}
-    (told : (r.code ≡ a.code) × (r.place ≡ a.place) × (r.there ≡ there)) where
-  -- at an answer of the check
-  pub over : Checked s a → Stood s v n takes place held words begun there
-      → Says s r.code r.place × Stood s v n takes place held words begun r.there
-  over x k = (
-    subst (λ (y : ℕ). Says s y r.place) (sym told.0) (subst (Says s a.code) (sym told.1) x.says),
-    subst (Stood s v n takes place held words begun) (sym told.2) k,
-  )
-
-  -- at a breach
-  pub broken-off : {kinds blocks bodies : List ℕ} {state : State} {at : ℕ} → Toward s v n takes place (suc at) kinds blocks bodies state at held words begun there
-      → {code p : ℕ} → (a.code ≡ code) × (a.place ≡ p) × (a.steps ≡ 0) → Breach s code p
-      → Says s r.code r.place × Stood s v n takes place held words begun r.there
-  broken-off w e b = over (checked e (breach b)) (broken-there w b)
+    toward-on most lb lk = let g = stepped going d is b z other j in onward (comes-on w.coming (coded going d is b z).1 g.1 g.2 lk lb most)

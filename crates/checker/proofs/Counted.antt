@@ -5,7 +5,6 @@ use mathlib.Core.List.{List, ◌++◌, map, map-append, append_assoc}
 use native.Mathlib.Omega.{arith}
 use lib.ListN.{length, get_or, drop, length-append, length-map}
 use lib.Seq.{drop_at, drop-drop}
-use Rattle.card.specs.Card.{DONE}
 use Rattle.card.specs.declared.Answer.{Answer}
 use Rattle.limits.specs.Limits.{result_limit}
 use Rattle.opcode.specs.Kind.{Kind, kind_byte}
@@ -14,7 +13,7 @@ use Rattle.rules.specs.Breach.{Says}
 use Rattle.checker.specs.Check.{Checked}
 use Rattle.checker.specs.Walk.{KindBytes}
 use Rattle.checker.specs.Inner.Blocks.{top_first}
-use Rattle.checker.specs.Inner.Parts.{Headed, Counts}
+use Rattle.checker.specs.Inner.Parts.{Counts}
 use Rattle.checker.specs.Inner.Going.{Setting, Begins}
 use Rattle.checker.proofs.Fronts.{Says-so}
 
@@ -91,6 +90,3 @@ opening {h = h} k t =
       setting = set-by k t;
       start_is = omega (arith, k.locals_are, k.results_are, length-map (kinds h) kind_byte, length-append (locals h) h.results);
     }
-
-pub headed-counts : {s : List ℕ} {r : Answer} → Headed s r → r.code ≡ DONE → (h : Header) × HeadCounts s h
-headed-counts w z = let h = w.whole z in (h.0, counted h.1)

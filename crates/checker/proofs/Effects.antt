@@ -8,6 +8,8 @@ use mathlib.Core.Option.{Option, none, some}
 use native.Mathlib.Omega.{arith}
 use lib.Dec.{lit≤}
 use lib.ListN.{length, get_or, drop, length-append}
+use Rattle.std.specs.Prelude.{Err}
+use Rattle.std.specs.declared.result.Result.{Result}
 use Rattle.card.specs.Card.{LOCAL}
 use Rattle.opcode.specs.Kind.{Kind, i32, kind_byte}
 use Rattle.opcode.specs.Table.{End, Drop, LocalGet, LocalSet, LocalTee, I32Const, I64Const, I32Add, I32Sub, I32Eqz, I32LtU, Code, plain, control, vector, carried}
@@ -190,17 +192,17 @@ pub same-dead : {kinds : List ℕ} {depth floor : ℕ} {dead : Bool} {outer : Li
 same-dead t = record { holds = t.holds; floor_is = t.floor_is; dead_is = refl }
 
 module _ {ls : List Kind} {n : ℕ} {c : Code} {outer : List Kind} {f : Frame} {kinds : List ℕ} where
-  pub gives_local : {e d : ℕ} → Effected ls n c f e → e ≡ 0 → Gives ls n c outer f kinds LOCAL d
+  pub gives_local : {e : ℕ} → Effected ls n c f e → e ≡ 0 → Gives ls n c outer f kinds (Err LOCAL)
   gives_local (undeclared names g) z = undeclared_local names g
   gives_local (typed_by t small only) z = absurd (let no : ⊥ = omega (arith, small.some) in no)
 
-  gives-by : {ins outs : List Kind} {code d : ℕ} → Typed ls n c ins outs → ((ins' outs' below : List Kind) → Typed ls n c ins' outs' → Has f below ins' → Has f below ins)
-      → Applies outer f ins outs kinds code d → Gives ls n c outer f kinds code d
+  gives-by : {ins outs : List Kind} {r : Result ℕ ℕ} → Typed ls n c ins outs → ((ins' outs' below : List Kind) → Typed ls n c ins' outs' → Has f below ins' → Has f below ins)
+      → Applies outer f ins outs kinds r → Gives ls n c outer f kinds r
   gives-by t only (lacks g) = lacking t (λ ins outs below u h. g below (only ins outs below u h))
   gives-by t only (over below h big) = overfull below t h big
   gives-by t only (fits below h small g) = does below t h small g
 
-  pub gives-applies : {e code d : ℕ} → Effected ls n c f e → (e ≡ 0 → ⊥)
-      → ((ins outs : List Kind) → Small ins outs → packed (some (ins ⇒ outs)) ≡ e → Applies outer f ins outs kinds code d) → Gives ls n c outer f kinds code d
+  pub gives-applies : {e : ℕ} {r : Result ℕ ℕ} → Effected ls n c f e → (e ≡ 0 → ⊥)
+      → ((ins outs : List Kind) → Small ins outs → packed (some (ins ⇒ outs)) ≡ e → Applies outer f ins outs kinds r) → Gives ls n c outer f kinds r
   gives-applies (undeclared names g) z a = absurd (z refl)
   gives-applies (typed_by {ins} {outs} t small only) z a = gives-by t only (a ins outs small refl)

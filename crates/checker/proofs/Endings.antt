@@ -5,6 +5,8 @@ use mathlib.Core.Bool.{Bool}
 use mathlib.Core.List.{List, [], ◌∷◌}
 use native.Mathlib.Omega.{arith}
 use lib.ListN.{length}
+use Rattle.std.specs.Prelude.{Some}
+use Rattle.std.specs.declared.option.Option.{Option}
 use Rattle.card.specs.Card.{RESULT, TRAILING}
 use Rattle.limits.specs.Limits.{file_limit}
 use Rattle.opcode.specs.Kind.{Kind}
@@ -25,16 +27,16 @@ module _ {s : List ℕ} {v takes at : ℕ} {kinds : List ℕ} {depth : ℕ} {dea
   pub strip-takes : top_first w.strip.results ≡ takes
   strip-takes = ap top_first w.results_are ∙ w.takes_is
 
-  module _ {base : ℕ} (u : (outer ins : List Kind) (f : Frame) → Top kinds depth 0 dead outer f → top_first ins ≡ takes → Under f ins 0 base) where
-    ours : Under w.strip w.strip.results 0 base
+  module _ {r : Option ℕ} (u : (outer ins : List Kind) (f : Frame) → Top kinds depth 0 dead outer f → top_first ins ≡ takes → Under f ins 0 r) where
+    ours : Under w.strip w.strip.results 0 r
     ours = u [] w.strip.results w.strip w.top strip-takes
 
-    pub other-results : (base ≡ 0 → ⊥) → Breach s RESULT at
+    pub other-results : (r ≡ Some 0 → ⊥) → Breach s RESULT at
     other-results z = result w.here (ends-not ours z)
 
-    module _ (z : base ≡ 0) where
+    module _ (z : r ≡ Some 0) where
       match : Ends (w.strip ∷ [])
-      match = ends (ends-here ours z (omega arith))
+      match = ends (ends-here ours z)
 
       pub trails : at + 1 < length s → Breach s TRAILING (at + 1)
       trails l = trailing w.here match l

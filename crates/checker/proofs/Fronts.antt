@@ -1,6 +1,6 @@
 -- The header, byte by byte.
 use Prim.Native.Nat.{ℕ, suc, ◌+◌, ◌≤◌, ◌<◌}
-use mathlib.Core.Path.{◌≡◌, refl, sym, ap, subst, ◌∙◌}
+use mathlib.Core.Path.{◌≡◌, refl, sym, ap, ap₂, subst, ◌∙◌}
 use mathlib.Core.Bool.{Bool, true, false, ◌||◌}
 use mathlib.Core.List.{List, [], ◌∷◌, ◌++◌, map, map-append, append-nil, append_assoc}
 use mathlib.Core.Logic.{◌⊎◌, inl, inr}
@@ -9,27 +9,27 @@ use borrow.Author.Tests.{eqb-true}
 use lib.Dec.{eqb}
 use lib.ListN.{length, get_or, take, drop, length-append, length-drop, take-append-drop, drop_of_length-le}
 use lib.Seq.{length-take-le, drop-cons}
-use Rattle.card.specs.Card.{DONE, SHORT, KIND}
+use Rattle.std.specs.Prelude.{Ok, Err, MatchResult}
+use Rattle.std.specs.List.{starts_with}
+use Rattle.std.proofs.lemmas.Bool.Decides.{Decides-eqb}
+use Rattle.std.proofs.lemmas.Slice.Eq.{starts_is}
+use Rattle.std.specs.declared.result.Result.{Result}
+use Rattle.card.specs.Card.{SHORT, KIND}
 use Rattle.card.specs.declared.Answer.{Answer}
 use Rattle.opcode.specs.Kind.{Kind, i32, i64, v128, kind_byte}
-use Rattle.opcode.specs.Table.{known}
 use Rattle.rules.specs.Header.{Version, Header, Few, Declares, mark, kinds}
 use Rattle.rules.specs.Breach.{preamble, Sized, Breach, kind, kinds_short}
-use Rattle.rules.proofs.Verdicts.{breach-coded}
+use Rattle.checker.specs.declared.Refusal.{Refusal}
 use Rattle.checker.specs.Inner.Kinds.{is_kind}
-use Rattle.checker.specs.Inner.Parts.{OtherVersion, KindsSay, cut, other, all, Headed}
+use Rattle.checker.specs.Inner.Parts.{refusal, KindsSay, cut, other, all}
 
 -- what `answer` ensures
 abbrev pub Says-so : Answer → ℕ → ℕ → Type 0
 Says-so r c l = (r.code ≡ c) × (r.place ≡ l) × (r.steps ≡ 0)
 
-pub headed-broken : {s : List ℕ} {r : Answer} {c l : ℕ} → Says-so r c l → Breach s c l → Headed s r
-headed-broken {s} {r} {c} {l} a b =
-    record {
-      steps = a.2;
-      whole = λ z. absurd (breach-coded b (sym a.0 ∙ z));
-      broken = λ _. subst (λ (x : ℕ). Breach s x r.place) (sym a.0) (subst (Breach s c) (sym a.1) b);
-    }
+-- and `refusal`, at a breach
+pub broken : {s : List ℕ} {e : Refusal} {c l : ℕ} → (e.code ≡ c) × (e.place ≡ l) → Breach s c l → Breach s e.code e.place
+broken {s} {e} {c} {l} a b = subst (λ (x : ℕ). Breach s x e.place) (sym a.0) (subst (Breach s c) (sym a.1) b)
 
 pub eight : (s : List ℕ) → 8 ≤ length s
     → s ≡ get_or s 0 0 ∷ get_or s 1 0 ∷ get_or s 2 0 ∷ get_or s 3 0 ∷ get_or s 4 0 ∷ get_or s 5 0 ∷ get_or s 6 0 ∷ get_or s 7 0 ∷ drop 8 s
@@ -43,7 +43,20 @@ eight (a ∷ b ∷ c ∷ d ∷ e ∷ f ∷ []) l = absurd (let z : ⊥ = omega a
 eight (a ∷ b ∷ c ∷ d ∷ e ∷ f ∷ g ∷ []) l = absurd (let z : ⊥ = omega arith in z)
 eight (a ∷ b ∷ c ∷ d ∷ e ∷ f ∷ g ∷ h ∷ rest) l = refl
 
-module _ (s : List ℕ) (least : 8 ≤ length s) (m0 : get_or s 0 0 ≡ 0x57) (m1 : get_or s 1 0 ≡ 0x47) (m2 : get_or s 2 0 ≡ 0x50) where
+-- what `starts_with` tells of the mark
+pub mark-told : (s : List ℕ) (r : Bool) → r ≡ starts_with eqb s mark → (r ≡ true → s ≡ mark ++ drop 3 s) × ((rest : List ℕ) → s ≡ mark ++ rest → r ≡ true)
+mark-told s r e = starts_is Decides-eqb s mark r e
+
+module _ (s : List ℕ) (least : 8 ≤ length s) (m : s ≡ mark ++ drop 3 s) where
+  m0 : get_or s 0 0 ≡ 0x57
+  m0 = ap (λ (x : List ℕ). get_or x 0 0) m
+
+  m1 : get_or s 1 0 ≡ 0x47
+  m1 = ap (λ (x : List ℕ). get_or x 1 0) m
+
+  m2 : get_or s 2 0 ≡ 0x50
+  m2 = ap (λ (x : List ℕ). get_or x 2 0) m
+
   pub marked : s ≡ mark ++ (get_or s 3 0 ∷ get_or s 4 0 ∷ get_or s 5 0 ∷ get_or s 6 0 ∷ get_or s 7 0 ∷ drop 8 s)
   marked = cc (eight s least, m0, m1, m2)
 
@@ -54,14 +67,6 @@ module _ (s : List ℕ) (least : 8 ≤ length s) (m0 : get_or s 0 0 ≡ 0x57) (m
   pub version-byte : (Version (get_or s 3 0) → ⊥) ⊎ (get_or s 4 0 ≡ 0 → ⊥) → (v : ℕ) (more : List ℕ) → Version v → s ≡ preamble v ++ more → ⊥
   version-byte (inl f) v more is e = f (subst Version (sym (ap (λ (x : List ℕ). get_or x 3 0) e)) is)
   version-byte (inr f) v more is e = f (ap (λ (x : List ℕ). get_or x 4 0) e)
-
--- ---- the version
-
-pub other_none : (b : ℕ) → Version b → OtherVersion b false
-other_none b v = record { other = λ z. absurd (let no : ◌≡◌ {A = ℕ} 0 1 = cc in omega arith); carried = λ _. v }
-
-pub other-one : (b : ℕ) → known b ≡ false → OtherVersion b true
-other-one b e = record { other = λ _ v. let no : ◌≡◌ {A = ℕ} 0 1 = cc in omega arith; carried = λ z. absurd (let no : ◌≡◌ {A = ℕ} 0 1 = cc in omega arith) }
 
 -- ---- the kind bytes
 
@@ -108,21 +113,21 @@ module _ (s : List ℕ) where
               (map kind_byte w.kinds) (kind_byte it.0 ∷ []) (drop (8 + (k + 1)) s));
         }
 
-    pub read-cut : (n : ℕ) → k < n → length s ≤ 8 + k → KindsSay s n SHORT (length s)
+    pub read-cut : (n : ℕ) → k < n → length s ≤ 8 + k → KindsSay s n (Err (refusal SHORT (length s)))
     read-cut n l h =
         cut w.kinds (omega (arith, w.many))
         (w.here ∙ ap (λ (x : List ℕ). map kind_byte w.kinds ++ x) (drop_of_length-le s {i = 8 + k} h) ∙ append-nil (map kind_byte w.kinds))
 
-    pub read-other : (n : ℕ) → k < n → 8 + k < length s → is_kind (get_or s (8 + k) 0) ≡ false → KindsSay s n KIND (8 + k)
+    pub read-other : (n : ℕ) → k < n → 8 + k < length s → is_kind (get_or s (8 + k) 0) ≡ false → KindsSay s n (Err (refusal KIND (8 + k)))
     read-other n l h e =
-        subst (λ (x : ℕ). KindsSay s n KIND (8 + x)) w.many
+        subst (λ (x : ℕ). KindsSay s n (Err (refusal KIND (8 + x)))) w.many
         (other w.kinds (get_or s (8 + k) 0) (drop (8 + (k + 1)) s) (omega (arith, w.many)) (next-byte h) (no_kind (get_or s (8 + k) 0) e))
 
-    pub read_all : (n : ℕ) → k ≤ n → n ≤ k → KindsSay s n DONE 0
+    pub read_all : (n : ℕ) → k ≤ n → n ≤ k → KindsSay s n (Ok tt)
     read_all n l h = all w.kinds (drop (8 + k) s) (omega (arith, w.many)) w.here
 
-pub said : {s : List ℕ} {n c l : ℕ} {r : Answer} → Says-so r c l → KindsSay s n c l → KindsSay s n r.code r.place × (r.steps ≡ 0)
-said {s} {n} {c} {l} {r} a k = (subst (λ (x : ℕ). KindsSay s n x r.place) (sym a.0) (subst (KindsSay s n c) (sym a.1) k), a.2)
+pub said : {s : List ℕ} {n c l : ℕ} {e : Refusal} → (e.code ≡ c) × (e.place ≡ l) → KindsSay s n (Err (refusal c l)) → KindsSay s n (Err e)
+said {s} {n} {e = e} a k = subst (λ (x : Refusal). KindsSay s n (Err x)) (ap₂ refusal (sym a.0) (sym a.1)) k
 
 -- ---- the whole
 
@@ -152,10 +157,7 @@ module _ {s : List ℕ} (sized : Sized s) (v p l r : ℕ) (is : Version v) (few 
       counted : (t : List ℕ) {a b c : ℕ} → p ≡ a → l ≡ b → r ≡ c → preamble v ++ p ∷ l ∷ r ∷ t ≡ preamble v ++ a ∷ b ∷ c ∷ t
       counted t ea eb ec = cc
 
-  headed-by : {a : Answer} {c q : ℕ} → KindsSay s (p + l + r) c q → a.code ≡ c → a.place ≡ q → a.steps ≡ 0 → Headed s a
-  headed-by (cut ks m e) ec ep z = headed-broken (ec, ep, z) (kinds_short v p l r ks sized is (with-kinds (map kind_byte ks) e) few m)
-  headed-by (other ks b rest m e f) ec ep z = headed-broken (ec, ep, z) (kind v p l r b ks rest sized is (with-kinds (map kind_byte ks ++ b ∷ rest) e) few m f)
-  headed-by (all ks rest m e) ec ep z = record { steps = z; whole = λ _. (header_of ks, declares-of ks rest m e); broken = λ f. absurd (f ec) }
-
-  pub headed-kinds : {a : Answer} → KindsSay s (p + l + r) a.code a.place → a.steps ≡ 0 → Headed s a
-  headed-kinds k z = headed-by k refl refl z
+  pub headed-kinds : {a : Result (Unit {0}) Refusal} → KindsSay s (p + l + r) a → MatchResult a (λ _. (h : Header) × Declares s h) (λ e. Breach s e.code e.place)
+  headed-kinds (cut ks m e) = kinds_short v p l r ks sized is (with-kinds (map kind_byte ks) e) few m
+  headed-kinds (other ks b rest m e f) = kind v p l r b ks rest sized is (with-kinds (map kind_byte ks ++ b ∷ rest) e) few m f
+  headed-kinds (all ks rest m e) = (header_of ks, declares-of ks rest m e)

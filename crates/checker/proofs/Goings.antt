@@ -9,6 +9,8 @@ use native.Mathlib.Omega.{arith}
 use borrow.Author.Tests.{eqb-true, eqb-false, eq-eqb}
 use lib.Dec.{eqb}
 use lib.ListN.{length, length-append}
+use Rattle.std.specs.Prelude.{Ok, Err}
+use Rattle.std.specs.declared.result.Result.{Result}
 use Rattle.card.specs.Card.{DONE}
 use Rattle.limits.specs.Limits.{file_limit, stack_limit, nest_limit}
 use Rattle.leb128.specs.Bytes.{bytes}
@@ -32,6 +34,7 @@ use Rattle.rules.specs.Typing.{Frame, opened, all_values, Types, Opens, block_op
 use Rattle.rules.specs.Strip.{Reads, Reaches, front, past}
 use Rattle.rules.specs.Breach.{At, Breach, local, nest, label, operand, deep, result}
 use Rattle.rules.proofs.Headers.{decodes-known}
+use Rattle.checker.specs.declared.turns.State.{State}
 use Rattle.checker.specs.Walk.{OpenBlocks, strip, block, Framed}
 use Rattle.checker.specs.Inner.Stack.{Top}
 use Rattle.checker.specs.Inner.Judging.{Judges, no_local, too_nested, no_label, untyped, no_results, too_deep, typed, Faces, AtTurn}
@@ -87,25 +90,35 @@ not-both false b e t = refl
 
 -- ---- one instruction
 
-breaks-of : {s : List ℕ} {h : Header} {at : ℕ} {fs : List Frame} {i : Instr} {c : Code} {kinds blocks : List ℕ} {depth nest' floor code : ℕ} {dead : Bool} → At s h at fs i c
-    → Judges (locals h) h.results i c fs kinds blocks depth nest' floor dead code → (code ≡ DONE → ⊥) → Breach s code at
-breaks-of a (no_local names f) z = local a names f
-breaks-of a (too_nested o g) z = nest a o g
-breaks-of a (no_label b f) z = label a b f
-breaks-of a (untyped e names labels f) z = operand a e names labels f
-breaks-of {s} {h} {at} {fs} {i} a (no_results e f) z = result (subst (λ (c : Code). At s h at fs i c) e a) f
-breaks-of a (too_deep t big) z = deep a t big
-breaks-of a (typed t g) z = absurd (z refl)
+-- a line of the card is a breach there
+abbrev pub Breaks : List ℕ → ℕ → Result State ℕ → Type 0
+Breaks s at (Ok st) = Unit {0}
+Breaks s at (Err e) = Breach s e at
 
-goes_of : {ls rs : List Kind} {i : Instr} {c : Code} {fs : List Frame} {kinds blocks : List ℕ} {depth nest' floor code : ℕ} {dead : Bool}
-    → Judges ls rs i c fs kinds blocks depth nest' floor dead code → code ≡ DONE → (fs' : List Frame) × Types ls i c fs fs' × Framed rs kinds blocks depth nest' floor dead fs'
-goes_of (no_local names f) z = absurd (let never : ⊥ = omega arith in never)
-goes_of (too_nested o g) z = absurd (let never : ⊥ = omega arith in never)
-goes_of (no_label b f) z = absurd (let never : ⊥ = omega arith in never)
-goes_of (untyped e names labels f) z = absurd (let never : ⊥ = omega arith in never)
-goes_of (no_results e f) z = absurd (let never : ⊥ = omega arith in never)
-goes_of (too_deep t big) z = absurd (let never : ⊥ = omega arith in never)
-goes_of (typed {fs'} t g) z = (fs', t, g)
+breaks-of : {s : List ℕ} {h : Header} {at : ℕ} {fs : List Frame} {i : Instr} {c : Code} {kinds blocks : List ℕ} {r : Result State ℕ} → At s h at fs i c
+    → Judges (locals h) h.results i c fs kinds blocks r → Breaks s at r
+breaks-of a (no_local names f) = local a names f
+breaks-of a (too_nested o g) = nest a o g
+breaks-of a (no_label b f) = label a b f
+breaks-of a (untyped e names labels f) = operand a e names labels f
+breaks-of {s} {h} {at} {fs} {i} a (no_results e f) = result (subst (λ (c : Code). At s h at fs i c) e a) f
+breaks-of a (too_deep t big) = deep a t big
+breaks-of a (typed t g) = tt
+
+-- else the instruction is typed
+abbrev pub Steps-on : List Kind → List Kind → Instr → Code → List Frame → List ℕ → List ℕ → Result State ℕ → Type 0
+Steps-on ls rs i c fs kinds blocks (Ok st) = (fs' : List Frame) × Types ls i c fs fs' × Framed rs kinds blocks st.depth st.nest st.floor st.dead fs'
+Steps-on ls rs i c fs kinds blocks (Err e) = Unit {0}
+
+goes_of : {ls rs : List Kind} {i : Instr} {c : Code} {fs : List Frame} {kinds blocks : List ℕ} {r : Result State ℕ}
+    → Judges ls rs i c fs kinds blocks r → Steps-on ls rs i c fs kinds blocks r
+goes_of (no_local names f) = tt
+goes_of (too_nested o g) = tt
+goes_of (no_label b f) = tt
+goes_of (untyped e names labels f) = tt
+goes_of (no_results e f) = tt
+goes_of (too_deep t big) = tt
+goes_of (typed {fs'} t g) = (fs', t, g)
 
 -- past it
 abbrev pub gone-on : {s : List ℕ} {v n takes : ℕ} {kinds blocks kinds' blocks' : List ℕ} {depth nest floor depth' nest' floor' : ℕ} {dead dead' : Bool} {at len : ℕ}
@@ -232,16 +245,14 @@ module _ {s : List ℕ} {v n takes : ℕ} {kinds blocks : List ℕ} {depth nest 
           tops = frames-case (λ x. Framed w.header.results kinds blocks depth nest floor dead x → floor ≤ depth) w.framed.nested
               (λ f rest u. let t = framed-top u in omega (arith, t.floor_is, t.holds.many, length-append (all_values rest) f.values)) w.framed
 
-      module _ {kinds' blocks' : List ℕ} {depth' nest' floor' code : ℕ} {dead' : Bool}
+      module _ {kinds' blocks' : List ℕ} {r : Result State ℕ}
           (j : (c : Code) (i : Instr) (ls rs : List Kind) (fs : List Frame) → Faces s n takes d.entry d.immediate kinds blocks depth nest floor dead c i ls rs fs
-          → Judges ls rs i c fs kinds' blocks' depth' nest' floor' dead' code) where
-        pub judgement : Judges (locals w.header) w.header.results (decode_at w.header.version s at).instr coded.0 w.frames kinds' blocks' depth' nest' floor' dead' code
+          → Judges ls rs i c fs kinds' blocks' r) where
+        pub judgement : Judges (locals w.header) w.header.results (decode_at w.header.version s at).instr coded.0 w.frames kinds' blocks' r
         judgement = j coded.0 (decode_at w.header.version s at).instr (locals w.header) w.header.results w.frames faces
 
-        pub breaks : (code ≡ DONE → ⊥) → Breach s code at
-        breaks f = breaks-of here judgement f
+        pub breaks : Breaks s at r
+        breaks = breaks-of here judgement
 
-        pub stepped : code ≡ DONE
-            → (fs' : List Frame) × Types (locals w.header) (decode_at w.header.version s at).instr coded.0 w.frames fs'
-            × Framed w.header.results kinds' blocks' depth' nest' floor' dead' fs'
-        stepped e = goes_of judgement e
+        pub stepped : Steps-on (locals w.header) w.header.results (decode_at w.header.version s at).instr coded.0 w.frames kinds' blocks' r
+        stepped = goes_of judgement

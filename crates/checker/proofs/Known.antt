@@ -51,11 +51,10 @@ filled before {xs} {ys} {n} {m} e front rest rest' =
 
 -- ---- the walk
 
-same-state : (a b : State) → a.code ≡ b.code → a.depth ≡ b.depth → a.nest ≡ b.nest → a.floor ≡ b.floor → a.dead ≡ b.dead → a ≡ b
-same-state a b c d n f e =
-    ap₂ (λ (x y : ℕ). record { code = x; depth = y; nest = a.nest; floor = a.floor; dead = a.dead }) c d
-    ∙ ap₂ (λ (x y : ℕ). record { code = b.code; depth = b.depth; nest = x; floor = y; dead = a.dead }) n f
-    ∙ ap (λ (x : Bool). record { code = b.code; depth = b.depth; nest = b.nest; floor = b.floor; dead = x }) e
+same-state : (a b : State) → a.depth ≡ b.depth → a.nest ≡ b.nest → a.floor ≡ b.floor → a.dead ≡ b.dead → a ≡ b
+same-state a b d n f e =
+    ap₂ (λ (x y : ℕ). record { depth = x; nest = y; floor = a.floor; dead = a.dead }) d n
+    ∙ ap₂ (λ (x : ℕ) (y : Bool). record { depth = b.depth; nest = b.nest; floor = x; dead = y }) f e
 
 module _ {s : List ℕ} where
   pub same-header : {p q : ℕ} {k k' b b' : List ℕ} {st st' : State} (w : Walks s p k b st) (v : Walks s q k' b' st') → v.valid.header ≡ w.valid.header
@@ -81,7 +80,7 @@ module _ {s : List ℕ} where
         (omega (arith, nested-many g.nested, g.within.blocks, v.blocks_long)) in (
           filled kinds depth (held-front f.holds ∙ sym (held-front g.holds)) kept kept',
           filled blocks x.nest x.words left left',
-          same-state st st' (w.well ∙ sym v.well) depth x.nest x.floor x.dead,
+          same-state st st' depth x.nest x.floor x.dead,
         )
 
   goes-once : {p : ℕ} {kinds k k' blocks b b' : List ℕ} {st a a' : State} → Goes s p kinds blocks st k b a → Goes s p kinds blocks st k' b' a' → (k ≡ k') × (b ≡ b') × (a ≡ a')

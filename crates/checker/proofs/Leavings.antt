@@ -4,7 +4,8 @@ use mathlib.Core.Path.{◌≡◌, refl, sym, ap, subst, ◌∙◌}
 use mathlib.Core.List.{List, [], ◌∷◌, ◌++◌, map, append-nil, append_assoc}
 use native.Mathlib.Omega.{arith}
 use lib.ListN.{length, set, drop, length-append, length-set}
-use Rattle.card.specs.Card.{DONE, DEEP}
+use Rattle.std.specs.Prelude.{Ok, Err}
+use Rattle.card.specs.Card.{DEEP}
 use Rattle.limits.specs.Limits.{stack_limit}
 use Rattle.operation.specs.Vector.{number}
 use Rattle.opcode.specs.Kind.{Kind, kind_byte}
@@ -61,13 +62,13 @@ module _ {results base : ℕ} {kinds₀ kinds : List ℕ} {left depth : ℕ} (w 
       }
 
   module _ (below outs : List Kind) (h : KindBytes kinds₀ base below) (e : number (map kind_byte outs) ≡ results) where
-    all_of : (done ahead : List Kind) → outs ≡ done ++ ahead → number (map kind_byte ahead) ≡ left → KindBytes kinds depth (below ++ done) → left ≡ 0 → Leaves below outs kinds DONE depth
+    all_of : (done ahead : List Kind) → outs ≡ done ++ ahead → number (map kind_byte ahead) ≡ left → KindBytes kinds depth (below ++ done) → left ≡ 0 → Leaves below outs kinds (Ok depth)
     all_of done [] p d g z =
         let same : below ++ done ≡ below ++ outs = ap (λ (x : List Kind). below ++ x) (sym (p ∙ append-nil done)) in
         left-all (omega (arith, g.many, ap length same, w.most)) (subst (KindBytes kinds depth) same g)
     all_of done (k ∷ ahead) p d g z = absurd (let no : ⊥ = omega (arith, kind-range k) in no)
 
-    pub left-now : left ≡ 0 → Leaves below outs kinds DONE depth
+    pub left-now : left ≡ 0 → Leaves below outs kinds (Ok depth)
     left-now z = let s = w.so_far below outs h e in all_of s.done s.ahead s.parts s.digits s.holds z
 
     over-of : (done ahead : List Kind) → outs ≡ done ++ ahead → number (map kind_byte ahead) ≡ left → KindBytes kinds depth (below ++ done) → (left ≡ 0 → ⊥) → depth ≡ stack_limit
@@ -75,5 +76,5 @@ module _ {results base : ℕ} {kinds₀ kinds : List ℕ} {left depth : ℕ} (w 
     over-of done [] p d g z m = absurd (z (sym d))
     over-of done (k ∷ ahead) p d g z m = omega (arith, g.many, length-append below done, length-append below outs, ap length p, length-append done (k ∷ ahead))
 
-    pub left_over : {after : List ℕ} {d : ℕ} → (left ≡ 0 → ⊥) → depth ≡ stack_limit → Leaves below outs after DEEP d
+    pub left_over : {after : List ℕ} → (left ≡ 0 → ⊥) → depth ≡ stack_limit → Leaves below outs after (Err DEEP)
     left_over z m = let s = w.so_far below outs h e in too_many (over-of s.done s.ahead s.parts s.digits s.holds z m)

@@ -1,11 +1,11 @@
 -- The operands, popped one by one from the top.
-use Prim.Native.Nat.{ℕ, ◌+◌, ◌-◌, ◌/◌, ◌%◌, ◌≤◌, ◌<◌}
+use Prim.Native.Nat.{ℕ, ◌+◌, ◌-◌, ◌/◌, ◌%◌, ◌≤◌}
 use mathlib.Core.Path.{◌≡◌, refl, sym, ap, subst, ◌∙◌}
 use mathlib.Core.Bool.{Bool, true, false}
 use mathlib.Core.List.{List, [], ◌∷◌, ◌++◌, map, reverse, reverse_aux, reverse_aux-eq, reverse-reverse, append-nil, append_assoc}
 use native.Mathlib.Omega.{arith}
 use lib.ListN.{length, get_or, length-append, length-reverse_aux}
-use Rattle.limits.specs.Limits.{stack_limit}
+use Rattle.std.specs.Prelude.{Some, None}
 use Rattle.operation.specs.Vector.{number}
 use Rattle.opcode.specs.Kind.{Kind, kind_byte}
 use Rattle.opcode.proofs.Effects.{kind-once, kind-range}
@@ -141,17 +141,17 @@ module _ {operands : ℕ} {kinds : List ℕ} {depth floor left base : ℕ} {dead
 
   module _ (outer ins : List Kind) (f : Frame) (t : Top kinds depth floor dead outer f) (e : number (map kind_byte (reverse ins)) ≡ operands) where
     -- in dead code the others are any
-    pub any-there : (left ≡ 0 → ⊥) → base ≡ floor → dead ≡ true → Under f ins floor floor
+    pub any-there : (left ≡ 0 → ⊥) → base ≡ floor → dead ≡ true → Under f ins floor (Some floor)
     any-there l b d =
         let same : floor + length {A = Kind} [] ≡ floor = omega arith in
-        subst (Under f ins floor) same (under [] (any-under t l (w.so_far outer ins f t e) b (t.dead_is ∙ d)))
+        subst (λ (n : ℕ). Under f ins floor (Some n)) same (under [] (any-under t l (w.so_far outer ins f t e) b (t.dead_is ∙ d)))
 
     -- no value is there, or another kind
-    pub none-there : (left ≡ 0 → ⊥) → base ≡ floor → dead ≡ false → (n : ℕ) → stack_limit < n → Under f ins floor n
-    none-there l b d n big = missing big (none-under t l (w.so_far outer ins f t e) b (t.dead_is ∙ d))
+    pub none-there : (left ≡ 0 → ⊥) → base ≡ floor → dead ≡ false → Under f ins floor None
+    none-there l b d = missing (none-under t l (w.so_far outer ins f t e) b (t.dead_is ∙ d))
 
-    pub other-there : (left ≡ 0 → ⊥) → (base ≡ floor → ⊥) → (get_or kinds (base - 1) 0 ≡ left % 256 → ⊥) → (n : ℕ) → stack_limit < n → Under f ins floor n
-    other-there l b other n big = missing big (λ c g. other (differs c g))
+    pub other-there : (left ≡ 0 → ⊥) → (base ≡ floor → ⊥) → (get_or kinds (base - 1) 0 ≡ left % 256 → ⊥) → Under f ins floor None
+    other-there l b other = missing (λ c g. other (differs c g))
       where
         differs : (c : List Kind) → Has f c ins → get_or kinds (base - 1) 0 ≡ left % 256
         differs c h =
@@ -166,9 +166,9 @@ module _ {operands : ℕ} {kinds : List ℕ} {depth floor left base : ℕ} {dead
             n.byte ∙ ap kind_byte it ∙ n.digit
 
     popped-of : (ahead taken below : List Kind) → ins ≡ reverse_aux ahead taken → f.values ≡ below ++ taken → number (map kind_byte ahead) ≡ left → floor + length below ≡ base → left ≡ 0
-        → Under f ins floor base
-    popped-of [] taken below p g d m z = subst (Under f ins floor) m (under below (all_known (g ∙ ap (λ (x : List Kind). below ++ x) (sym p))))
+        → Under f ins floor (Some base)
+    popped-of [] taken below p g d m z = subst (λ (n : ℕ). Under f ins floor (Some n)) m (under below (all_known (g ∙ ap (λ (x : List Kind). below ++ x) (sym p))))
     popped-of (k ∷ ahead) taken below p g d m z = absurd (let no : ⊥ = omega (arith, kind-range k) in no)
 
-    pub all-popped : left ≡ 0 → Under f ins floor base
+    pub all-popped : left ≡ 0 → Under f ins floor (Some base)
     all-popped z = let p = w.so_far outer ins f t e in popped-of p.ahead p.taken p.below p.parts p.stack p.digits p.many z

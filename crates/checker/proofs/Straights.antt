@@ -3,6 +3,7 @@ use Prim.Native.Nat.{ℕ}
 use mathlib.Core.Path.{refl, subst}
 use mathlib.Core.Bool.{Bool, false}
 use mathlib.Core.List.{List, [], ◌∷◌, ◌++◌}
+use Rattle.std.specs.declared.result.Result.{Result}
 use Rattle.opcode.specs.Kind.{Kind}
 use Rattle.opcode.specs.Table.{Block, Loop, Br, BrIf, Code}
 use Rattle.instr.specs.declared.Instr.{Instr}
@@ -10,7 +11,7 @@ use Rattle.rules.specs.Typing.{Frame, holding, all_values, Has, all_known, Typed
 use Rattle.rules.proofs.Sorts.{typed-local, branches-control}
 use Rattle.checker.specs.Inner.Stack.{Top}
 use Rattle.checker.specs.Walk.{OpenBlocks, Framed}
-use Rattle.checker.specs.Inner.Judging.{Ordinary, Gives, undeclared_local, lacking, overfull, does, Judges, no_local, untyped, too_deep, typed}
+use Rattle.checker.specs.Inner.Judging.{Ordinary, Gives, undeclared_local, lacking, overfull, does, Judges, no_local, untyped, too_deep, typed, at_depth}
 use Rattle.checker.proofs.Nests.{nested-as, frames-case, framed-top}
 
 only-ordinary : {ls : List Kind} {i : Instr} {c : Code} {f : Frame} {fs fs' : List Frame} → Ordinary c
@@ -24,14 +25,14 @@ only-ordinary o g (closes h) = o.not_end refl
 
 module _ {ls : List Kind} {i : Instr} {c : Code} (o : Ordinary c) where
   module _ {rs : List Kind} {kinds after blocks : List ℕ} {depth nest floor : ℕ} {dead : Bool} where
-    straight-by : {f : Frame} {fs : List Frame} {code d : ℕ} → Framed rs kinds blocks depth nest floor dead (f ∷ fs) → Gives ls i.index c (all_values fs) f after code d
-        → Judges ls rs i c (f ∷ fs) after blocks d nest floor dead code
+    straight-by : {f : Frame} {fs : List Frame} {r : Result ℕ ℕ} → Framed rs kinds blocks depth nest floor dead (f ∷ fs) → Gives ls i.index c (all_values fs) f after r
+        → Judges ls rs i c (f ∷ fs) after blocks (at_depth r nest floor dead)
     straight-by w (undeclared_local names never) = no_local names never
     straight-by w (lacking {ins = ins} t never) =
         untyped o.not_end (typed-local {ls = ls} {i = i} (ordinary {below = []} {f = record { loop = false; results = []; values = ins; dead = false }} {fs = []} t (all_known refl)))
         (λ b. let x = branches-control b in absurd (o.not_control x.0 x.1)) (λ fs' u. only-ordinary o never u)
     straight-by w (overfull below t h big) = too_deep (ordinary {below = below} t h) big
-    straight-by {f} {fs} {d = d} w (does {outs = outs} below t h small g) =
+    straight-by {f} {fs} w (does {outs = outs} below t h small g) =
         typed (ordinary {below = below} t h)
         (record {
           holds = g;
@@ -39,8 +40,8 @@ module _ {ls : List Kind} {i : Instr} {c : Code} (o : Ordinary c) where
           within = record { blocks = w.within.blocks; values = small };
         })
 
-    pub straight : {fs : List Frame} {code d : ℕ} → Framed rs kinds blocks depth nest floor dead fs
-        → ((outer : List Kind) (f : Frame) → Top kinds depth floor dead outer f → Gives ls i.index c outer f after code d) → Judges ls rs i c fs after blocks d nest floor dead code
-    straight {code = code} {d} w g =
-        frames-case (λ x. Framed rs kinds blocks depth nest floor dead x → Judges ls rs i c x after blocks d nest floor dead code)
+    pub straight : {fs : List Frame} {r : Result ℕ ℕ} → Framed rs kinds blocks depth nest floor dead fs
+        → ((outer : List Kind) (f : Frame) → Top kinds depth floor dead outer f → Gives ls i.index c outer f after r) → Judges ls rs i c fs after blocks (at_depth r nest floor dead)
+    straight {r = r} w g =
+        frames-case (λ x. Framed rs kinds blocks depth nest floor dead x → Judges ls rs i c x after blocks (at_depth r nest floor dead))
         w.nested (λ f rest v. straight-by v (g (all_values rest) f (framed-top v))) w

@@ -1,23 +1,26 @@
 -- What a survey says: of the strip what the check says; and where it finds the place, what is known there, in one form.
 use Prim.Native.Nat.{ℕ, suc, ◌+◌, ◌*◌}
 use mathlib.Core.Path.{◌≡◌, refl, sym, ap, ap₂, subst, ◌∙◌}
-use mathlib.Core.Bool.{true, false}
 use mathlib.Core.List.{List, [], ◌∷◌, ◌++◌, map, append_assoc}
 use native.Mathlib.Omega.{arith}
 use lib.ListN.{length, get_or}
 use lib.Seq.{get_or-append-add}
+use Rattle.std.specs.Prelude.{Some, None, Ok, Err, MatchResult}
+use Rattle.std.specs.declared.option.Option.{Option}
+use Rattle.std.specs.declared.result.Result.{Result}
 use Rattle.opcode.specs.Kind.{kind_byte}
 use Rattle.rules.specs.Header.{Header}
 use Rattle.rules.specs.Typing.{Frame, all_values, Live}
 use Rattle.rules.specs.Strip.{Reaches, Valid}
 use Rattle.rules.specs.Around.{Around}
-use Rattle.rules.specs.Breach.{Says, valid, breach}
+use Rattle.rules.specs.Breach.{Breach}
 use Rattle.rules.proofs.Headers.{declares-once}
 use Rattle.rules.proofs.Onward.{declared, reached-once}
 use Rattle.rules.proofs.Arounds.{Begun, strip, block, around-once, around-reached}
 use Rattle.rules.proofs.Verdicts.{one-breach, valid-no-breach}
+use Rattle.checker.specs.declared.Refusal.{Refusal}
 use Rattle.checker.specs.declared.place.Surveyed.{Surveyed}
-use Rattle.checker.specs.Survey.{way, marks_of, fronted, missed, found, Surveys, breaks, misses, finds}
+use Rattle.checker.specs.Survey.{way, marks_of, fronted, found, Surveys, breaks, misses, finds}
 use Rattle.checker.proofs.Marks.{marks-many}
 
 -- where the place is found: the frames and the blocks there, in the answer and in both arrays
@@ -42,17 +45,21 @@ frames-many : {s : List ℕ} {h : Header} {p : ℕ} {fs : List Frame} {bs : List
 frames-many r a = let k = around-reached r in begun-many k.2 ∙ ap (λ (bs : List ℕ). suc (length bs)) (around-once k.1 a)
 
 module _ {s : List ℕ} {at : ℕ} {kinds marks : List ℕ} where
-  -- code and place are the check's
-  pub survey-checks : {r : Surveyed} {kinds' marks' : List ℕ} → Surveys s at kinds marks r kinds' marks' → Says s r.code r.place
-  survey-checks (breaks b) = breach b
-  survey-checks (misses v f) = valid v
-  survey-checks (finds v x l a) = valid v
+  -- what it says of the strip is the check's
+  pub survey-checks : {r : Result (Option Surveyed) Refusal} {kinds' marks' : List ℕ} → Surveys s at kinds marks r kinds' marks'
+      → MatchResult r (λ _. Valid s) (λ e. Breach s e.code e.place)
+  survey-checks (breaks b) = b
+  survey-checks (misses v f) = v
+  survey-checks (finds v x l a) = v
 
-  pub survey-found : {r : Surveyed} {kinds' marks' : List ℕ} → Surveys s at kinds marks r kinds' marks' → r.found ≡ true → Found s at kinds marks r kinds' marks'
+  pub survey-found : {r : Result (Option Surveyed) Refusal} {known : Surveyed} {kinds' marks' : List ℕ} → Surveys s at kinds marks r kinds' marks' → r ≡ Ok (Some known)
+      → Found s at kinds marks known kinds' marks'
   survey-found (breaks b) e = absurd (let z : ◌≡◌ {A = ℕ} 0 1 = cc in omega arith)
   survey-found (misses v f) e = absurd (let z : ◌≡◌ {A = ℕ} 0 1 = cc in omega arith)
-  survey-found (finds v {fs} {bs} x l a) e =
-      record {
+  survey-found {kinds' = kinds'} {marks'} (finds v {fs} {bs} x l a) e =
+      let same : found (length (all_values fs)) (length bs) ≡ _ = cc in
+      subst (λ (r : Surveyed). Found s at kinds marks r kinds' marks') same
+      (record {
         valid = v;
         frames = fs;
         begun = bs;
@@ -64,16 +71,17 @@ module _ {s : List ℕ} {at : ℕ} {kinds marks : List ℕ} where
         nest-is = refl;
         kinds-are = refl;
         marks-are = refl;
-      }
+      })
 
   -- else both arrays are as they were
-  pub survey-keeps : {r : Surveyed} {kinds' marks' : List ℕ} → Surveys s at kinds marks r kinds' marks' → r.found ≡ false → (kinds' ≡ kinds) × (marks' ≡ marks)
-  survey-keeps (breaks b) e = (refl, refl)
-  survey-keeps (misses v f) e = (refl, refl)
-  survey-keeps (finds v x l a) e = absurd (let z : ◌≡◌ {A = ℕ} 0 1 = cc in omega arith)
+  pub survey-keeps : {r : Result (Option Surveyed) Refusal} {kinds' marks' : List ℕ} → Surveys s at kinds marks r kinds' marks' → ((known : Surveyed) → r ≡ Ok (Some known) → ⊥)
+      → (kinds' ≡ kinds) × (marks' ≡ marks)
+  survey-keeps (breaks b) f = (refl, refl)
+  survey-keeps (misses v g) f = (refl, refl)
+  survey-keeps (finds v {fs} {bs} x l a) f = absurd (f (found (length (all_values fs)) (length bs)) refl)
 
   -- and in a strip that keeps every rule no instruction stands there in live code
-  pub survey-nowhere : {r : Surveyed} {kinds' marks' : List ℕ} → Surveys s at kinds marks r kinds' marks' → r.found ≡ false → (v : Valid s) (fs : List Frame)
+  pub survey-nowhere : {r : Result (Option Surveyed) Refusal} {kinds' marks' : List ℕ} → Surveys s at kinds marks r kinds' marks' → r ≡ Ok None → (v : Valid s) (fs : List Frame)
       → Reaches s v.header at fs → Live fs → ⊥
   survey-nowhere (breaks b) e v fs x l = valid-no-breach v b
   survey-nowhere (misses w f) e v fs x l =
@@ -81,8 +89,8 @@ module _ {s : List ℕ} {at : ℕ} {kinds marks : List ℕ} where
   survey-nowhere (finds w x l a) e v fs y k = absurd (let z : ◌≡◌ {A = ℕ} 0 1 = cc in omega arith)
 
   -- one answer, and one content of both arrays
-  pub survey-once : {r r' : Surveyed} {k k' m m' : List ℕ} → Surveys s at kinds marks r k m → Surveys s at kinds marks r' k' m' → (k ≡ k') × (m ≡ m') × (r ≡ r')
-  survey-once (breaks b) (breaks b') = let one = one-breach b b' in (refl, refl, ap₂ missed one.0 one.1)
+  pub survey-once : {r r' : Result (Option Surveyed) Refusal} {k k' m m' : List ℕ} → Surveys s at kinds marks r k m → Surveys s at kinds marks r' k' m' → (k ≡ k') × (m ≡ m') × (r ≡ r')
+  survey-once (breaks b) (breaks b') = let one = one-breach b b' in (refl, refl, ap₂ (λ (c p : ℕ). Err (record { code = c; place = p })) one.0 one.1)
   survey-once (breaks b) (misses v f) = absurd (valid-no-breach v b)
   survey-once (breaks b) (finds v x l a) = absurd (valid-no-breach v b)
   survey-once (misses v f) (breaks b) = absurd (valid-no-breach v b)
@@ -96,7 +104,7 @@ module _ {s : List ℕ} {at : ℕ} {kinds marks : List ℕ} where
       let blocks : bs ≡ cs = around-once a (subst (λ (h : Header). Around s h at cs) header b) in (
         ap (λ (z : List Frame). fronted (map kind_byte (all_values z)) kinds) frames,
         ap₂ (λ (z : List Frame) (c : List ℕ). fronted (marks_of z c) marks) frames blocks,
-        ap₂ (λ (z : List Frame) (c : List ℕ). found (length (all_values z)) (length c)) frames blocks,
+        ap₂ (λ (z : List Frame) (c : List ℕ). Ok (Some (found (length (all_values z)) (length c)))) frames blocks,
       )
 
 -- the marks of the innermost block stand after those of the others

@@ -7,6 +7,9 @@ use Rattle.card.specs.declared.Answer.{Answer}
 use Rattle.rules.proofs.Verdicts.{says-once}
 use Rattle.checker.specs.Check.{Checked}
 use Rattle.checker.specs.declared.turns.State.{State}
+use Rattle.std.specs.declared.option.Option.{Option}
+use Rattle.std.specs.declared.result.Result.{Result}
+use Rattle.checker.specs.declared.Refusal.{Refusal}
 use Rattle.checker.specs.declared.place.Surveyed.{Surveyed}
 use Rattle.checker.proofs.Known.{steps-once}
 use Rattle.checker.proofs.Surveys.{survey-once}
@@ -38,6 +41,6 @@ pub one-follow : (κs : _) (a : _) (e e' : _) (r r' : State) → follow.Post κs
     → (e.1.1.1.0.now ≡ e'.1.1.1.0.now) × (e.1.1.1.1.0.now ≡ e'.1.1.1.1.0.now) × (r ≡ r')
 one-follow κs a e e' r r' p q = steps-once p q
 
-pub one-survey : (κs : _) (a : _) (e e' : _) (r r' : Surveyed) → survey.Post κs a r e → survey.Post κs a r' e'
+pub one-survey : (κs : _) (a : _) (e e' : _) (r r' : Result (Option Surveyed) Refusal) → survey.Post κs a r e → survey.Post κs a r' e'
     → (e.1.1.0.now ≡ e'.1.1.0.now) × (e.1.1.1.0.now ≡ e'.1.1.1.0.now) × (r ≡ r')
 one-survey κs a e e' r r' p q = survey-once p q

@@ -1,11 +1,13 @@
 -- One step of the walk: what the check does at a place that it has reached, where it turns nothing away.
 use Prim.Native.Nat.{ℕ, ◌+◌, ◌^◌, ◌≤◌, ◌<◌}
-use mathlib.Core.Path.{◌≡◌, sym, ap, ◌∙◌}
+use mathlib.Core.Path.{◌≡◌, refl, sym, ap, subst, ◌∙◌}
 use mathlib.Core.Bool.{true, false, ◌&&◌}
 use mathlib.Core.List.{List}
 use native.Mathlib.Omega.{arith}
 use lib.Dec.{eqb}
 use lib.ListN.{length, get_or, drop}
+use Rattle.std.specs.Prelude.{Ok, Err, is_ok}
+use Rattle.std.specs.declared.result.Result.{Result}
 use Rattle.card.specs.Card.{DONE}
 use Rattle.limits.specs.Limits.{result_limit}
 use Rattle.leb128.specs.Bytes.{bytes}
@@ -20,7 +22,7 @@ use Rattle.instr.specs.Scan.{scan_of}
 use Rattle.instr.proofs.Decodes.{stands-decodes}
 use Rattle.rules.specs.Header.{Header, Declares, locals}
 use Rattle.rules.specs.Typing.{Frame, Types}
-use Rattle.rules.specs.Strip.{Reads, past}
+use Rattle.rules.specs.Strip.{Reads, Within, past}
 use Rattle.rules.proofs.Headers.{decodes-known}
 use Rattle.rules.proofs.Onward.{declared, reads-once, only}
 use Rattle.rules.proofs.Sorts.{typed-inner}
@@ -87,29 +89,37 @@ module _ {s : List ℕ} {p : ℕ} {kinds blocks : List ℕ} {state : State} (w :
         pub turn-ready : AtTurn takes d.entry d.immediate kinds blocks state.depth state.nest state.floor
         turn-ready = ready going d is b read other
 
-        pub next-step : {kinds' blocks' : List ℕ} (state' : State)
-            → ((c : Code) (i : Instr) (ls rs : List Kind) (fs : List Frame)
+        module _ {kinds' blocks' : List ℕ} {r : Result State ℕ} (j : (c : Code) (i : Instr) (ls rs : List Kind) (fs : List Frame)
             → Faces s (get_or s 5 0 + get_or s 6 0) takes d.entry d.immediate kinds blocks state.depth state.nest state.floor state.dead c i ls rs fs
-            → Judges ls rs i c fs kinds' blocks' state'.depth state'.nest state'.floor state'.dead state'.code)
-            → Keeps state'.code state'.depth kinds kinds' × Keeps state'.code state'.nest blocks blocks' → length kinds' ≡ length kinds
-            → length blocks' ≡ length blocks
-            → Steps s p kinds blocks state kinds' blocks' state'
-        next-step {kinds'} {blocks'} state' j keeps lk lb = stepped (by (ahead w.valid w.reached))
-          where
-            by : Ahead s h p w.frames → Goes s (p + d.len) kinds blocks state kinds' blocks' state'
-            by (stops r one q) = absurd (no_end going d is b read other (reads-once its.1 r).1 (omega (arith, nested-many w.framed.nested, one)))
-            by (goes {fs' = fs'} r u l) =
-                let t = only (λ x y. Types (locals h) x y w.frames fs') r u i its.0 d.len its.1 in
-                let k = passed t l (judgement going d is b read other j) in
-                on (record {
-                  valid =
-                      w.valid;
-                  frames = fs';
-                  reached = past w.reached its.1 t l;
-                  framed = k.1;
-                  kinds_long = lk ∙ w.kinds_long;
-                  blocks_long = lb
-                      ∙ w.blocks_long;
-                  well = k.0;
-                })
-                (keeps.0 k.0) (keeps.1 k.0)
+            → Judges ls rs i c fs kinds' blocks' r) where
+          -- it is not turned away
+          pub never-refused : is_ok r ≡ true
+          never-refused = by (ahead w.valid w.reached)
+            where
+              told : {r : Result State ℕ} {fs' : List Frame} (t : Types (locals h) i its.0 w.frames fs') (l : Within fs') → Judges (locals h) h.results i its.0 w.frames kinds' blocks' r → is_ok r ≡ true
+              told {r = Ok st} t l x = refl
+              told {r = Err e} t l x = absurd (passed t l x)
+
+              by : Ahead s h p w.frames → is_ok r ≡ true
+              by (stops q one e) = absurd (no_end going d is b read other (reads-once its.1 q).1 (omega (arith, nested-many w.framed.nested, one)))
+              by (goes {fs' = fs'} q u l) = told (only (λ x y. Types (locals h) x y w.frames fs') q u i its.0 d.len its.1) l (judgement going d is b read other j)
+
+          pub next-step : (state' : State) → r ≡ Ok state' → Keeps state'.depth kinds kinds' × Keeps state'.nest blocks blocks' → length kinds' ≡ length kinds
+              → length blocks' ≡ length blocks
+              → Steps s p kinds blocks state kinds' blocks' state'
+          next-step state' e keeps lk lb = stepped (by (ahead w.valid w.reached))
+            where
+              by : Ahead s h p w.frames → Goes s (p + d.len) kinds blocks state kinds' blocks' state'
+              by (stops q one x) = absurd (no_end going d is b read other (reads-once its.1 q).1 (omega (arith, nested-many w.framed.nested, one)))
+              by (goes {fs' = fs'} q u l) =
+                  let t = only (λ x y. Types (locals h) x y w.frames fs') q u i its.0 d.len its.1 in
+                  let k = passed t l (subst (λ (y : Result State ℕ). Judges (locals h) h.results i its.0 w.frames kinds' blocks' y) e (judgement going d is b read other j)) in
+                  on (record {
+                    valid = w.valid;
+                    frames = fs';
+                    reached = past w.reached its.1 t l;
+                    framed = k;
+                    kinds_long = lk ∙ w.kinds_long;
+                    blocks_long = lb ∙ w.blocks_long;
+                  })
+                  keeps.0 keeps.1

@@ -1,6 +1,5 @@
 -- The check's walk, for those who follow it over a strip that keeps every rule: where it begins, what it holds at a place, and one step of it.
 use Rattle.std.specs.Prelude.{ℕ, suc, ◌+◌, ◌*◌, ◌^◌, ◌≡◌, Bool, true, false, cond, List, [], ◌∷◌, ◌++◌, map, ltb, length, get_or, drop}
-use Rattle.card.specs.Card.{DONE}
 use Rattle.limits.specs.Limits.{stack_limit, nest_limit}
 use Rattle.opcode.specs.Kind.{Kind, kind_byte}
 use Rattle.opcode.specs.BlockType.{is_block_type, block_results}
@@ -51,7 +50,7 @@ pub record Framed (rs : List Kind) (kinds blocks : List ℕ) (depth nest floor :
 
 -- at the first instruction
 abbrev pub outset : State
-outset = record { code = DONE; depth = 0; nest = 0; floor = 0; dead = false }
+outset = record { depth = 0; nest = 0; floor = 0; dead = false }
 
 -- the walk over a strip that keeps every rule stands at p: two arrays and a state hold what is known there
 pub record Walks (s : List ℕ) (p : ℕ) (kinds blocks : List ℕ) (state : State) : Type 0 where
@@ -61,7 +60,6 @@ pub record Walks (s : List ℕ) (p : ℕ) (kinds blocks : List ℕ) (state : Sta
   pub framed : Framed valid.header.results kinds blocks state.depth state.nest state.floor state.dead frames
   pub kinds_long : length kinds ≡ stack_limit
   pub blocks_long : length blocks ≡ nest_limit
-  pub well : state.code ≡ DONE
 
 -- what scanning tells of the instruction at p
 abbrev pub read_at : List ℕ → ℕ → Scanned

@@ -4,7 +4,7 @@ ghost use Rattle.limits.specs.Limits.{stack_limit, result_limit};
 ghost use Rattle.opcode.specs.Kind.{Kind};
 ghost use Rattle.opcode.specs.BlockType.{is_block_type, block_results};
 ghost use Rattle.rules.specs.Typing.{Frame};
-ghost use Rattle.checker.specs.Walk.{bit, word, OpenBlocks};
+ghost use Rattle.checker.specs.Walk.{word, OpenBlocks};
 ghost use Rattle.checker.specs.Survey.{way};
 ghost use Rattle.checker.specs.Inner.Blocks.{top_first, Labelled};
 
@@ -20,18 +20,12 @@ const DEAD: u32 = 2 * LOOPED;
 
 const FLOOR: u32 = 2 * DEAD;
 
-fn bit_of(b: bool) -> u32
-    ensures { result ≡ bit b }
-{
-    if b { 1 } else { 0 }
-}
-
 // A block's word: its type, whether it is a loop, whether the code around it is dead, and the floor of what is around it.
 pub(crate) fn word_of(floor: usize, block: u32, looped: bool, dead: bool) -> u32
     requires { (floor ≤ stack_limit) × (block < 256) }
     ensures { result ≡ word floor block looped dead }
 {
-    block + LOOPED * bit_of(looped) + DEAD * bit_of(dead) + FLOOR * (floor as u32)
+    block + LOOPED * u32::from(looped) + DEAD * u32::from(dead) + FLOOR * (floor as u32)
 }
 
 pub(crate) fn floor_in(w: u32) -> usize

@@ -11,7 +11,9 @@ mod turns;
 mod typing;
 mod walk;
 
-ghost use Rattle.std.specs.Prelude.{◌≡◌};
+ghost use Rattle.std.specs.Prelude.{◌≡◌, MatchResult};
+ghost use Rattle.rules.specs.Strip.{Valid};
+ghost use Rattle.rules.specs.Breach.{Breach};
 ghost use Rattle.checker.specs.Check.{Checked};
 ghost use Rattle.checker.specs.Walk.{start_of};
 
@@ -21,21 +23,34 @@ pub use place::{MARKS, OPEN, Surveyed, survey};
 pub use turns::State;
 pub use walk::{follow, outset};
 
+// The line of the card that a strip breaks, and the place where it does.
+#[derive(Clone, Copy)]
+pub struct Refusal {
+    pub code: u8,
+    pub place: usize,
+}
+
 pub fn check(strip: &[u8]) -> Answer
     ensures { Checked strip.now result }
 {
-    let h = header::read(strip);
-    if h.code != card::DONE {
-        return answer(h.code, h.place);
+    match inspect(strip) {
+        Ok(()) => answer(card::DONE, 0),
+        Err(e) => answer(e.code, e.place),
     }
-    // No instruction stands at 0: nothing is noted.
+}
+
+// The header, and then the instructions. No instruction stands at 0: nothing is noted.
+fn inspect(strip: &[u8]) -> Result<(), Refusal>
+    ensures { MatchResult result (λ _. Valid strip.now) (λ e. Breach strip.now e.code e.place) }
+{
+    let h = header::read(strip)?;
     let mut held = [0u8; limits::STACK];
     let mut words = [0u32; limits::NEST];
     let mut begun = [0usize; limits::NEST];
-    let w = body::body(
+    body::body(
         strip, h.version, h.locals, h.takes, h.start, 0, &mut held, &mut words, &mut begun,
-    );
-    answer(w.code, w.place)
+    )?;
+    Ok(())
 }
 
 // Where a strip's instructions begin: after the counts and the kind bytes that they declare.
@@ -49,7 +64,7 @@ pub fn start(strip: &[u8]) -> usize
 }
 
 // An answer of the check: no steps.
-pub(crate) fn answer(code: u8, place: usize) -> Answer
+fn answer(code: u8, place: usize) -> Answer
     ensures { (result.code ≡ code) × (result.place ≡ place) × (result.steps ≡ 0) }
 {
     Answer {
@@ -57,4 +72,10 @@ pub(crate) fn answer(code: u8, place: usize) -> Answer
         place,
         steps: 0,
     }
+}
+
+pub(crate) fn refuse(code: u8, place: usize) -> Refusal
+    ensures { (result.code ≡ code) × (result.place ≡ place) }
+{
+    Refusal { code, place }
 }

@@ -6,27 +6,20 @@ ghost use Rattle.opcode.specs.Kind.{Kind, kind_byte};
 ghost use Rattle.checker.specs.Walk.{KindBytes};
 ghost use Rattle.checker.specs.Inner.Blocks.{top_first};
 
-fn wide(b: u8) -> u64
-    ensures { result ≡ b }
-{
-    b as u64
-}
-
 // The n kinds from a place of the strip on, the last one lowest.
 pub(crate) fn top_first(strip: &[u8], from: usize, n: usize) -> u64
     requires { (from + n ≤ length strip.now) × (n ≤ result_limit) }
     ensures { (result < 2 ^ 32) × ((ks : List Kind) → KindBytes (drop from strip.now) n ks → top_first ks ≡ result) }
 {
+    let end = from + n;
     let mut all = 0;
-    let mut k = 0;
-    while k < n {
-        all = all % 0x100_0000 * 256 + wide(strip[from + k]);
-        k += 1;
+    for kind in &strip[from..end] {
+        all = all % 0x100_0000 * 256 + u64::from(*kind);
     }
     all
 }
 
-// The first one lowest.
+// The first one lowest. The loop stays a `while`: a number's bytes are no collection.
 pub(crate) fn flipped(kinds: u64) -> u64
     ensures { (ks : List Kind) → length ks ≤ result_limit → top_first ks ≡ kinds → number (map kind_byte ks) ≡ result }
 {
@@ -34,7 +27,7 @@ pub(crate) fn flipped(kinds: u64) -> u64
     let mut all = 0;
     while left != 0 {
         all = all % 0x100_0000 * 256 + left % 256;
-        left = left / 256;
+        left /= 256;
     }
     all
 }

@@ -4,10 +4,10 @@ ghost use Rattle.limits.specs.Limits.{stack_limit, nest_limit};
 ghost use Rattle.opcode.specs.Kind.{Kind};
 ghost use Rattle.rules.specs.Typing.{Frame};
 ghost use Rattle.checker.specs.Walk.{OpenBlocks};
-ghost use Rattle.checker.specs.Survey.{fronted, marks_of, missed as Survey·missed, Surveys};
+ghost use Rattle.checker.specs.Survey.{fronted, marks_of, Surveys};
 ghost use Rattle.checker.specs.Inner.Coming.{Noted, TellsDead};
 
-use crate::{blocks, body, header};
+use crate::{Refusal, blocks, body, header};
 
 // Of each open block three numbers: how many values are under it, what a branch to it does, and where its body begins. The number
 // after them is the caller's: how many are open.
@@ -15,66 +15,41 @@ pub const OPEN: usize = 3 * limits::NEST;
 
 pub const MARKS: usize = OPEN + 1;
 
-// The check's code and place; and, where an instruction stands at the place that was asked, in no dead code: the values on the stack and the open
-// blocks there.
+// How many values are on the stack, and how many blocks are open, at a place.
 #[derive(Clone, Copy)]
 pub struct Surveyed {
-    pub code: u8,
-    pub place: usize,
-    pub found: bool,
     pub depth: usize,
     pub nest: usize,
 }
 
+// The check; and, where an instruction stands at the place that is asked, in no dead code, what is known there.
 pub fn survey(
     strip: &[u8],
     place: usize,
     kinds: &mut [u8; limits::STACK],
     marks: &mut [usize; MARKS],
-) -> Surveyed
+) -> Result<Option<Surveyed>, Refusal>
     ensures { Surveys strip.now place kinds.old marks.old result kinds.new marks.new }
 {
-    let h = header::read(strip);
-    if h.code != card::DONE {
-        return missed(h.code, h.place);
-    }
+    let h = header::read(strip)?;
     let mut held = [0u8; limits::STACK];
     let mut words = [0u32; limits::NEST];
     let mut begun = [0usize; limits::NEST];
-    let w = body::body(
+    let walked = body::body(
         strip, h.version, h.locals, h.takes, h.start, place, &mut held, &mut words, &mut begun,
-    );
-    if w.code != card::DONE {
-        return missed(w.code, w.place);
-    }
-    let there = w.there;
-    if there.code != card::DONE {
-        return missed(card::DONE, 0);
-    }
+    )?;
+    let Some(there) = walked else {
+        return Ok(None);
+    };
     if is_dead(&words, there.nest, there.dead) {
-        return missed(card::DONE, 0);
+        return Ok(None);
     }
     put_kinds(&held, there.depth, kinds);
     put_marks(&words, &begun, there.nest, there.floor, marks);
-    Surveyed {
-        code: card::DONE,
-        place: 0,
-        found: true,
+    Ok(Some(Surveyed {
         depth: there.depth,
         nest: there.nest,
-    }
-}
-
-fn missed(code: u8, place: usize) -> Surveyed
-    ensures { result ≡ Survey·missed code place }
-{
-    Surveyed {
-        code,
-        place,
-        found: false,
-        depth: 0,
-        nest: 0,
-    }
+    }))
 }
 
 // Whether code is dead: in the innermost block, or around an open one.
@@ -85,9 +60,7 @@ fn is_dead(words: &[u32; limits::NEST], nest: usize, dead: bool) -> bool
     if dead {
         return true;
     }
-    let mut k = nest;
-    while k != 0 {
-        k -= 1;
+    for k in (0..nest).rev() {
         if blocks::dead_in(words[k]) {
             return true;
         }
@@ -100,11 +73,7 @@ fn put_kinds(from: &[u8; limits::STACK], n: usize, kinds: &mut [u8])
     requires { (n ≤ stack_limit) × (length from.now ≡ stack_limit) × (length kinds.old ≡ stack_limit) }
     ensures { kinds.new ≡ fronted (take n from.now) kinds.old }
 {
-    let mut k = n;
-    while k != 0 {
-        k -= 1;
-        kinds[k] = from[k];
-    }
+    kinds[..n].copy_from_slice(&from[..n]);
 }
 
 // The marks of the open blocks, the innermost first; what is under a block is the floor in the word of the next.
@@ -119,9 +88,7 @@ fn put_marks(
     ensures { (rs : List Kind) (fs : List Frame) (bs : List ℕ) (dead : Bool) → OpenBlocks rs words.now nest floor dead fs → length bs ≡ nest → Noted bodies.now bs → marks.new ≡ fronted (marks_of fs bs) marks.old }
 {
     let mut height = floor;
-    let mut k = nest;
-    while k != 0 {
-        k -= 1;
+    for k in (0..nest).rev() {
         let w = words[k];
         let first = 3 * k;
         marks[first + 2] = bodies[k];

@@ -1,5 +1,5 @@
 // The kinds on the stack, lent as bytes beside a depth; from a floor on they are those of the innermost block.
-ghost use Rattle.std.specs.Prelude.{◌≤◌, ◌≡◌, List, map, reverse, length};
+ghost use Rattle.std.specs.Prelude.{◌≤◌, ◌≡◌, List, map, reverse, length, IfSome, IfOk};
 ghost use Rattle.std.proofs.Math.Option.{some};
 ghost use Rattle.limits.specs.Limits.{stack_limit};
 ghost use Rattle.operation.specs.Vector.{number};
@@ -10,93 +10,82 @@ ghost use Rattle.rules.specs.Typing.{Frame};
 ghost use Rattle.checker.specs.Walk.{KindBytes};
 ghost use Rattle.checker.specs.Inner.Stack.{Keeps, Top, Under, Small, Leaves, Applies};
 
-// A code, and how many values the stack holds then.
-#[derive(Clone, Copy)]
-pub(crate) struct Judged {
-    pub code: u8,
-    pub depth: usize,
-}
-
-// How many values lie under the operands, whose kinds are the bytes of a number, the top one first; more than the stack holds where they
-// are not there. In dead code any are there under the floor.
-pub(crate) fn under(operands: u64, kinds: &[u8], depth: usize, floor: usize, dead: bool) -> usize
+// How many values lie under the operands, whose kinds are the bytes of a number, the top one first, if these are there. In dead code any are there
+// under the floor. The loop stays a `while`: a number's bytes are no collection.
+pub(crate) fn under(
+    operands: u64,
+    kinds: &[u8],
+    depth: usize,
+    floor: usize,
+    dead: bool,
+) -> Option<usize>
     requires { (floor ≤ depth) × (depth ≤ length kinds.now) }
-    ensures { (outer ins : List Kind) (f : Frame) → Top kinds.now depth floor dead outer f → number (map kind_byte (reverse ins)) ≡ operands → Under f ins floor result }
+    ensures most { IfSome result (λ base. base ≤ depth) }
+    ensures under { (outer ins : List Kind) (f : Frame) → Top kinds.now depth floor dead outer f → number (map kind_byte (reverse ins)) ≡ operands → Under f ins floor result }
 {
     let mut left = operands;
     let mut base = depth;
     while left != 0 {
         if base == floor {
             if dead {
-                return floor;
+                return Some(floor);
             }
-            return limits::STACK + 1;
+            return None;
         }
         if kinds[base - 1] != (left % 256) as u8 {
-            return limits::STACK + 1;
+            return None;
         }
-        left = left / 256;
+        left /= 256;
         base -= 1;
     }
-    base
+    Some(base)
 }
 
-// Kinds whose bytes are a number, the lowest first, are left from a base on.
-pub(crate) fn leave(results: u64, kinds: &mut [u8], base: usize) -> Judged
+// Kinds whose bytes are a number, the lowest first, are left from a base on: how many values the stack holds then, or the line of the card that
+// turns them away. The loop stays a `while`: a number's bytes are no collection.
+pub(crate) fn leave(results: u64, kinds: &mut [u8], base: usize) -> Result<usize, u8>
     requires { (base ≤ stack_limit) × (length kinds.old ≡ stack_limit) }
-    ensures leaves { (below outs : List Kind) → KindBytes kinds.old base below → number (map kind_byte outs) ≡ results → Leaves below outs kinds.new result.code result.depth }
-    ensures keeps { Keeps result.code result.depth kinds.old kinds.new }
+    ensures leaves { (below outs : List Kind) → KindBytes kinds.old base below → number (map kind_byte outs) ≡ results → Leaves below outs kinds.new result }
+    ensures keeps { IfOk result (λ depth. Keeps depth kinds.old kinds.new) }
 {
     let mut left = results;
     let mut depth = base;
     while left != 0 {
         if depth == limits::STACK {
-            return Judged {
-                code: card::DEEP,
-                depth: 0,
-            };
+            return Err(card::DEEP);
         }
         kinds[depth] = (left % 256) as u8;
-        left = left / 256;
+        left /= 256;
         depth += 1;
     }
-    Judged {
-        code: card::DONE,
-        depth,
-    }
+    Ok(depth)
 }
 
 // The operands are taken and the result is left, as an entry of the table has them in a number.
-pub(crate) fn apply(effect: u32, kinds: &mut [u8], depth: usize, floor: usize, dead: bool) -> Judged
+pub(crate) fn apply(
+    effect: u32,
+    kinds: &mut [u8],
+    depth: usize,
+    floor: usize,
+    dead: bool,
+) -> Result<usize, u8>
     requires { (floor ≤ depth) × (depth ≤ stack_limit) × (length kinds.old ≡ stack_limit) }
-    ensures applies { (outer ins outs : List Kind) (f : Frame) → Top kinds.old depth floor dead outer f → Small ins outs → packed (some (ins ⇒ outs)) ≡ effect → Applies outer f ins outs kinds.new result.code result.depth }
-    ensures keeps { Keeps result.code result.depth kinds.old kinds.new }
+    ensures applies { (outer ins outs : List Kind) (f : Frame) → Top kinds.old depth floor dead outer f → Small ins outs → packed (some (ins ⇒ outs)) ≡ effect → Applies outer f ins outs kinds.new result }
+    ensures keeps { IfOk result (λ depth. Keeps depth kinds.old kinds.new) }
 {
-    let base = under((effect % 0x100_0000) as u64, kinds, depth, floor, dead);
-    if limits::STACK < base {
-        return Judged {
-            code: card::OPERAND,
-            depth: 0,
-        };
-    }
+    let taken = u64::from(effect % 0x100_0000);
+    let Some(base) = under(taken, kinds, depth, floor, dead) else {
+        return Err(card::OPERAND);
+    };
     let result = (effect / 0x100_0000) as u8;
     if result == 0 {
-        return Judged {
-            code: card::DONE,
-            depth: base,
-        };
+        return Ok(base);
     }
     if base == limits::STACK {
-        return Judged {
-            code: card::DEEP,
-            depth: 0,
-        };
+        return Err(card::DEEP);
     }
     kinds[base] = result;
-    Judged {
-        code: card::DONE,
-        depth: base + 1,
-    }
+    Ok(base + 1)
 }
 
 // The same of any kinds, those taken the top one first in a number and those left the lowest first.
@@ -107,17 +96,13 @@ pub(crate) fn exchange(
     depth: usize,
     floor: usize,
     dead: bool,
-) -> Judged
+) -> Result<usize, u8>
     requires { (floor ≤ depth) × (depth ≤ stack_limit) × (length kinds.old ≡ stack_limit) }
-    ensures applies { (outer ins outs : List Kind) (f : Frame) → Top kinds.old depth floor dead outer f → number (map kind_byte (reverse ins)) ≡ operands → number (map kind_byte outs) ≡ results → Applies outer f ins outs kinds.new result.code result.depth }
-    ensures keeps { Keeps result.code result.depth kinds.old kinds.new }
+    ensures applies { (outer ins outs : List Kind) (f : Frame) → Top kinds.old depth floor dead outer f → number (map kind_byte (reverse ins)) ≡ operands → number (map kind_byte outs) ≡ results → Applies outer f ins outs kinds.new result }
+    ensures keeps { IfOk result (λ depth. Keeps depth kinds.old kinds.new) }
 {
-    let base = under(operands, kinds, depth, floor, dead);
-    if limits::STACK < base {
-        return Judged {
-            code: card::OPERAND,
-            depth: 0,
-        };
-    }
+    let Some(base) = under(operands, kinds, depth, floor, dead) else {
+        return Err(card::OPERAND);
+    };
     leave(results, kinds, base)
 }

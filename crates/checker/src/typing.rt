@@ -1,5 +1,5 @@
 // One instruction that was read, over the kinds of the locals and of the stack.
-ghost use Rattle.std.specs.Prelude.{◌+◌, ◌≤◌, ◌≡◌, List, length, drop};
+ghost use Rattle.std.specs.Prelude.{◌+◌, ◌≤◌, ◌≡◌, List, length, drop, IfOk};
 ghost use Rattle.limits.specs.Limits.{stack_limit};
 ghost use Rattle.opcode.specs.Kind.{Kind};
 ghost use Rattle.opcode.specs.Table.{Code, carried};
@@ -10,7 +10,6 @@ ghost use Rattle.checker.specs.Inner.Stack.{Keeps, Top};
 ghost use Rattle.checker.specs.Inner.Judging.{Effected, Ordinary, Gives};
 
 use crate::stack;
-use crate::stack::Judged;
 use opcode::kind;
 
 // What the instruction takes and leaves, in a number as an entry of the table has it: by its signature, or by the kind of the value or of the
@@ -60,17 +59,14 @@ pub(crate) fn judge(
     depth: usize,
     floor: usize,
     dead: bool,
-) -> Judged
+) -> Result<usize, u8>
     requires { (8 + locals ≤ length strip.now) × (floor ≤ depth) × (depth ≤ stack_limit) × (length kinds.old ≡ stack_limit) }
-    ensures gives { (c : Code) (ls outer : List Kind) (f : Frame) → entry ≡ entry_of (carried c) → Ordinary c → KindBytes (drop 8 strip.now) locals ls → Top kinds.old depth floor dead outer f → Gives ls index c outer f kinds.new result.code result.depth }
-    ensures keeps { Keeps result.code result.depth kinds.old kinds.new }
+    ensures gives { (c : Code) (ls outer : List Kind) (f : Frame) → entry ≡ entry_of (carried c) → Ordinary c → KindBytes (drop 8 strip.now) locals ls → Top kinds.old depth floor dead outer f → Gives ls index c outer f kinds.new result }
+    ensures keeps { IfOk result (λ depth. Keeps depth kinds.old kinds.new) }
 {
     let effect = effect_of(strip, locals, entry, index, kinds, depth, floor);
     if effect == 0 {
-        return Judged {
-            code: card::LOCAL,
-            depth: 0,
-        };
+        return Err(card::LOCAL);
     }
     stack::apply(effect, kinds, depth, floor, dead)
 }

@@ -11,7 +11,6 @@ pub fn outset() -> State
     ensures { result ≡ Walk·outset }
 {
     State {
-        code: card::DONE,
         depth: 0,
         nest: 0,
         floor: 0,
@@ -38,7 +37,9 @@ pub fn follow(
         return state;
     }
     if turns::is_straight(d.entry) {
-        return turns::straight(strip, locals, d.entry, d.immediate, kinds, state);
+        let next = turns::straight(strip, locals, d.entry, d.immediate, kinds, state);
+        return next.unwrap();
     }
-    turns::turn(takes, d.entry, d.immediate, kinds, blocks, state)
+    let next = turns::turn(takes, d.entry, d.immediate, kinds, blocks, state);
+    next.unwrap()
 }

@@ -1,21 +1,19 @@
 -- Past a number, past bytes, past fields: where fields stand, the place after them.
-use Prim.Native.Nat.{ℕ, suc, ◌+◌, ◌≤◌, ◌<◌}
+use Prim.Native.Nat.{ℕ, zero, suc, ◌+◌, ◌≤◌, ◌<◌}
 use mathlib.Core.Path.{◌≡◌, refl, ap, ◌∙◌}
 use mathlib.Core.Bool.{Bool, true, false, cond}
 use mathlib.Core.List.{List, [], ◌∷◌, ◌++◌}
-use native.Mathlib.Numerals.{add-one}
 use native.Mathlib.Omega.{arith}
 use lib.Dec.{ltb}
 use lib.IntN.{ℤ}
 use lib.ListN.{length, get_or, drop, length-append, length-drop}
-use lib.Seq.{drop-cons}
 use borrow.Author.Tests.{lt-ltb, le-ltb}
 use Rattle.leb128.specs.Grammar.{Written, u_last, s_low, s_high, more}
 use Rattle.opcode.specs.Immediate.{Immediates, nothing, index, block_type, word, long, memory, memory_lane, lane_index, sixteen_bytes, sixteen_lanes}
 use Rattle.instr.specs.declared.Instr.{Instr}
 use Rattle.instr.specs.Layout.{Field, number, raw, Writes, InOrder, immediate_fields}
 use Rattle.instr.proofs.Places.{past, first_of}
-use Rattle.closing.specs.Search.{number_long, past_number, past_bytes, past_field, past_fields, blank}
+use Rattle.closing.specs.Search.{Ends, number_long, past_number, past_bytes, past_field, past_fields, blank}
 
 -- ---- a number
 
@@ -43,20 +41,25 @@ written-long (s_low {n = n} a b) rest = last-long n rest (omega arith)
 written-long (s_high {n = n} a b c d) rest = last-long n rest (omega arith)
 written-long (more {n = n} {bs = bs} a b c w d) rest = more-long n (bs ++ rest) (omega arith) ∙ ap suc (written-long w rest)
 
+-- its first byte below 128 ends it; where there is none it goes on to the end
+long-to : (bs : List ℕ) (last : ℕ) → Ends bs last → number_long bs ≡ last + 1
+long-to [] last e = absurd (omega (arith, e.inside))
+long-to (b ∷ bs) zero e = last-long b bs e.here
+long-to (b ∷ bs) (suc last) e =
+    let up : Ends bs last = record { inside = omega (arith, e.inside); here = e.here; first = λ k l. e.first (suc k) (omega arith) } in
+    omega (arith, more-long b bs (e.first 0 (omega arith)), long-to bs last up)
+
+long-all : (bs : List ℕ) → ((k : ℕ) → k < length bs → 128 ≤ get_or bs k 0) → number_long bs ≡ length bs
+unfolding number_long
+long-all [] h = refl
+long-all (b ∷ bs) h = omega (arith, more-long b bs (h 0 (omega arith)), long-all bs (λ k l. h (suc k) (omega arith)))
+
 module _ (s : List ℕ) where
-  -- byte by byte
-  pub stops : (i : ℕ) → i < length s → get_or s i 0 < 128 → past_number s i ≡ i + 1
-  stops i l b = ap (λ (bs : List ℕ). i + number_long bs) (drop-cons s i 0 l) ∙ ap (λ (n : ℕ). i + n) (last-long (get_or s i 0) (drop (suc i) s) b)
+  pub past-last : (p last : ℕ) → p ≤ length s → Ends (drop p s) last → past_number s p ≡ p + last + 1
+  past-last p last l e = omega (arith, long-to (drop p s) last e)
 
-  pub goes : (i : ℕ) → i < length s → 128 ≤ get_or s i 0 → past_number s i ≡ past_number s (i + 1)
-  goes i l b =
-      let one : number_long (drop i s) ≡ suc (number_long (drop (suc i) s)) =
-      ap number_long (drop-cons s i 0 l) ∙ more-long (get_or s i 0) (drop (suc i) s) b in
-      let same : number_long (drop (i + 1) s) ≡ number_long (drop (suc i) s) = ap (λ (n : ℕ). number_long (drop n s)) (add-one i) in
-      omega (arith, one, same)
-
-  pub ends : (i : ℕ) → length s ≤ i → past_number s i ≡ i
-  ends i l = omega (arith, long-most (drop i s), length-drop i s)
+  pub past-all : (p : ℕ) → p ≤ length s → ((k : ℕ) → k < length (drop p s) → 128 ≤ get_or (drop p s) k 0) → past_number s p ≡ length s
+  past-all p l h = omega (arith, long-all (drop p s) h, length-drop p s)
 
   -- ---- fields
 

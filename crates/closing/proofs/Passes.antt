@@ -10,9 +10,10 @@ use lib.ListN.{length, get_or, drop, length-append}
 use lib.Seq.{get_or-drop}
 use borrow.Author.Tests.{eq-eqb, ne_eqb}
 use Rattle.leb128.specs.Bytes.{bytes}
-use Rattle.leb128.specs.Number.{number_at}
-use Rattle.leb128.specs.declared.read.Leb.{Leb}
-use Rattle.leb128.specs.declared.read.Leb.TheVariants.{Val, Short, Number}
+use Rattle.std.specs.Prelude.{Result, Ok, Err}
+use Rattle.leb128.specs.Number.{number_of, number_at}
+use Rattle.leb128.specs.declared.reading.Number.{Number}
+use Rattle.leb128.specs.declared.reading.NoNumber.{NoNumber}
 use Rattle.leb128.proofs.Bounds.{found-32}
 use Rattle.opcode.specs.Table.{Code, Row, carried, float, unassigned, PREFIX, latest, vector_at, plain_at, row_at}
 use Rattle.opcode.specs.Immediate.{Immediates, nothing, index, block_type, word, long, memory, memory_lane, lane_index, sixteen_bytes, sixteen_lanes, immediates}
@@ -24,6 +25,7 @@ use Rattle.opcode.proofs.Versions.{row-latest}
 use Rattle.instr.specs.declared.Instr.{Instr}
 use Rattle.instr.specs.Layout.{u32, Writes, InOrder, immediate_fields, fields_of, row_in, layout}
 use Rattle.instr.specs.Decode.{opcode_number}
+use Rattle.instr.proofs.Numbers.{same-number}
 use Rattle.instr.proofs.Ranges.{stands-inside}
 use Rattle.instr.proofs.Places.{first_of, others-of, byte-here, number-back}
 use Rattle.rules.specs.Strip.{Reads}
@@ -39,16 +41,15 @@ module _ (s : List ℕ) where
   row_inside unassigned p l = (l, omega arith)
 
   module _ (b : bytes s) where
-    opcode-inside : (p : ℕ) → p < length s → (t : Bool) (x : Leb) → cond t (number_at false 32 s (p + 1)) (Val 0 0) ≡ x
+    opcode-inside : (p : ℕ) → p < length s → (t : Bool) (x : Result Number NoNumber) → cond t (number_at false 32 s (p + 1)) (number_of 0 0) ≡ x
         → (p < (passed_by (get_or s p 0) s (p + 1) x).next) × ((passed_by (get_or s p 0) s (p + 1) x).next ≤ length s)
-    opcode-inside p l true (Val v n) e =
-        let f = found-32 false s (p + 1) b v n e in
-        let r = row_inside (row_at latest (get_or s p 0) v) (p + 1 + n) f.3 in (omega (arith, r.0), r.1)
-    opcode-inside p l false (Val v n) e =
-        let z : n ≡ 0 = cc in
-        let r = row_inside (row_at latest (get_or s p 0) v) (p + 1 + n) (omega (arith, z)) in (omega (arith, r.0), r.1)
-    opcode-inside p l t Short e = (l, omega arith)
-    opcode-inside p l t Number e = (l, omega arith)
+    opcode-inside p l true (Ok m) e =
+        let f = found-32 false s (p + 1) b m.value m.len e in
+        let r = row_inside (row_at latest (get_or s p 0) m.value) (p + 1 + m.len) f.3 in (omega (arith, r.0), r.1)
+    opcode-inside p l false (Ok m) e =
+        let z : m.len ≡ 0 = (same-number (sym e)).1 in
+        let r = row_inside (row_at latest (get_or s p 0) m.value) (p + 1 + m.len) (omega (arith, z)) in (omega (arith, r.0), r.1)
+    opcode-inside p l t (Err _) e = (l, omega arith)
 
     pub onward : (p : ℕ) → p < length s → (p < (passed_at s p).next) × ((passed_at s p).next ≤ length s)
     unfolding passed_at opcode_number
@@ -73,7 +74,7 @@ module _ (s : List ℕ) where
         (subst (λ (x : Row). InOrder Writes (fields_of x i) bs) r.does o)
         ∙ l
 
-    passes-by : (b v : ℕ) (k : ℕ) → b ≡ i.first → row_at latest b v ≡ carried c → past_row (carried c) s (p + 1 + k) ≡ p + n → opcode_number b s (p + 1) ≡ Val v k
+    passes-by : (b v : ℕ) (k : ℕ) → b ≡ i.first → row_at latest b v ≡ carried c → past_row (carried c) s (p + 1 + k) ≡ p + n → opcode_number b s (p + 1) ≡ number_of v k
         → passed_by b s (p + 1) (opcode_number b s (p + 1)) ≡ passed (carried c) (p + n)
     passes-by b v k e f g h = ap (passed_by b s (p + 1)) h ∙ ap₂ passed f (ap (λ (x : Row). past_row x s (p + 1 + k)) f ∙ g)
 
@@ -94,7 +95,7 @@ module _ (s : List ℕ) where
             passes-by i.first i.number (length o.0) refl row_is
             (ends (p + 1 + length o.0) o.1 (others-of s (p + 1) ys o.0 o.1 r.stands.rest d o.2) o.4
             (omega (arith, ap length o.2, length-append o.0 o.1, far)))
-            (ap (λ (t : Bool). cond t (number_at false 32 s (p + 1)) (Val 0 0)) q
+            (ap (λ (t : Bool). cond t (number_at false 32 s (p + 1)) (number_of 0 0)) q
             ∙ number-back s false 32 i.number (p + 1) o.0 (o.1 ++ r.stands.rest) (omega arith) r.stands.typed.number
             (first_of s (p + 1) ys o.0 o.1 r.stands.rest d o.2) o.3)
         by false q o d far =
@@ -102,7 +103,7 @@ module _ (s : List ℕ) where
             (ap (λ (t : Bool). cond t (vector_at 0) (plain_at latest i.first)) q
             ∙ sym (ap (λ (t : Bool). cond t (vector_at i.number) (plain_at latest i.first)) q) ∙ row_is)
             (ap (past_row (carried c) s) (add-zero (p + 1)) ∙ ends (p + 1) ys d o far)
-            (ap (λ (t : Bool). cond t (number_at false 32 s (p + 1)) (Val 0 0)) q)
+            (ap (λ (t : Bool). cond t (number_at false 32 s (p + 1)) (number_of 0 0)) q)
 
     pub passes : Here
     unfolding layout
@@ -111,7 +112,7 @@ module _ (s : List ℕ) where
   -- ---- an opcode that was read
 
   module _ (b : bytes s) (p : ℕ) (l : p < length s) where
-    named_by : {id : ℕ} (v n : ℕ) → p + 1 + n ≤ length s → id ≡ id_of (get_or s p 0) v → opcode_number (get_or s p 0) s (p + 1) ≡ Val v n → Named s p id (p + 1 + n)
+    named_by : {id : ℕ} (v n : ℕ) → p + 1 + n ≤ length s → id ≡ id_of (get_or s p 0) v → opcode_number (get_or s p 0) s (p + 1) ≡ number_of v n → Named s p id (p + 1 + n)
     unfolding passed_at
     named_by {id} v n k e f =
         let row : row_at latest (get_or s p 0) v ≡ row_of id = sym (row-of-id (get_or s p 0) v (b p)) ∙ ap row_of (sym e) in
@@ -121,27 +122,24 @@ module _ (s : List ℕ) where
     unfolding opcode_number
     named-byte {id} d e =
         subst (Named s p id) (add-zero (p + 1))
-        (named_by 0 0 (omega arith) e (ap (λ (t : Bool). cond t (number_at false 32 s (p + 1)) (Val 0 0)) (ne_eqb (get_or s p 0) PREFIX d)))
+        (named_by 0 0 (omega arith) e (ap (λ (t : Bool). cond t (number_at false 32 s (p + 1)) (number_of 0 0)) (ne_eqb (get_or s p 0) PREFIX d)))
 
     module _ (d : get_or s p 0 ≡ PREFIX) where
       reads-number : opcode_number (get_or s p 0) s (p + 1) ≡ number_at false 32 s (p + 1)
       unfolding opcode_number
-      reads-number = ap (λ (t : Bool). cond t (number_at false 32 s (p + 1)) (Val 0 0)) (eq-eqb (get_or s p 0) PREFIX d)
+      reads-number = ap (λ (t : Bool). cond t (number_at false 32 s (p + 1)) (number_of 0 0)) (eq-eqb (get_or s p 0) PREFIX d)
 
-      pub named-number : {id v n : ℕ} → number_at false 32 s (p + 1) ≡ Val v n → id ≡ id_of (get_or s p 0) v → Named s p id (p + 1 + n)
+      pub named-number : {id v n : ℕ} → number_at false 32 s (p + 1) ≡ number_of v n → id ≡ id_of (get_or s p 0) v → Named s p id (p + 1 + n)
       named-number {id} {v} {n} f e = named_by v n (found-32 false s (p + 1) b v n f).3 e (reads-number ∙ f)
 
-      not_named : (x : Leb) → opcode_number (get_or s p 0) s (p + 1) ≡ x → passed_by (get_or s p 0) s (p + 1) x ≡ passed unassigned (length s) → Named s p 512 (p + 1)
+      not_named : (x : Result Number NoNumber) → opcode_number (get_or s p 0) s (p + 1) ≡ x → passed_by (get_or s p 0) s (p + 1) x ≡ passed unassigned (length s) → Named s p 512 (p + 1)
       unfolding passed_at
       not_named x f g =
           let none : unassigned ≡ row_of 512 = sym (row-beyond 512 (omega arith)) in
           record { inside = omega arith; says = ap (passed_by (get_or s p 0) s (p + 1)) f ∙ g ∙ ap (λ (r : Row). passed r (past_row r s (p + 1))) none }
 
-      pub named-short : number_at false 32 s (p + 1) ≡ Short → Named s p 512 (p + 1)
-      named-short f = not_named Short (reads-number ∙ f) refl
-
-      pub named-wrong : number_at false 32 s (p + 1) ≡ Number → Named s p 512 (p + 1)
-      named-wrong f = not_named Number (reads-number ∙ f) refl
+      pub named-none : (e : NoNumber) → number_at false 32 s (p + 1) ≡ Err e → Named s p 512 (p + 1)
+      named-none e f = not_named (Err e) (reads-number ∙ f) refl
 
 -- ---- by the class of the row
 

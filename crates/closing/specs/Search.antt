@@ -2,9 +2,9 @@
 -- each instruction by its opcode and the fields that the table gives it, whatever they hold, and into each block with room that falls (01, "matching
 -- a block with its end recurses on the remaining bytes, with nesting room that falls"). It has one answer for any bytes; on a strip that passes this
 -- is Closing's (proofs/Exact).
-use Rattle.std.specs.Prelude.{ℕ, zero, suc, ◌+◌, ◌≤◌, min, ◌≡◌, cond, List, [], ◌∷◌, ltb, length, get_or, drop}
-use Rattle.leb128.specs.declared.read.Leb.{Leb}
-use Rattle.leb128.specs.declared.read.Leb.TheVariants.{Val, Short, Number}
+use Rattle.std.specs.Prelude.{ℕ, zero, suc, ◌+◌, ◌≤◌, ◌<◌, min, ◌≡◌, cond, Result, Ok, Err, List, [], ◌∷◌, ltb, length, get_or, drop}
+use Rattle.leb128.specs.declared.reading.Number.{Number}
+use Rattle.leb128.specs.declared.reading.NoNumber.{NoNumber}
 use Rattle.opcode.specs.Table.{Row, carried, float, unassigned, latest, row_at}
 use Rattle.opcode.specs.Immediate.{immediates}
 use Rattle.opcode.specs.Number.{row_of}
@@ -19,6 +19,12 @@ use Rattle.standard.specs.Closing.{Role, opener, closer, neither, role}
 unfoldable pub number_long : List ℕ → ℕ
 number_long [] = 0
 number_long (b ∷ bs) = cond (ltb b 128) 1 (suc (number_long bs))
+
+-- the first byte below 128
+pub record Ends (bs : List ℕ) (last : ℕ) : Type 0 where
+  pub inside : last < length bs
+  pub here : get_or bs last 0 < 128
+  pub first : (k : ℕ) → k < last → 128 ≤ get_or bs k 0
 
 abbrev pub past_number : List ℕ → ℕ → ℕ
 past_number s p = p + number_long (drop p s)
@@ -54,10 +60,9 @@ abbrev pub passed : Row → ℕ → Passed
 passed r q = record { row = r; next = q }
 
 -- the opcode's first byte is b, and its number stands from q on, if it has one
-abbrev pub passed_by : ℕ → List ℕ → ℕ → Leb → Passed
-passed_by b s q (Val v n) = passed (row_at latest b v) (past_row (row_at latest b v) s (q + n))
-passed_by b s q Short = passed unassigned (length s)
-passed_by b s q Number = passed unassigned (length s)
+abbrev pub passed_by : ℕ → List ℕ → ℕ → Result Number NoNumber → Passed
+passed_by b s q (Ok m) = passed (row_at latest b m.value) (past_row (row_at latest b m.value) s (q + m.len))
+passed_by b s q (Err _) = passed unassigned (length s)
 
 unfoldable pub passed_at : List ℕ → ℕ → Passed
 passed_at s p = passed_by (get_or s p 0) s (p + 1) (opcode_number (get_or s p 0) s (p + 1))

@@ -8,15 +8,13 @@ ghost use Rattle.std.specs.Prelude.{◌≡◌, ◌||◌, eqb};
 ghost use Rattle.closing.specs.Search.{end_of};
 
 // The place after the `end` of the block whose body begins at `start`, 0 where there is none: inside it the search recurses into blocks, with nesting
-// room that falls.
+// room that falls. A number and no Option: the run keeps it in its table of ends, in fixed memory, and a strip that passes has every `end`.
+// The loop stays a `while`: `at` leaps by an instruction or a block, and is no index over a collection.
 pub fn close(s: &[u8], start: usize, room: usize) -> usize
     ensures { result ≡ end_of s.now room start }
 {
     let mut at = start;
-    loop {
-        if s.len() <= at {
-            return 0;
-        }
+    while at < s.len() {
         let i = passing::pass(s, at);
         if i.group == opcode::GROUP_END {
             return i.next;
@@ -34,16 +32,11 @@ pub fn close(s: &[u8], start: usize, room: usize) -> usize
             at = i.next;
         }
     }
+    0
 }
 
 fn opens(group: u8) -> bool
     ensures { result ≡ (eqb group 25 || eqb group 26) }
 {
-    if group == opcode::GROUP_BLOCK {
-        return true;
-    }
-    if group == opcode::GROUP_LOOP {
-        return true;
-    }
-    false
+    matches!(group, opcode::GROUP_BLOCK | opcode::GROUP_LOOP)
 }

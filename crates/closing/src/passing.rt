@@ -1,11 +1,11 @@
 // Over one instruction, by its opcode and the class of what follows it.
-ghost use Rattle.std.specs.Prelude.{◌≡◌, ◌≤◌, ◌<◌, length};
+ghost use Rattle.std.specs.Prelude.{◌≡◌, ◌≤◌, ◌<◌, EachIndex, MatchOption, length, slice_index};
 ghost use Rattle.opcode.specs.Table.{Row};
 ghost use Rattle.opcode.specs.Number.{group_of};
 ghost use Rattle.opcode.specs.Entry.{entry_of};
-ghost use Rattle.closing.specs.Search.{past_number, past_bytes, past_row, passed_at, Named};
+ghost use Rattle.closing.specs.Search.{past_number, past_bytes, past_row, passed_at, Ends, Named};
 
-use leb128::Leb;
+use leb128::U32;
 
 // The group of an instruction, and the place after it.
 #[derive(Clone, Copy)]
@@ -44,16 +44,12 @@ fn opcode_at(s: &[u8], at: usize) -> Opcode
             next: at + 1,
         };
     }
-    match leb128::read_u32(s, at + 1) {
-        Leb::Val(v, n) => Opcode {
-            id: opcode::id_of(first, v as u32),
-            next: at + 1 + n,
+    match leb128::read::<U32>(s, at + 1) {
+        Ok(number) => Opcode {
+            id: opcode::id_of(first, number.value as u32),
+            next: at + 1 + number.len,
         },
-        Leb::Short => Opcode {
-            id: opcode::BEYOND,
-            next: at + 1,
-        },
-        Leb::Number => Opcode {
+        Err(_) => Opcode {
             id: opcode::BEYOND,
             next: at + 1,
         },
@@ -91,12 +87,14 @@ fn past_number(s: &[u8], p: usize) -> usize
     requires { p ≤ length s.now }
     ensures { (result ≡ past_number s.now p) × (result ≤ length s.now) }
 {
-    let mut i = p;
-    while i < s.len() {
-        if s[i] < 128 {
-            return i + 1;
-        }
-        i += 1;
+    match last_of(&s[p..]) {
+        Some(last) => p + last + 1,
+        None => s.len(),
     }
-    i
+}
+
+fn last_of(bytes: &[u8]) -> Option<usize>
+    ensures { MatchOption result (EachIndex bytes.now (λ k. 128 ≤ slice_index bytes.now k)) (λ last. Ends bytes.now last) }
+{
+    bytes.iter().position(|byte| *byte < 128)
 }

@@ -39,14 +39,10 @@ fn lines(results: &[u8], out: &mut [u8], at: usize) -> usize
     requires { at + 3 * length results.now ≤ length out.old }
     ensures { Appends (Text·lines results.now (length results.now / slot)) out.old at result out.new }
 {
-    let count = results.len() / limits::SLOT;
     let mut to = at;
-    let mut n: usize = 0;
-    while n < count {
+    for n in 0..results.len() / limits::SLOT {
         let start = limits::SLOT * n;
-        let end = start + limits::SLOT;
-        to = line(&results[start..end], out, to);
-        n = n + 1;
+        to = line(&results[start..start + limits::SLOT], out, to);
     }
     to
 }
@@ -57,12 +53,9 @@ fn line(bytes: &[u8], out: &mut [u8], at: usize) -> usize
     ensures { Appends (hexadecimal bytes.now ++ newline ∷ []) out.old at result out.new }
 {
     let mut to = at;
-    let mut i: usize = 0;
-    while i < bytes.len() {
-        let b = bytes[i];
+    for b in bytes {
         to = push(digit(b / 16), out, to);
         to = push(digit(b % 16), out, to);
-        i = i + 1;
     }
     push(b'\n', out, to)
 }

@@ -1,17 +1,16 @@
-// Bytes on standard output, two lowercase hexadecimal digits each, byte 0 first: what the test programs show.
+// Bytes as text, two lowercase hexadecimal digits each, byte 0 first: what the test programs show.
 #![tactic(auto)]
 
-// Standard output's number, as POSIX has it.
-pub const STDOUT_FILENO: i32 = 1;
+use std::fmt;
 
-pub fn print(s: &[u8]) {
-    let mut i = 0;
-    while i < s.len() {
-        print_byte(s[i]);
-        i += 1;
+#[derive(Clone, Copy)]
+pub struct Hex<'a>(pub &'a [u8]);
+
+impl<'a> fmt::Display for Hex<'a> {
+    fn fmt<W: fmt::Write>(&self, f: &mut fmt::Formatter<W>) -> fmt::Result {
+        for byte in self.0 {
+            write!(f, "{byte:02x}")?;
+        }
+        Ok(())
     }
-}
-
-pub fn print_byte(b: u8) {
-    io::print_hex(STDOUT_FILENO, b as u64, 2);
 }

@@ -24,7 +24,7 @@ use Rattle.image.proofs.Form.{formed-given, given-formed}
 use Rattle.image.proofs.Held.{all-long}
 use Rattle.image.proofs.Judging.{told-yes}
 use Rattle.image.proofs.Parts.{two-number, four-number, room-filled, room-front, room-zeros}
-use Rattle.image.proofs.Pieces.{mark-read, version-read, depth-read, fronts-told}
+use Rattle.image.proofs.Pieces.{mark-read, marked, version-read, depth-read, fronts-told}
 use Rattle.image.proofs.Showing.{shown-parted, shown-front, shown-locals, shown-stack, place_read, shown}
 
 -- ---- the place
@@ -133,7 +133,7 @@ module _ (b : List ℕ) (small : (k : ℕ) → get_or b k 0 < 256) (locals stack
   shows a =
       let long : image_bytes ≤ length b = a.room in
       let n = length stack in
-      let front : Fronts b n = told-yes (fronts-told b n (omega arith) bs deep a.mark.0 a.mark.1 a.mark.2
+      let front : Fronts b n = told-yes (fronts-told b n (omega arith) bs deep refl (marked b n (omega arith) a.mark.0 a.mark.1 a.mark.2)
       (number (part 2 3 b)) refl (two-number b 3 (omega arith) ∙ a.version) (number (part 2 9 b)) refl)
       (eq-eqb (number (part 2 9 b)) n (two-number b 9 (omega arith) ∙ a.depth)) in
       let l = unused-room b locals front_bytes local_count (omega arith) few bs a.locals_zero in

@@ -55,6 +55,27 @@ module _ (bs : List ℕ) {from to k : ℕ} where
   looked-all (clear l zs) h = yes (zeros-upto bs zs h)
   looked-all (seen f) h = no f
 
+-- what is told of a part of some bytes, told of them
+pub zeros_within : (bs : List ℕ) (from to : ℕ) → from ≤ to → to ≤ length bs → {r : Bool}
+    → Tells (Zeros 0 (length (take (to - from) (drop from bs))) (take (to - from) (drop from bs))) r → Tells (Zeros from to bs) r
+zeros_within bs from to h inside t = by t
+  where
+    n : ℕ
+    n = to - from
+
+    long : length (take n (drop from bs)) ≡ n
+    long = length-take-le n (drop from bs) (omega (arith, length-drop from bs))
+
+    same : (i : ℕ) → i < n → get_or (take n (drop from bs)) i 0 ≡ get_or bs (from + i) 0
+    same i l = get_or-take n (drop from bs) i 0 l ∙ get_or-drop from bs i 0
+
+    by : {r : Bool} → Tells (Zeros 0 (length (take n (drop from bs))) (take n (drop from bs))) r → Tells (Zeros from to bs) r
+    by (yes zs) =
+        yes
+        (λ k l m. let there : from + (k - from) ≡ k = omega arith in
+        ap (λ (j : ℕ). get_or bs j 0) (sym there) ∙ sym (same (k - from) (omega arith)) ∙ zs (k - from) (omega arith) (omega (arith, long)))
+    by (no f) = no (λ zs. f (λ i l m. let lt : i < n = omega (arith, long) in same i lt ∙ zs (from + i) (omega arith) (omega arith)))
+
 -- ---- one value
 
 number-zero : (bs : List ℕ) → Zeros 0 (length bs) bs → number bs ≡ 0

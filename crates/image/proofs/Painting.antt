@@ -1,11 +1,12 @@
 -- An image written part by part. `sets out w bs`, of the library, is `out` with the bytes `bs` from place w on.
 use Prim.Native.Nat.{ℕ, ◌+◌, ◌-◌, ◌≤◌, ◌<◌}
 use mathlib.Core.Path.{◌≡◌, ap, sym, ◌∙◌}
-use mathlib.Core.List.{List, [], ◌∷◌, ◌++◌}
+use mathlib.Core.List.{List, ◌++◌, append_assoc}
 use native.Mathlib.Nat.{zero-add}
 use native.Mathlib.Omega.{arith}
-use lib.ListN.{length, set, take, drop, replicate, length-append, length-replicate, replicate-append-replicate}
-use lib.Seq.{sets, sets-eq}
+use lib.ListN.{length, take, drop, replicate, length-append, length-drop, length-replicate}
+use lib.Seq.{sets, sets-eq, length-sets, length-take-le, drop-drop}
+use borrow.Rule.Slice.PartMut.{put_mid}
 use borrow.Author.Tests.{lt-ltb, le-ltb}
 use Rattle.buffer.proofs.Writing.{sets-append, copied}
 use Rattle.limits.specs.Limits.{local_bytes, stack_bytes}
@@ -13,31 +14,37 @@ use Rattle.image.specs.Image.{front_bytes, image_bytes, front_of, filled, laid, 
 use Rattle.image.proofs.Parts.{length-filled}
 use Rattle.image.proofs.Laying.{laid-long}
 
--- ---- zeros, one a turn
+-- ---- one part: bytes, and zeros up to the end of their room
 
-module _ (out : List ℕ) (from : ℕ) where
-  pub clear_none : out ≡ sets out from (replicate (from - from) 0)
-  clear_none = let none : from - from ≡ 0 = omega arith in ap (λ (n : ℕ). sets out from (replicate n 0)) (sym none)
+pub fill-all : (out bs : List ℕ) (at room to : ℕ) {out₁ zeros : List ℕ} → at + room ≤ length out → length bs ≤ room → out₁ ≡ sets out at bs → to ≡ at + length bs
+    → zeros ≡ replicate (length (take (at + room - to) (drop to out₁))) 0 → put_mid to (at + room - to) out₁ zeros ≡ sets out at (filled room bs)
+fill-all out bs at room to {out₁} {zeros} inside fit e₁ e z =
+    ap (λ (x : List ℕ). take to out₁ ++ (zeros ++ x)) (drop-drop k to out₁)
+    ∙ ap (λ (x : List ℕ). take to out₁ ++ (x ++ drop (to + k) out₁)) (z ∙ ap (λ (n : ℕ). replicate n 0) mid)
+    ∙ ap (λ (n : ℕ). take to out₁ ++ (zs ++ drop (to + n) out₁)) (sym left)
+    ∙ sym (append_assoc (take to out₁) zs (drop (to + length zs) out₁))
+    ∙ sym (sets-eq zs out₁ to (omega (arith, left, long)))
+    ∙ ap (λ (x : List ℕ). sets x to zs) e₁ ∙ ap (λ (n : ℕ). sets (sets out at bs) n zs) e
+    ∙ sets-append bs out zs at
+    ∙ ap (λ (n : ℕ). sets out at (bs ++ replicate n 0)) rest
+  where
+    k : ℕ
+    k = at + room - to
 
-  one_more : (n : ℕ) → set (sets out from (replicate n 0)) (from + n) 0 ≡ sets out from (replicate (n + 1) 0)
-  one_more n =
-      ap (λ (j : ℕ). set (sets out from (replicate n 0)) (from + j) 0) (sym (length-replicate {A = ℕ} n 0)) ∙ sets-append (replicate n 0) out (0 ∷ []) from
-      ∙ ap (sets out from) (replicate-append-replicate n 1 0)
+    long : length out₁ ≡ length out
+    long = ap length e₁ ∙ length-sets out at bs
 
-  pub clear-more : (k : ℕ) {b : List ℕ} → from ≤ k → b ≡ sets out from (replicate (k - from) 0) → set b k 0 ≡ sets out from (replicate (k + 1 - from) 0)
-  clear-more k h e =
-      let here : k ≡ from + (k - from) = omega arith in
-      let one : k - from + 1 ≡ k + 1 - from = omega arith in
-      ap (λ (x : List ℕ). set x k 0) e ∙ ap (λ (j : ℕ). set (sets out from (replicate (k - from) 0)) j 0) here ∙ one_more (k - from)
-      ∙ ap (λ (j : ℕ). sets out from (replicate j 0)) one
+    zs : List ℕ
+    zs = replicate k 0
 
--- bytes, and zeros up to the end of their room
-pub fill-all : (out bs : List ℕ) (at room to : ℕ) {out₁ out₂ : List ℕ} → out₁ ≡ sets out at bs → to ≡ at + length bs
-    → out₂ ≡ sets out₁ to (replicate (at + room - to) 0) → out₂ ≡ sets out at (filled room bs)
-fill-all out bs at room to e₁ e e₂ =
-    let left : at + room - to ≡ room - length bs = omega arith in
-    e₂ ∙ ap (λ (x : List ℕ). sets x to (replicate (at + room - to) 0)) e₁ ∙ ap (λ (n : ℕ). sets (sets out at bs) to (replicate n 0)) left
-    ∙ ap (λ (n : ℕ). sets (sets out at bs) n (replicate (room - length bs) 0)) e ∙ sets-append bs out (replicate (room - length bs) 0) at
+    left : length zs ≡ k
+    left = length-replicate {A = ℕ} k 0
+
+    mid : length (take k (drop to out₁)) ≡ k
+    mid = length-take-le k (drop to out₁) (omega (arith, long, length-drop to out₁))
+
+    rest : k ≡ room - length bs
+    rest = omega arith
 
 -- ---- the whole
 

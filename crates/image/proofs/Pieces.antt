@@ -2,13 +2,16 @@
 use Prim.Native.Nat.{ℕ, ◌+◌, ◌*◌, ◌≤◌, ◌<◌}
 use mathlib.Core.Path.{◌≡◌, refl, ap, sym, ◌∙◌}
 use mathlib.Core.Bool.{Bool, true, false}
-use mathlib.Core.List.{List, map}
+use mathlib.Core.List.{List, map, ◌++◌}
 use native.Mathlib.Nat.{mod-eq_of_lt}
 use native.Mathlib.Omega.{arith}
 use lib.Dec.{eqb}
 use borrow.Author.Tests.{eqb-true, eqb-false}
-use lib.ListN.{length, get_or, length-map}
+use lib.ListN.{length, get_or, take, drop, take-append-drop, length-map}
 use lib.Seq.{get_or-take}
+use Rattle.std.specs.List.{starts_with}
+use Rattle.std.proofs.lemmas.Bool.Decides.{Decides-eqb}
+use Rattle.std.proofs.lemmas.Slice.Eq.{starts_is}
 use Rattle.limits.specs.Limits.{slot, stack_limit}
 use Rattle.operation.specs.Vector.{le, number}
 use Rattle.operation.proofs.Laws.Number.{Bytes, number-le}
@@ -28,6 +31,19 @@ module _ (b : List ℕ) (depth : ℕ) where
   pub mark-read : Fronts b depth → (k : ℕ) → k < 3 → get_or b k 0 ≡ get_or image_mark k 0
   mark-read f k l = sym (get_or-take 3 b k 0 l) ∙ ap (λ (x : List ℕ). get_or x k 0) f.mark
 
+  -- what `starts_with` tells of the mark
+  mark-told : {r : Bool} → r ≡ starts_with eqb b image_mark → (r ≡ true → b ≡ image_mark ++ drop 3 b) × ((rest : List ℕ) → b ≡ image_mark ++ rest → r ≡ true)
+  mark-told {r} e = starts_is Decides-eqb b image_mark r e
+
+  begins : take 3 b ≡ image_mark → b ≡ image_mark ++ drop 3 b
+  begins e = sym (take-append-drop 3 b) ∙ ap (λ (x : List ℕ). x ++ drop 3 b) e
+
+  pub not-marked : {r : Bool} → r ≡ starts_with eqb b image_mark → r ≡ false → Fronts b depth → ⊥
+  not-marked e n f = let marked = (mark-told e).1 (drop 3 b) (begins f.mark) in cc
+
+  pub marked : 3 ≤ length b → get_or b 0 0 ≡ 0x57 → get_or b 1 0 ≡ 0x47 → get_or b 2 0 ≡ 0x53 → starts_with eqb b image_mark ≡ true
+  marked long w g s = (mark-told refl).1 (drop 3 b) (begins (first_three b long ∙ cc))
+
   pub version-read : Fronts b depth → number (part 2 3 b) ≡ image_version
   version-read f = ap number f.version
 
@@ -35,15 +51,14 @@ module _ (b : List ℕ) (depth : ℕ) where
   depth-read l f = ap number f.deep ∙ number-le 2 depth ∙ mod-eq_of_lt (omega arith)
 
   -- the depth is asked last
-  pub fronts-told : front_bytes ≤ length b → Bytes b → depth ≤ stack_limit → get_or b 0 0 ≡ 0x57 → get_or b 1 0 ≡ 0x47 → get_or b 2 0 ≡ 0x53
-      → (v : ℕ) → v ≡ number (part 2 3 b) → v ≡ image_version → (d : ℕ) → d ≡ number (part 2 9 b) → Tells (Fronts b depth) (eqb d depth)
-  fronts-told long bs l w g s v ev v-is d ed = at (eqb d depth) refl
+  pub fronts-told : front_bytes ≤ length b → Bytes b → depth ≤ stack_limit → {r : Bool} → r ≡ starts_with eqb b image_mark → r ≡ true → (v : ℕ) → v ≡ number (part 2 3 b) → v ≡ image_version → (d : ℕ) → d ≡ number (part 2 9 b) → Tells (Fronts b depth) (eqb d depth)
+  fronts-told long bs l e m v ev v-is d ed = at (eqb d depth) refl
     where
       at : (t : Bool) → eqb d depth ≡ t → Tells (Fronts b depth) t
       at true q =
           yes
           (record {
-            mark = first_three b (omega arith) ∙ cc;
+            mark = ap (take 3) ((mark-told e).0 m);
             version = sym (part-le b 2 3 (omega arith) bs) ∙ ap (le 2) (sym ev ∙ v-is);
             deep = sym (part-le b 2 9 (omega arith) bs) ∙ ap (le 2) (sym ed ∙ eqb-true d depth q);
           })

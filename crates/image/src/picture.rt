@@ -1,5 +1,5 @@
 // An image: its parts one after the other.
-ghost use Rattle.std.specs.Prelude.{◌≡◌, List, map, ◌+◌, ◌*◌, ◌-◌, ◌%◌, ◌^◌, ◌≤◌, length, replicate};
+ghost use Rattle.std.specs.Prelude.{◌≡◌, List, map, ◌+◌, ◌*◌, ◌-◌, ◌≤◌, length};
 ghost use Rattle.std.proofs.lemmas.List.Edits.{sets};
 ghost use Rattle.limits.specs.Limits.{slot, stack_limit};
 ghost use Rattle.operation.specs.Vector.{number};
@@ -21,7 +21,7 @@ pub fn place_in(image: &[u8]) -> usize
     if image.len() < BYTES {
         return 0;
     }
-    word(image, 5) + 65536 * word(image, 7)
+    u32::from_le_bytes([image[5], image[6], image[7], image[8]]) as usize
 }
 
 // Whether it is the image of locals and of a stack of these kinds, a byte each.
@@ -52,13 +52,7 @@ fn fronts(image: &[u8], depth: usize) -> bool
     requires { (front_bytes ≤ length image.now) × (depth ≤ stack_limit) }
     ensures { Tells (Fronts image.now depth) result }
 {
-    if image[0] != b'W' {
-        return false;
-    }
-    if image[1] != b'G' {
-        return false;
-    }
-    if image[2] != b'S' {
+    if !image.starts_with(b"WGS") {
         return false;
     }
     if word(image, 3) != VERSION {
@@ -78,7 +72,7 @@ fn rooms(image: &[u8], at: usize, room: usize, kinds: &[u8]) -> bool
     if !slots::formed(kinds, &image[at..end]) {
         return false;
     }
-    slots::zero_between(image, end, past)
+    slots::all_zero(&image[end..past])
 }
 
 // Two bytes, little-endian.
@@ -86,13 +80,7 @@ fn word(image: &[u8], at: usize) -> usize
     requires { at + 2 ≤ length image.now }
     ensures { result ≡ number (part 2 at image.now) }
 {
-    wide(image[at]) + 256 * wide(image[at + 1])
-}
-
-fn wide(b: u8) -> usize
-    ensures { result ≡ b }
-{
-    b as usize
+    usize::from(u16::from_le_bytes([image[at], image[at + 1]]))
 }
 
 // ---- writing
@@ -120,27 +108,13 @@ pub fn write(image: &mut [u8], place: usize, depth: usize, locals: &[u8], stack:
 fn front(place: usize, depth: usize) -> [u8; FRONT]
     ensures { result ≡ front_of place depth }
 {
-    let second = place / 256;
-    let third = second / 256;
+    let version = VERSION.to_le_bytes();
+    let place = place.to_le_bytes();
+    let depth = depth.to_le_bytes();
     [
-        b'W',
-        b'G',
-        b'S',
-        low(VERSION),
-        low(VERSION / 256),
-        low(place),
-        low(second),
-        low(third),
-        low(third / 256),
-        low(depth),
-        low(depth / 256),
+        b'W', b'G', b'S', version[0], version[1], place[0], place[1], place[2], place[3], depth[0],
+        depth[1],
     ]
-}
-
-fn low(x: usize) -> u8
-    ensures { result ≡ x % 2 ^ 8 }
-{
-    (x % 256) as u8
 }
 
 // These bytes from `at` on, and zeros up to the end of the room.
@@ -150,16 +124,5 @@ fn fill(image: &mut [u8], at: usize, room: usize, slots: &[u8])
 {
     let past = at + room;
     let next = at + buffer::copy(slots, &mut image[at..]);
-    clear(image, next, past);
-}
-
-fn clear(image: &mut [u8], from: usize, to: usize)
-    requires { to ≤ length image.old }
-    ensures { image.new ≡ sets image.old from (replicate (to - from) 0) }
-{
-    let mut k = from;
-    while k < to {
-        image[k] = 0;
-        k += 1;
-    }
+    image[next..past].fill(0);
 }

@@ -9,19 +9,16 @@ ghost use Rattle.image.specs.Inner.Parts.{Zeros, used_by};
 pub fn formed(kinds: &[u8], bytes: &[u8]) -> bool
     ensures { (ks : List Kind) → kinds.now ≡ map kind_byte ks → Tells ((vs : List Value) × InSlots ks bytes.now vs) result }
 {
-    if bytes.len() / limits::SLOT != kinds.len() {
+    if bytes.len() / limits::SLOT != kinds.len() || bytes.len() % limits::SLOT != 0 {
         return false;
     }
-    if bytes.len() % limits::SLOT != 0 {
-        return false;
-    }
-    let mut j: usize = 0;
-    while j < kinds.len() {
+    for (j, kind) in kinds.iter().enumerate() {
         let first = limits::SLOT * j;
-        if !zero_between(bytes, first + used(kinds[j]), first + limits::SLOT) {
+        let unused = first + used(*kind);
+        let next = first + limits::SLOT;
+        if !all_zero(&bytes[unused..next]) {
             return false;
         }
-        j += 1;
     }
     true
 }
@@ -37,17 +34,14 @@ fn used(kind: u8) -> usize
 }
 
 // All bytes are looked at, whatever the first are: without a way out of the loop the compiler takes many at a time.
-pub(crate) fn zero_between(bytes: &[u8], from: usize, to: usize) -> bool
-    requires { to ≤ length bytes.now }
-    ensures { Tells (Zeros from to bytes.now) result }
+pub(crate) fn all_zero(bytes: &[u8]) -> bool
+    ensures { Tells (Zeros 0 (length bytes.now) bytes.now) result }
 {
     let mut clear = true;
-    let mut k = from;
-    while k < to {
-        if bytes[k] != 0 {
+    for b in bytes {
+        if *b != 0 {
             clear = false;
         }
-        k += 1;
     }
     clear
 }

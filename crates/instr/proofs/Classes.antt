@@ -14,11 +14,12 @@ use Rattle.opcode.specs.Immediate.{Immediates, nothing, index, block_type, word,
 use Rattle.opcode.specs.Number.{class_number, CLASS_FLOAT, CLASS_UNASSIGNED, class_of, id_of, row_of}
 use Rattle.opcode.proofs.Id.{row-of-id}
 use Rattle.opcode.proofs.Classes.{class-carried, class_float, class-unassigned}
+use Rattle.leb128.proofs.Arith.{either}
 use Rattle.opcode.proofs.Arms.{Missed}
 use Rattle.instr.specs.Layout.{Head, immediate_fields, fields_of, refusal}
 use Rattle.instr.specs.Decode.{immediates_at, body_of}
 use Rattle.instr.specs.Encode.{exponent_fault, all_below, fault_in, fault_of}
-use Rattle.instr.specs.Inner.Steps.{memory_class, lane_ends}
+use Rattle.instr.specs.Inner.Steps.{bare_of, memory_class, lane_ends, lane_fault}
 use Rattle.instr.specs.declared.Instr.{Instr}
 
 module _ (r : Row) (k : Immediates) (e : class_of r ≡ class_number k) where
@@ -96,7 +97,7 @@ module _ (r : Row) (class : ℕ) (f : class ≡ class_of r) where
   class-at g = sym f ∙ g
 
   module _ (s : List ℕ) (at p : ℕ) (h : Head) where
-    pub body-lane : (k : ℕ) → k ≡ lanes_of r → class ≡ class_number lane_index → lane_ends k s at p h 0 0 ≡ body_of r s at p h
+    pub body-lane : (k : ℕ) → k ≡ lanes_of r → class ≡ class_number lane_index → lane_ends k s p at (bare_of h) ≡ body_of r s at p h
     unfolding lane_ends immediates_at
     body-lane k g c = rw g (sym (body-class r lane_index (class-at c) s at p h))
 
@@ -114,6 +115,14 @@ module _ (r : Row) (class : ℕ) (f : class ≡ class_of r) where
         let g = class-at {k = class} refl in
         body-other r (subst (AllBut decoded) (sym g) o) (omega (arith, g)) s at p h
 
+-- what was judged of a lane index
+module _ (n lane : ℕ) where
+  pub lane-right : DONE ≡ lane_fault n lane → lane < n
+  lane-right e = either n lane (λ l. absurd (omega (arith, rw (le-ltb lane n l) at e))) (λ l. l)
+
+  pub lane-wrong : (c : ℕ) → c ≡ lane_fault n lane → (c ≡ DONE → ⊥) → (n ≤ lane) × (c ≡ LANE)
+  lane-wrong c e h = either n lane (λ l. (l, rw (le-ltb lane n l) at e)) (λ l. absurd (h (rw (lt-ltb lane n l) at e)))
+
 -- what is wrong with an instruction, by its class
 module _ (r : Row) (i : Instr) where
   pub fault-memory : (m : ℕ) → m ≡ moved_by r → class_of r ≡ class_number memory → exponent_fault m i.align ≡ fault_of r i
@@ -129,13 +138,9 @@ module _ (r : Row) (i : Instr) where
     unfolding fault_in
     fault-lane-memory c h = sym (fault-class r memory_lane c i ∙ rw (le-ltb i.lane (lanes_of r) (omega (arith, e))))
 
-    pub no-fault-lane : class_of r ≡ class_number lane_index → i.lane < n → DONE ≡ fault_of r i
+    pub fault-lane : class_of r ≡ class_number lane_index → lane_fault n i.lane ≡ fault_of r i
     unfolding fault_in
-    no-fault-lane c h = sym (fault-class r lane_index c i ∙ rw (lt-ltb i.lane (lanes_of r) (omega (arith, e))))
-
-    pub fault-lane : class_of r ≡ class_number lane_index → n ≤ i.lane → LANE ≡ fault_of r i
-    unfolding fault_in
-    fault-lane c h = sym (fault-class r lane_index c i ∙ rw (le-ltb i.lane (lanes_of r) (omega (arith, e))))
+    fault-lane c = rw e (sym (fault-class r lane_index c i))
 
   pub fault-block : (t : Bool) → t ≡ is_block_type i.block → class_of r ≡ class_number block_type → cond t DONE KIND ≡ fault_of r i
   unfolding fault_in

@@ -9,14 +9,16 @@ use lib.Dec.{ltb, leb}
 use lib.ListN.{length, get_or, take, drop, length-append, length-drop, length-take, take-append-drop, drop_of_length-le}
 use lib.Seq.{drop-cons, get_or-drop}
 use borrow.Author.Tests.{ltb-true, leb-true}
+use Rattle.std.specs.Prelude.{Result, Ok, Err}
 use Rattle.card.specs.Card.{DONE}
 use Rattle.leb128.specs.Bits.{integer}
 use Rattle.leb128.specs.Bytes.{bytes}
 use Rattle.leb128.specs.Found.{Says}
 use Rattle.leb128.specs.Grammar.{Written}
 use Rattle.leb128.specs.Number.{int_of, number_at}
-use Rattle.leb128.specs.declared.read.Leb.{Leb}
-use Rattle.leb128.specs.declared.read.Leb.TheVariants.{Val, Short, Number}
+use Rattle.leb128.specs.declared.reading.Number.{Number}
+use Rattle.leb128.specs.declared.reading.NoNumber.{NoNumber}
+use Rattle.leb128.specs.declared.reading.NoNumber.TheVariants.{Short, Wrong}
 use Rattle.leb128.proofs.Arith.{split, either}
 use Rattle.leb128.proofs.Exact.{says}
 use Rattle.opcode.specs.BlockType.{is_block_type}
@@ -46,7 +48,7 @@ pub here-next : (s : List ℕ) (p q r : ℕ) (f : Field) (fs : List Field) → H
 here-next s p q r f fs a b = here-join s p q r (Writes f) (InOrder Writes fs) (InOrder Writes (f ∷ fs)) (λ xs ys w o. (xs, ys, refl, w, o)) a b
 
 -- past the end there is no number, not even a wrong one
-at-end : (sign : Bool) (N : ℕ) (s : List ℕ) (p : ℕ) → length s ≤ p → number_at sign N s p ≡ Short
+at-end : (sign : Bool) (N : ℕ) (s : List ℕ) (p : ℕ) → length s ≤ p → number_at sign N s p ≡ Err Short
 unfolding number_at int_of
 at-end sign N s p h = rw (drop_of_length-le s {i = p} h)
 
@@ -72,13 +74,13 @@ module _ (s : List ℕ) where
     unfoldable pub NumIs : Bool → ℕ → ℕ → ℕ → ℕ → Type 0
     NumIs sign N p v q = (v < 2 ^ N) × (p < q) × (q ≤ length s) × Here s p q (λ bs. Written sign N bs (integer sign N v))
 
-    num-from : (sign : Bool) (N p : ℕ) (r : Leb) → number_at sign N s p ≡ r → Says sign N s p r → GotP (NumIs sign N p) (item_of s p r)
+    num-from : (sign : Bool) (N p : ℕ) (r : Result Number NoNumber) → number_at sign N s p ≡ r → Says sign N s p r → GotP (NumIs sign N p) (item_of s p r)
     unfolding NumIs
-    num-from sign N p (Val v n) e f =
+    num-from sign N p (Ok m) e f =
         let t = f.stands in
         (f.small, omega (arith, f.some), f.inside, (t.bytes, t.rest, t.here, ap (λ (x : ℕ). p + x) (sym t.long), t.writes))
-    num-from sign N p Short e f = (omega arith, omega arith)
-    num-from sign N p Number e f =
+    num-from sign N p (Err Short) e f = (omega arith, omega arith)
+    num-from sign N p (Err Wrong) e f =
         (omega arith, either (length s) p (λ h. let o : ◌≡◌ {A = ℕ} 0 1 = cc (at-end sign N s p h) in absurd (omega arith)) (λ h. omega arith))
 
     pub num-got : (sign : Bool) (N p : ℕ) → 0 < N → GotP (NumIs sign N p) (item_of s p (number_at sign N s p))

@@ -24,6 +24,6 @@ module _ (m n : ℕ) (s : List ℕ) (at p : ℕ) (h : Head) where
       unfolding immediates_at
       no-lane laned e = rw (e, f, g)
 
-      pub a-lane : (laned : Bool) → laned ≡ true → immediates_at (memory_class laned) m n s at p h ≡ lane_ends n s at r h a o
+      pub a-lane : (laned : Bool) → laned ≡ true → immediates_at (memory_class laned) m n s at p h ≡ lane_ends n s r at (instr h 0 0 0 a o 0 zeros)
       unfolding immediates_at lane_ends
       a-lane laned e = rw (e, f, g)

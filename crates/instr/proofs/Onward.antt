@@ -6,10 +6,12 @@ use mathlib.Core.Path.{◌≡◌}
 use native.Mathlib.Omega.{arith}
 use lib.Dec.{ltb, leb}
 use lib.ListN.{length, get_or}
+use Rattle.std.specs.Prelude.{Result, Ok, Err}
 use Rattle.card.specs.Card.{DONE, SHORT, KIND, LANE, ALIGN}
 use Rattle.leb128.specs.Number.{number_at}
-use Rattle.leb128.specs.declared.read.Leb.{Leb}
-use Rattle.leb128.specs.declared.read.Leb.TheVariants.{Val, Short, Number}
+use Rattle.leb128.specs.declared.reading.Number.{Number}
+use Rattle.leb128.specs.declared.reading.NoNumber.{NoNumber}
+use Rattle.leb128.specs.declared.reading.NoNumber.TheVariants.{Short, Wrong}
 use Rattle.opcode.specs.BlockType.{is_block_type}
 use Rattle.instr.specs.Decode.{Item, got, no, and_read, item_of, number_item, byte_at, lane_at, block_at, exponent_at, lanes_at, sixteen_at}
 
@@ -31,10 +33,10 @@ module _ (at : ℕ) where
     unfolding number_item
     number-onward sign N p h = by (number_at sign N s p)
       where
-        by : (r : Leb) → Onward at (item_of s p r)
-        by (Val v n) = omega arith
-        by Short = λ z. omega (arith, z)
-        by Number = λ z. omega (arith, z)
+        by : (r : Result Number NoNumber) → Onward at (item_of s p r)
+        by (Ok m) = omega arith
+        by (Err Short) = λ z. omega (arith, z)
+        by (Err Wrong) = λ z. omega (arith, z)
 
     pub exponent-onward : (m p : ℕ) → at ≤ p → Onward at (exponent_at m s p)
     unfolding exponent_at

@@ -19,13 +19,12 @@ use Rattle.opcode.proofs.Id.{row-of-id}
 use Rattle.opcode.proofs.Classes.{class-carried, class_float}
 use Rattle.opcode.proofs.Versions.{row-latest}
 use Rattle.instr.specs.Layout.{Head, head, refusal}
-use Rattle.instr.specs.Decode.{Item, got, no, and_then, and_read, item_of, number_item, byte_at, lane_at, block_at, exponent_at, lanes_at, sixteen_at, immediates_at, body_of, opcode_number, decode_at}
+use Rattle.instr.specs.Decode.{Item, got, no, and_then, and_read, number_item, byte_at, lane_at, block_at, exponent_at, lanes_at, sixteen_at, immediates_at, body_of, decode_in}
 use Rattle.instr.specs.Scan.{scan_of}
 use Rattle.instr.specs.Inner.Over.{over, over_memory, over_class, over_row}
 use Rattle.instr.specs.declared.Decoded.{Decoded}
 use Rattle.instr.specs.declared.Scanned.{Scanned}
 use Rattle.instr.proofs.Classes.{AllBut, decoded, other-class, memory-class}
-use Rattle.instr.proofs.Items.{decode-body}
 use Rattle.instr.proofs.Onward.{Onward, number-onward, exponent-onward, lane-onward, lanes-onward, sixteen-onward}
 use Rattle.instr.proofs.Numbers.{number-32}
 
@@ -187,11 +186,11 @@ module _ (ver : ℕ) (s : List ℕ) (at p first n : ℕ) (l : first < 256) where
   scan-body =
       scan-either (row_at ver first n) (λ c f. row-of-id first n l ∙ row-latest ver first n f) ∙ sym (scan-row at (head first n) s p (row_at ver first n))
 
--- a byte, a number and the rest were read
-pub scanned : (ver : ℕ) (s : List ℕ) (at : ℕ) → at < length s → bytes s → (n p : ℕ) → item_of s (at + 1) (opcode_number (get_or s at 0) s (at + 1)) ≡ got n p
-    → (e : ℕ) → e ≡ entry_of (row_at ver (get_or s at 0) n) → (i : Item) → over_row (row_at ver (get_or s at 0) n) s at p ≡ i → answered at e i ≡ scan_of (decode_at ver s at)
-scanned ver s at l b n p o e is i t =
+-- the opcode and the rest were read
+pub scanned : (ver : ℕ) (s : List ℕ) (at first n p : ℕ) → first < 256 → decode_in ver s at ≡ body_of (row_at ver first n) s at p (head first n)
+    → (e : ℕ) → e ≡ entry_of (row_at ver first n) → (i : Item) → over_row (row_at ver first n) s at p ≡ i → answered at e i ≡ scan_of (decode_in ver s at)
+scanned ver s at first n p l o e is i t =
     ap (λ (x : ℕ). answered at x i) is
-    ∙ sym (ap (answered at (entry_of (row_at ver (get_or s at 0) n))) t)
-    ∙ scan-body ver s at p (get_or s at 0) n (b at)
-    ∙ ap scan_of (sym (decode-body ver s at l n p o))
+    ∙ sym (ap (answered at (entry_of (row_at ver first n))) t)
+    ∙ scan-body ver s at p first n l
+    ∙ ap scan_of (sym o)

@@ -9,8 +9,7 @@ use lib.ListN.{length, get_or, drop, length-drop}
 use lib.Seq.{drop-drop, drop-append_seam, get_or-drop}
 use Rattle.leb128.specs.Bits.{integer}
 use Rattle.leb128.specs.Grammar.{Written}
-use Rattle.leb128.specs.Number.{number_at}
-use Rattle.leb128.specs.declared.read.Leb.TheVariants.{Val}
+use Rattle.leb128.specs.Number.{number_of, number_at}
 use Rattle.leb128.proofs.Exact.{stands-reads}
 use Rattle.opcode.specs.BlockType.{is_block_type}
 use Rattle.instr.specs.Layout.{Below}
@@ -56,8 +55,8 @@ module _ (s : List ℕ) where
       (lanes-back xs (p + 1) rest (past p (x ∷ []) (xs ++ rest) e) h.1 ∙ ap (got 0) (omega arith))
 
   module _ (sign : Bool) (N v p : ℕ) (bs rest : List ℕ) (o : 0 < N) (h : v < 2 ^ N) (e : drop p s ≡ bs ++ rest) (w : Written sign N bs (integer sign N v)) where
-    pub number-back : number_at sign N s p ≡ Val v (length bs)
+    pub number-back : number_at sign N s p ≡ number_of v (length bs)
     number-back = stands-reads sign N s p o v (length bs) h (record { bytes = bs; rest = rest; here = e; long = refl; writes = w })
 
     pub item_back : number_item sign N s p ≡ got v (p + length bs)
-    item_back = number-item s sign N p (Val v (length bs)) number-back
+    item_back = number-item s sign N p (number_of v (length bs)) number-back

@@ -11,14 +11,16 @@ use lib.Dec.{ltb, leb, eqb}
 use lib.ListN.{length, get_or, drop, replicate}
 use lib.Seq.{drop-cons}
 use borrow.Author.Tests.{ltb-true, ltb-false, leb-true, leb-false, eqb-true, eqb-false}
+use Rattle.std.specs.Prelude.{Result, Ok, Err}
 use Rattle.card.specs.Card.{DONE, SHORT, OPCODE, FLOAT}
 use Rattle.leb128.specs.Bits.{integer}
 use Rattle.leb128.specs.Bytes.{bytes}
 use Rattle.leb128.specs.Found.{Says}
 use Rattle.leb128.specs.Grammar.{Written}
-use Rattle.leb128.specs.Number.{number_at}
-use Rattle.leb128.specs.declared.read.Leb.{Leb}
-use Rattle.leb128.specs.declared.read.Leb.TheVariants.{Val, Short, Number}
+use Rattle.leb128.specs.Number.{number_of, number_at}
+use Rattle.leb128.specs.declared.reading.Number.{Number}
+use Rattle.leb128.specs.declared.reading.NoNumber.{NoNumber}
+use Rattle.leb128.specs.declared.reading.NoNumber.TheVariants.{Short, Wrong as Malformed}
 use Rattle.leb128.proofs.Arith.{split, either}
 use Rattle.leb128.proofs.Exact.{says}
 use Rattle.opcode.specs.BlockType.{is_block_type}
@@ -256,10 +258,10 @@ module _ (s : List ℕ) (b : bytes s) where
   Judged i p (got v q) = ItemAt s p (form i) v q × Permits i v
   Judged i p (no c l) = Wrong s p i c l
 
-  number-from : (sign : Bool) (N p : ℕ) (r : Leb) → Says sign N s p r → Judged (any (number sign N)) p (item_of s p r)
-  number-from sign N p (Val v n) f = (a_number f.stands, tt)
-  number-from sign N p Short f = cut (cut_number f)
-  number-from sign N p Number f = no_number (bad_number f)
+  number-from : (sign : Bool) (N p : ℕ) (r : Result Number NoNumber) → Says sign N s p r → Judged (any (number sign N)) p (item_of s p r)
+  number-from sign N p (Ok m) f = (a_number f.stands, tt)
+  number-from sign N p (Err Short) f = cut (cut_number f)
+  number-from sign N p (Err Malformed) f = no_number (bad_number f)
 
   leb-judged : (sign : Bool) (N p : ℕ) → 0 < N → Judged (any (number sign N)) p (item_of s p (number_at sign N s p))
   leb-judged sign N p h = number-from sign N p (number_at sign N s p) (says sign N s p b h)
@@ -385,7 +387,7 @@ module _ (s : List ℕ) (b : bytes s) where
     body_ended v n q o unassigned e = ended-wrong (not_assigned o e)
 
     after_first : (v p : ℕ) → ItemAt s at byte v p → (t : Bool) → eqb v PREFIX ≡ t
-        → Ended (and_then (item_of s p (cond t (number_at false 32 s p) (Val 0 0))) (λ n q. body_of (row_at ver v n) s at q (head v n)))
+        → Ended (and_then (item_of s p (cond t (number_at false 32 s p) (number_of 0 0))) (λ n q. body_of (row_at ver v n) s at q (head v n)))
     after_first v p h true e =
         let is = eqb-true v PREFIX e in
         let first = subst (λ (x : ℕ). ItemAt s at byte x p) is h in

@@ -1,9 +1,8 @@
 -- The scan of sixteen shuffle indices.
 use Prim.Native.Nat.{ℕ, suc, ◌+◌, ◌-◌, ◌<◌, ◌≤◌}
 use mathlib.Core.List.{List}
-use mathlib.Core.Logic.{inl, inr, ⊎_elim}
-use mathlib.Core.Path.{◌≡◌, sym, ap, ap₂, ◌∙◌}
-use native.Mathlib.Nat.{add-zero}
+use mathlib.Core.Logic.{⊎_elim}
+use mathlib.Core.Path.{◌≡◌, ap, ap₂, ◌∙◌}
 use native.Mathlib.Omega.{arith}
 use lib.ListN.{length, get_or}
 use Rattle.card.specs.Card.{SHORT, LANE}
@@ -16,9 +15,6 @@ pub record Passing (s : List ℕ) (p k : ℕ) : Type 0 where
   pub most : k ≤ 16
   pub inside : p + k ≤ length s
   pub same : lanes_at 16 s p ≡ lanes_at (16 - k) s (p + k)
-
-pub passing : (s : List ℕ) (p : ℕ) → p ≤ length s → Passing s p 0
-passing s p h = record { most = omega arith; inside = omega arith; same = ap (lanes_at 16 s) (sym (add-zero p)) }
 
 step : (s : List ℕ) (p k : ℕ) → lanes_at 16 s p ≡ lanes_at (16 - k) s (p + k) → k < 16 → lanes_at 16 s p ≡ lanes_at (suc (16 - (k + 1))) s (p + k)
 step s p k e h = let z : 16 - k ≡ suc (16 - (k + 1)) = omega arith in e ∙ ap (λ (n : ℕ). lanes_at n s (p + k)) z
@@ -33,15 +29,6 @@ module _ {s : List ℕ} {p k : ℕ} (w : Passing s p k) where
         inside = omega arith;
         same = step s p k w.same h ∙ rw (lane-good s (p + k) 32 l b) (ap (lanes_at (16 - (k + 1)) s) z);
       }
-
-  pub all-passed : 16 ≤ k → GoodUpTo s p k
-  all-passed h = record { most = w.most; inside = w.inside; same = w.same; stops = λ l. absurd (omega arith) }
-
-  pub cut_off : length s - p ≤ k → GoodUpTo s p k
-  cut_off h = record { most = w.most; inside = w.inside; same = w.same; stops = λ l. inl (omega (arith, w.inside)) }
-
-  pub met-bad : 32 ≤ get_or s (p + k) 0 → GoodUpTo s p k
-  met-bad h = record { most = w.most; inside = w.inside; same = w.same; stops = λ l. inr h }
 
 -- the answer that it means
 module _ {s : List ℕ} {p k : ℕ} (w : GoodUpTo s p k) where

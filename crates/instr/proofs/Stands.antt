@@ -11,8 +11,7 @@ use lib.ListN.{length, replicate, take, drop}
 use lib.Seq.{take_at}
 use Rattle.card.specs.Card.{DONE}
 use Rattle.leb128.specs.Bytes.{bytes}
-use Rattle.leb128.specs.Number.{number_at}
-use Rattle.leb128.specs.declared.read.Leb.TheVariants.{Val}
+use Rattle.leb128.specs.Number.{number_of, number_at}
 use Rattle.opcode.specs.Table.{Row, carried, float, unassigned, PREFIX, row_at}
 use Rattle.opcode.specs.Immediate.{Immediates, nothing, index, block_type, word, long, memory, memory_lane, lane_index, sixteen_bytes, sixteen_lanes, immediates, moved_by, lanes_of}
 use Rattle.instr.specs.Layout.{Field, u32, s32, s64, raw, Writes, InOrder, opcode_fields, immediate_fields, fields_of, row_in, layout, Below, AllowedIn, Allowed, Head, head, zeros, made, kept, kept_of, head_of, Typed, Stands, found}
@@ -196,7 +195,7 @@ module _ (s : List ℕ) (b : bytes s) where
         )
 
     after_first : (at p v : ℕ) (t : Bool) → eqb v PREFIX ≡ t → ByteIs s b at v p
-        → Good s (Whole at) (and_then (item_of s p (cond t (number_at false 32 s p) (Val 0 0))) (λ n q. body_of (row_at ver v n) s at q (head v n)))
+        → Good s (Whole at) (and_then (item_of s p (cond t (number_at false 32 s p) (number_of 0 0))) (λ n q. body_of (row_at ver v n) s at q (head v n)))
     after_first at p v true e a =
         then-got s (NumIs s b false 32 p) (Whole at) (item_of s p (number_at false 32 s p)) _ (num-got s b false 32 p (omega arith))
         (λ n q c. after-vector at p q v n e a c)

@@ -1,11 +1,11 @@
 -- What decoding one instruction answers (01, "Numbers on the inspector's card": 2 and 7 to 11, "Decoding one instruction from any
 -- place"; 02, C-13: told the version, 4 first and 6 after 8): from left to right, each item judged as soon as it is read.
-use Rattle.std.specs.Prelude.{ℕ, zero, suc, ◌+◌, ◌-◌, ◌^◌, Bool, true, false, cond, List, ltb, leb, eqb, length, get_or, take, drop}
+use Rattle.std.specs.Prelude.{ℕ, zero, suc, ◌+◌, ◌-◌, ◌^◌, Bool, true, false, cond, Result, Ok, Err, List, ltb, leb, eqb, length, get_or, take, drop}
 use Rattle.card.specs.Card.{SHORT, VERSION, KIND, OPCODE, FLOAT, LANE, ALIGN}
 use Rattle.leb128.specs.Answer.{told_read}
-use Rattle.leb128.specs.Number.{number_at}
-use Rattle.leb128.specs.declared.read.Leb.{Leb}
-use Rattle.leb128.specs.declared.read.Leb.TheVariants.{Val, Short, Number}
+use Rattle.leb128.specs.Number.{number_of, number_at}
+use Rattle.leb128.specs.declared.reading.Number.{Number}
+use Rattle.leb128.specs.declared.reading.NoNumber.{NoNumber}
 use Rattle.opcode.specs.BlockType.{is_block_type}
 use Rattle.opcode.specs.Table.{Row, carried, float, unassigned, known, PREFIX, row_at}
 use Rattle.opcode.specs.Immediate.{Immediates, nothing, index, block_type, word, long, memory, memory_lane, lane_index, sixteen_bytes, sixteen_lanes, immediates, moved_by, lanes_of}
@@ -32,10 +32,9 @@ and_read (got v next) f = f v next
 and_read (no c p) f = no c p
 
 -- a number, or its refusal as leb128 tells it
-abbrev pub item_of : List ℕ → ℕ → Leb → Item
-item_of s at (Val v n) = got v (at + n)
-item_of s at Short = no (told_read s at Short).code (told_read s at Short).place
-item_of s at Number = no (told_read s at Number).code (told_read s at Number).place
+abbrev pub item_of : List ℕ → ℕ → Result Number NoNumber → Item
+item_of s at (Ok m) = got m.value (at + m.len)
+item_of s at (Err e) = no (told_read s at (Err e)).code (told_read s at (Err e)).place
 
 unfoldable pub number_item : Bool → ℕ → List ℕ → ℕ → Item
 number_item sign N s at = item_of s at (number_at sign N s at)
@@ -98,8 +97,8 @@ body_of float s at p h = refusal FLOAT at
 body_of unassigned s at p h = refusal OPCODE at
 
 -- FD's number; where the first byte is not FD nothing is read
-unfoldable pub opcode_number : ℕ → List ℕ → ℕ → Leb
-opcode_number first s p = cond (eqb first PREFIX) (number_at false 32 s p) (Val 0 0)
+unfoldable pub opcode_number : ℕ → List ℕ → ℕ → Result Number NoNumber
+opcode_number first s p = cond (eqb first PREFIX) (number_at false 32 s p) (number_of 0 0)
 
 -- in a strip of this version
 unfoldable pub decode_at : ℕ → List ℕ → ℕ → Decoded

@@ -1,176 +1,145 @@
-// Decoding what follows the opcode: one function for each class of immediates. `at` is the instruction's place, `p` that of its first immediate.
-ghost use Rattle.std.specs.Prelude.{◌≡◌, ◌+◌, ◌≤◌, length, take, drop};
+// Decoding what follows the opcode: one function for each class of immediates. Each adds what it reads at `p` to the instruction that
+// so far has its opcode alone.
+ghost use Rattle.std.specs.Prelude.{◌≡◌, ◌+◌, ◌≤◌, ℕ, IfOk, length, take, drop};
 ghost use Rattle.opcode.specs.Immediate as Class;
-ghost use Rattle.instr.specs.Layout.{head};
+ghost use Rattle.instr.specs.Layout.{Head};
 ghost use Rattle.instr.specs.Decode.{immediates_at};
-ghost use Rattle.instr.specs.Inner.Steps.{memory_class, lane_ends, GoodUpTo};
+ghost use Rattle.instr.specs.Inner.Steps.{bare_of, memory_class, lane_ends, told};
 
-use crate::Decoded;
-use crate::decoding::{refused, whole};
-use crate::number::{Read, s32_at, s64_at, u32_at};
+use crate::reading::{block_at, exponent_at, lane_at, lanes_at, number_at, sixteen_at};
+use crate::{Instr, Refusal};
+use leb128::{S32, S64, U32};
 
-pub(crate) fn with_index(s: &[u8], at: usize, p: usize, first: u8, number: u32) -> Decoded
-    requires { at ≤ p }
-    ensures { result ≡ immediates_at Class.index 0 0 s.now at p (head first number) }
-{
-    match u32_at(s, p) {
-        Read::Got(v, q) => whole(at, q, first, number, v as u32, 0, 0, 0, 0, 0, [0; 16]),
-        Read::No(code, place) => refused(code, place),
-    }
+// A whole instruction, and the place after it.
+#[derive(Clone, Copy)]
+pub(crate) struct Whole {
+    pub instr: Instr,
+    pub next: usize,
 }
 
-pub(crate) fn with_word(s: &[u8], at: usize, p: usize, first: u8, number: u32) -> Decoded
-    requires { at ≤ p }
-    ensures { result ≡ immediates_at Class.word 0 0 s.now at p (head first number) }
+pub(crate) fn with_index(s: &[u8], p: usize, bare: Instr) -> Result<Whole, Refusal>
+    ensures is { (h : Head) (at : ℕ) → bare ≡ bare_of h → told at result ≡ immediates_at Class.index 0 0 s.now at p h }
+    ensures onward { IfOk result (λ w. p ≤ w.next) }
 {
-    match s32_at(s, p) {
-        Read::Got(v, q) => whole(at, q, first, number, 0, v as u32, 0, 0, 0, 0, [0; 16]),
-        Read::No(code, place) => refused(code, place),
-    }
+    let index = number_at::<U32>(s, p)?;
+    Ok(Whole {
+        instr: Instr {
+            index: index.value as u32,
+            ..bare
+        },
+        next: index.next,
+    })
 }
 
-pub(crate) fn with_long(s: &[u8], at: usize, p: usize, first: u8, number: u32) -> Decoded
-    requires { at ≤ p }
-    ensures { result ≡ immediates_at Class.long 0 0 s.now at p (head first number) }
+pub(crate) fn with_word(s: &[u8], p: usize, bare: Instr) -> Result<Whole, Refusal>
+    ensures is { (h : Head) (at : ℕ) → bare ≡ bare_of h → told at result ≡ immediates_at Class.word 0 0 s.now at p h }
+    ensures onward { IfOk result (λ w. p ≤ w.next) }
 {
-    match s64_at(s, p) {
-        Read::Got(v, q) => whole(at, q, first, number, 0, 0, v, 0, 0, 0, [0; 16]),
-        Read::No(code, place) => refused(code, place),
-    }
+    let word = number_at::<S32>(s, p)?;
+    Ok(Whole {
+        instr: Instr {
+            word: word.value as u32,
+            ..bare
+        },
+        next: word.next,
+    })
+}
+
+pub(crate) fn with_long(s: &[u8], p: usize, bare: Instr) -> Result<Whole, Refusal>
+    ensures is { (h : Head) (at : ℕ) → bare ≡ bare_of h → told at result ≡ immediates_at Class.long 0 0 s.now at p h }
+    ensures onward { IfOk result (λ w. p ≤ w.next) }
+{
+    let long = number_at::<S64>(s, p)?;
+    Ok(Whole {
+        instr: Instr {
+            long: long.value,
+            ..bare
+        },
+        next: long.next,
+    })
 }
 
 pub(crate) fn with_memory(
     s: &[u8],
-    at: usize,
     p: usize,
-    first: u8,
-    number: u32,
+    bare: Instr,
     moved: u32,
     lanes: u32,
     laned: bool,
-) -> Decoded
-    requires { (at ≤ p) × (moved ≤ 16) }
-    ensures { result ≡ immediates_at (memory_class laned) moved lanes s.now at p (head first number) }
+) -> Result<Whole, Refusal>
+    requires { moved ≤ 16 }
+    ensures is { (h : Head) (at : ℕ) → bare ≡ bare_of h → told at result ≡ immediates_at (memory_class laned) moved lanes s.now at p h }
+    ensures onward { IfOk result (λ w. p ≤ w.next) }
 {
-    match u32_at(s, p) {
-        Read::Got(a, q) => {
-            let align = a as u32;
-            if !crate::exponent_fits(align, moved) {
-                return refused(card::ALIGN, p);
-            }
-            match u32_at(s, q) {
-                Read::Got(o, next) => {
-                    let offset = o as u32;
-                    if laned {
-                        with_lane(s, at, next, first, number, lanes, align, offset)
-                    } else {
-                        whole(at, next, first, number, 0, 0, 0, align, offset, 0, [0; 16])
-                    }
-                }
-                Read::No(code, place) => refused(code, place),
-            }
-        }
-        Read::No(code, place) => refused(code, place),
+    let align = exponent_at(s, p, moved)?;
+    let offset = number_at::<U32>(s, align.next)?;
+    let instr = Instr {
+        align: align.value as u32,
+        offset: offset.value as u32,
+        ..bare
+    };
+    if laned {
+        with_lane(s, offset.next, instr, lanes)
+    } else {
+        Ok(Whole {
+            instr,
+            next: offset.next,
+        })
     }
 }
 
 // A lane index ends the instruction, alone or after a memory immediate.
-pub(crate) fn with_lane(
-    s: &[u8],
-    at: usize,
-    p: usize,
-    first: u8,
-    number: u32,
-    lanes: u32,
-    align: u32,
-    offset: u32,
-) -> Decoded
-    requires { at ≤ p }
-    ensures { result ≡ lane_ends lanes s.now at p (head first number) align offset }
+pub(crate) fn with_lane(s: &[u8], p: usize, instr: Instr, lanes: u32) -> Result<Whole, Refusal>
+    ensures is { (at : ℕ) → told at result ≡ lane_ends lanes s.now p at instr }
+    ensures onward { IfOk result (λ w. p ≤ w.next) }
 {
-    if s.len() <= p {
-        return refused(card::SHORT, s.len());
-    }
-    let lane = s[p];
-    if crate::wide(lane) < lanes {
-        whole(
-            at,
-            p + 1,
-            first,
-            number,
-            0,
-            0,
-            0,
-            align,
-            offset,
-            lane,
-            [0; 16],
-        )
-    } else {
-        refused(card::LANE, p)
-    }
+    let lane = lane_at(s, p, lanes)?;
+    Ok(Whole {
+        instr: Instr { lane, ..instr },
+        next: p + 1,
+    })
 }
 
 // A block type is one byte.
-pub(crate) fn with_block(s: &[u8], at: usize, p: usize, first: u8, number: u32) -> Decoded
-    requires { at ≤ p }
-    ensures { result ≡ immediates_at Class.block_type 0 0 s.now at p (head first number) }
+pub(crate) fn with_block(s: &[u8], p: usize, bare: Instr) -> Result<Whole, Refusal>
+    ensures is { (h : Head) (at : ℕ) → bare ≡ bare_of h → told at result ≡ immediates_at Class.block_type 0 0 s.now at p h }
+    ensures onward { IfOk result (λ w. p ≤ w.next) }
 {
-    if s.len() <= p {
-        return refused(card::SHORT, s.len());
-    }
-    let block = s[p];
-    if crate::is_block_type(block) {
-        let mut d = whole(at, p + 1, first, number, 0, 0, 0, 0, 0, 0, [0; 16]);
-        d.instr.block = block;
-        d
-    } else {
-        refused(card::KIND, p)
-    }
+    let block = block_at(s, p)?;
+    Ok(Whole {
+        instr: Instr { block, ..bare },
+        next: p + 1,
+    })
 }
 
-pub(crate) fn with_bytes(s: &[u8], at: usize, p: usize, first: u8, number: u32) -> Decoded
-    requires { (at ≤ p) × (p ≤ length s.now) }
-    ensures { result ≡ immediates_at Class.sixteen_bytes 0 0 s.now at p (head first number) }
-{
-    if s.len() - p < 16 {
-        return refused(card::SHORT, s.len());
-    }
-    whole(at, p + 16, first, number, 0, 0, 0, 0, 0, 0, sixteen(s, p))
-}
-
-pub(crate) fn with_lanes(s: &[u8], at: usize, p: usize, first: u8, number: u32) -> Decoded
-    requires { (at ≤ p) × (p ≤ length s.now) }
-    ensures { result ≡ immediates_at Class.sixteen_lanes 0 0 s.now at p (head first number) }
-{
-    let k = good_lanes(s, p);
-    if k < 16 {
-        if p + k < s.len() {
-            return refused(card::LANE, p + k);
-        }
-        return refused(card::SHORT, s.len());
-    }
-    whole(at, p + 16, first, number, 0, 0, 0, 0, 0, 0, sixteen(s, p))
-}
-
-// How many of sixteen shuffle indices are below 32, up to the first that is not.
-pub(crate) fn good_lanes(s: &[u8], p: usize) -> usize
+pub(crate) fn with_bytes(s: &[u8], p: usize, bare: Instr) -> Result<Whole, Refusal>
     requires { p ≤ length s.now }
-    ensures { GoodUpTo s.now p result }
+    ensures is { (h : Head) (at : ℕ) → bare ≡ bare_of h → told at result ≡ immediates_at Class.sixteen_bytes 0 0 s.now at p h }
+    ensures onward { IfOk result (λ w. p ≤ w.next) }
 {
-    let mut k: usize = 0;
-    loop {
-        if 16 <= k {
-            break k;
-        }
-        if s.len() - p <= k {
-            break k;
-        }
-        if 32 <= s[p + k] {
-            break k;
-        }
-        k = k + 1;
-    }
+    let next = sixteen_at(s, p)?;
+    Ok(Whole {
+        instr: Instr {
+            bytes: sixteen(s, p),
+            ..bare
+        },
+        next,
+    })
+}
+
+pub(crate) fn with_lanes(s: &[u8], p: usize, bare: Instr) -> Result<Whole, Refusal>
+    requires { p ≤ length s.now }
+    ensures is { (h : Head) (at : ℕ) → bare ≡ bare_of h → told at result ≡ immediates_at Class.sixteen_lanes 0 0 s.now at p h }
+    ensures onward { IfOk result (λ w. p ≤ w.next) }
+{
+    let next = lanes_at(s, p)?;
+    Ok(Whole {
+        instr: Instr {
+            bytes: sixteen(s, p),
+            ..bare
+        },
+        next,
+    })
 }
 
 fn sixteen(s: &[u8], p: usize) -> [u8; 16]

@@ -4,41 +4,49 @@ ghost use Rattle.std.specs.Prelude.{◌≡◌, ◌≤◌, cond, eqb, length};
 ghost use Rattle.opcode.specs.Table.{Row};
 ghost use Rattle.opcode.specs.Entry.{entry_of, moved_in};
 ghost use Rattle.instr.specs.Layout.{refusal};
-ghost use Rattle.instr.specs.Decode.{lane_at, lanes_at, sixteen_at, block_at, decode_in};
+ghost use Rattle.instr.specs.Decode.{decode_in};
 ghost use Rattle.instr.specs.Scan.{scan_of, summary_of};
-ghost use Rattle.instr.specs.Inner.Steps.{item};
-ghost use Rattle.instr.specs.Inner.Over.{over, over_memory, over_row};
+ghost use Rattle.instr.specs.Inner.Steps.{item, scan_answer};
+ghost use Rattle.instr.specs.Inner.Over.{over_memory, over_row};
 
-use crate::decoding::opcode_number;
-use crate::immediates::good_lanes;
-use crate::number::{Read, s32_at, s64_at, u32_at};
-use crate::{Fetched, Scanned};
+use crate::decoding::opcode_at;
+use crate::reading::{Got, block_at, exponent_at, lane_at, lanes_at, number_at, sixteen_at};
+use crate::{Fetched, Refusal, Scanned};
+use leb128::{S32, S64, U32};
 
 pub fn scan(version: u16, s: &[u8], at: usize) -> Scanned
     ensures { result ≡ scan_of (decode_in version s.now at) }
 {
-    if !opcode::is_known(version) {
-        return refused(card::VERSION, 3);
+    match passed(version, s, at) {
+        Ok(instruction) => instruction,
+        Err(why) => refused(why),
     }
-    if s.len() <= at {
-        return refused(card::SHORT, s.len());
-    }
-    let first = s[at];
-    match opcode_number(s, at + 1, first) {
-        Read::Got(n, p) => {
-            let entry = crate::entry_in(version, first, n as u32);
-            match immediates(s, at, p, entry) {
-                Read::Got(immediate, next) => Scanned {
-                    code: card::DONE,
-                    place: 0,
-                    len: next - at,
-                    entry,
-                    immediate: immediate as u32,
-                },
-                Read::No(code, place) => refused(code, place),
-            }
-        }
-        Read::No(code, place) => refused(code, place),
+}
+
+fn passed(version: u16, s: &[u8], at: usize) -> Result<Scanned, Refusal>
+    ensures { scan_answer result ≡ scan_of (decode_in version s.now at) }
+{
+    let code = opcode_at(version, s, at)?;
+    let entry = crate::entry_in(version, code.first, code.number);
+    let rest = immediates(s, at, code.next, entry)?;
+    Ok(Scanned {
+        code: card::DONE,
+        place: 0,
+        len: rest.next - at,
+        entry,
+        immediate: rest.value as u32,
+    })
+}
+
+fn refused(why: Refusal) -> Scanned
+    ensures { result ≡ scan_of (refusal why.code why.place) }
+{
+    Scanned {
+        code: why.code,
+        place: why.place,
+        len: 0,
+        entry: opcode::entry(0),
+        immediate: 0,
     }
 }
 
@@ -60,128 +68,65 @@ pub fn summary(f: Fetched) -> Scanned
 fn immediate_of(block: u8, index: u32) -> u32
     ensures { result ≡ cond (eqb block 0) index block }
 {
-    if block == 0 { index } else { block as u32 }
+    if block == 0 { index } else { u32::from(block) }
 }
 
-fn refused(code: u8, place: usize) -> Scanned
-    ensures { result ≡ scan_of (refusal code place) }
-{
-    Scanned {
-        code,
-        place,
-        len: 0,
-        entry: opcode::entry(0),
-        immediate: 0,
-    }
-}
-
-// What follows the opcode of the instruction at `at`, from `p` on. One caller, so that it becomes part of it.
-fn immediates(s: &[u8], at: usize, p: usize, entry: u64) -> Read
+// What follows the opcode of the instruction at `at`, from `p` on: of an immediate that no rule reads only the place after it, with 0.
+// One caller, so that it becomes part of it.
+fn immediates(s: &[u8], at: usize, p: usize, entry: u64) -> Result<Got, Refusal>
     requires { (p ≤ length s.now) × (moved_in entry ≤ 16) }
     ensures { (row : Row) → entry ≡ entry_of row → item result ≡ over_row row s.now at p }
 {
     let class = opcode::immediates(entry);
     match class {
-        opcode::CLASS_NOTHING => Read::Got(0, p),
-        opcode::CLASS_INDEX => u32_at(s, p),
-        opcode::CLASS_WORD => past(s32_at(s, p)),
-        opcode::CLASS_LONG => past(s64_at(s, p)),
+        opcode::CLASS_NOTHING => Ok(Got::over(p)),
+        opcode::CLASS_INDEX => number_at::<U32>(s, p),
+        opcode::CLASS_WORD => {
+            let word = number_at::<S32>(s, p)?;
+            Ok(Got::over(word.next))
+        }
+        opcode::CLASS_LONG => {
+            let long = number_at::<S64>(s, p)?;
+            Ok(Got::over(long.next))
+        }
         opcode::CLASS_MEMORY | opcode::CLASS_MEMORY_LANE => {
             let laned = class == opcode::CLASS_MEMORY_LANE;
             memory(s, p, opcode::moved(entry), opcode::lanes(entry), laned)
         }
-        opcode::CLASS_LANE => lane(s, p, opcode::lanes(entry)),
-        opcode::CLASS_BYTES => bytes(s, p),
-        opcode::CLASS_LANES => lanes(s, p),
-        opcode::CLASS_BLOCK_TYPE => block(s, p),
-        opcode::CLASS_FLOAT => Read::No(card::FLOAT, at),
-        _ => Read::No(card::OPCODE, at),
+        opcode::CLASS_LANE => {
+            lane_at(s, p, opcode::lanes(entry))?;
+            Ok(Got::over(p + 1))
+        }
+        opcode::CLASS_BYTES => {
+            let next = sixteen_at(s, p)?;
+            Ok(Got::over(next))
+        }
+        opcode::CLASS_LANES => {
+            let next = lanes_at(s, p)?;
+            Ok(Got::over(next))
+        }
+        opcode::CLASS_BLOCK_TYPE => {
+            let block = block_at(s, p)?;
+            Ok(Got {
+                value: u64::from(block),
+                next: p + 1,
+            })
+        }
+        opcode::CLASS_FLOAT => Err(Refusal::new(card::FLOAT, at)),
+        _ => Err(Refusal::new(card::OPCODE, at)),
     }
 }
 
-// A number of which only the place after it is asked.
-fn past(number: Read) -> Read
-    ensures { item result ≡ over (item number) }
-{
-    match number {
-        Read::Got(v, next) => Read::Got(0, next),
-        Read::No(code, place) => Read::No(code, place),
-    }
-}
-
-fn memory(s: &[u8], p: usize, moved: u32, lanes: u32, laned: bool) -> Read
+fn memory(s: &[u8], p: usize, moved: u32, lanes: u32, laned: bool) -> Result<Got, Refusal>
     requires { moved ≤ 16 }
     ensures { item result ≡ over_memory laned moved lanes s.now p }
 {
-    match u32_at(s, p) {
-        Read::Got(a, q) => {
-            if !crate::exponent_fits(a as u32, moved) {
-                return Read::No(card::ALIGN, p);
-            }
-            match u32_at(s, q) {
-                Read::Got(o, next) => {
-                    if laned {
-                        lane(s, next, lanes)
-                    } else {
-                        Read::Got(0, next)
-                    }
-                }
-                Read::No(code, place) => Read::No(code, place),
-            }
-        }
-        Read::No(code, place) => Read::No(code, place),
-    }
-}
-
-fn lane(s: &[u8], p: usize, lanes: u32) -> Read
-    ensures { item result ≡ over (lane_at lanes s.now p) }
-{
-    if s.len() <= p {
-        return Read::No(card::SHORT, s.len());
-    }
-    if crate::wide(s[p]) < lanes {
-        Read::Got(0, p + 1)
+    let align = exponent_at(s, p, moved)?;
+    let offset = number_at::<U32>(s, align.next)?;
+    if laned {
+        lane_at(s, offset.next, lanes)?;
+        Ok(Got::over(offset.next + 1))
     } else {
-        Read::No(card::LANE, p)
-    }
-}
-
-fn block(s: &[u8], p: usize) -> Read
-    ensures { item result ≡ block_at s.now p }
-{
-    if s.len() <= p {
-        return Read::No(card::SHORT, s.len());
-    }
-    let b = s[p];
-    if crate::is_block_type(b) {
-        Read::Got(b as u64, p + 1)
-    } else {
-        Read::No(card::KIND, p)
-    }
-}
-
-fn bytes(s: &[u8], p: usize) -> Read
-    requires { p ≤ length s.now }
-    ensures { item result ≡ over (sixteen_at s.now p) }
-{
-    if s.len() - p < 16 {
-        Read::No(card::SHORT, s.len())
-    } else {
-        Read::Got(0, p + 16)
-    }
-}
-
-fn lanes(s: &[u8], p: usize) -> Read
-    requires { p ≤ length s.now }
-    ensures { item result ≡ over (lanes_at 16 s.now p) }
-{
-    let k = good_lanes(s, p);
-    if 16 <= k {
-        return Read::Got(0, p + 16);
-    }
-    if p + k < s.len() {
-        Read::No(card::LANE, p + k)
-    } else {
-        Read::No(card::SHORT, s.len())
+        Ok(Got::over(offset.next))
     }
 }

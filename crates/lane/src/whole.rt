@@ -1,10 +1,11 @@
-// The operations of v128 as 128 bits, under their names.
+// The operations of v128 as 128 bits, under their names, a byte at a time.
 ghost use Rattle.std.specs.Prelude.{◌≡◌};
 ghost use Rattle.operation.specs.Op.{Not, And, Andnot, Or, Xor, AnyTrue, unary, binary, test, bitselect};
 
-use crate::lanes::bitwise::bitwise128;
+use crate::V128;
+use crate::lanes::lanewise::{lanewise1, lanewise2};
 use crate::lanes::testing;
-use crate::{V128, op};
+use scalar::I8x16;
 
 impl V128 {
     pub fn constant(bytes: [u8; 16]) -> V128
@@ -16,31 +17,31 @@ impl V128 {
     pub fn not(a: V128) -> V128
         ensures { result.bytes ≡ unary Not a.bytes }
     {
-        bitwise128(op::NOT, a, a)
+        lanewise1::<I8x16, _>(a, |x| !x)
     }
 
     pub fn and(a: V128, b: V128) -> V128
         ensures { result.bytes ≡ binary And a.bytes b.bytes }
     {
-        bitwise128(op::AND, a, b)
+        lanewise2::<I8x16, _>(a, b, |x, y| x & y)
     }
 
     pub fn andnot(a: V128, b: V128) -> V128
         ensures { result.bytes ≡ binary Andnot a.bytes b.bytes }
     {
-        bitwise128(op::ANDNOT, a, b)
+        lanewise2::<I8x16, _>(a, b, |x, y| x & (!y))
     }
 
     pub fn or(a: V128, b: V128) -> V128
         ensures { result.bytes ≡ binary Or a.bytes b.bytes }
     {
-        bitwise128(op::OR, a, b)
+        lanewise2::<I8x16, _>(a, b, |x, y| x | y)
     }
 
     pub fn xor(a: V128, b: V128) -> V128
         ensures { result.bytes ≡ binary Xor a.bytes b.bytes }
     {
-        bitwise128(op::XOR, a, b)
+        lanewise2::<I8x16, _>(a, b, |x, y| x ^ y)
     }
 
     // The bits of a where c has a one, those of b elsewhere.

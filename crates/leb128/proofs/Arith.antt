@@ -4,12 +4,11 @@ use mathlib.Core.Path.{◌≡◌, refl, ap}
 use mathlib.Core.Bool.{Bool, true, false, cond}
 use native.Mathlib.Nat.{two-pow-succ, not-suc-le-zero}
 use native.Mathlib.Omega.{arith}
-use lib.Dec.{ltb, leb}
+use lib.Dec.{leb}
 use lib.Pow.{pow-add}
 use lib.IntN.{ℤ, pos, negsuc, ◌+ℤ◌, ◌-ℤ◌, ◌*ℤ◌}
 use borrow.Author.Tests.{leb-true, leb-false, lt-ltb, le-ltb}
 use Rattle.leb128.specs.Shortest.{low, high}
-use Rattle.leb128.specs.Inner.Room.{width_of}
 
 pub split : {A : Type 0} (P : A → Type 0) (t : Bool) {x y : A} → (t ≡ true → P x) → (t ≡ false → P y) → P (cond t x y)
 split P true f g = f refl
@@ -58,6 +57,3 @@ module _ (b : ℕ) (l : 128 ≤ b) (u : b < 256) where
 -- a byte of 2^6 to 2^7 - 1 that is the last of a signed number
 pub down : (n : ℕ) → n < 128 → pos n -ℤ pos (2 ^ 7) ≡ negsuc (128 - suc n)
 down n l = rw (lt-ltb n 128 l)
-
-pub width_some : (room : ℕ) → 0 < width_of room
-width_some room = split (λ (n : ℕ). 0 < n) (ltb room (2 ^ 32)) (λ e. omega arith) (λ e. omega arith)

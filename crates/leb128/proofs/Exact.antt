@@ -8,15 +8,17 @@ use native.Mathlib.Omega.{arith}
 use lib.ListN.{length, drop, length-drop, length-append}
 use lib.Seq.{get_or-drop}
 use lib.IntN.{ℤ}
+use Rattle.std.specs.Prelude.{Result, Ok, Err}
 use Rattle.leb128.specs.Grammar.{Stands, Cut, Nothing}
 use Rattle.leb128.specs.Bits.{integer, bits}
 use Rattle.leb128.specs.Answer.{Told, told_read}
-use Rattle.leb128.specs.Number.{Read, is, cut, wrong, int_of, bits_of, number_at}
+use Rattle.leb128.specs.Number.{number_of, Read, is, cut, wrong, int_of, bits_of, number_at}
 use Rattle.leb128.specs.Promise.{Reads, done, short, number, ReadsNumber}
 use Rattle.leb128.specs.Found.{Found, Says}
 use Rattle.leb128.specs.Bytes.{bytes}
-use Rattle.leb128.specs.declared.read.Leb.{Leb}
-use Rattle.leb128.specs.declared.read.Leb.TheVariants.{Val, Short, Number}
+use Rattle.leb128.specs.declared.reading.Number.{Number}
+use Rattle.leb128.specs.declared.reading.NoNumber.{NoNumber}
+use Rattle.leb128.specs.declared.reading.NoNumber.TheVariants.{Short, Wrong}
 use Rattle.leb128.proofs.Grammars.{some_bytes, few_bytes, ranged}
 use Rattle.leb128.proofs.Reader.{reads, begun, Met, met}
 use Rattle.leb128.proofs.Widths.{integer-back, bits_back}
@@ -79,9 +81,9 @@ module _ (sign : Bool) (N : ℕ) (s : List ℕ) (at : ℕ) where
     says_of cut c = c
     says_of wrong o = o
 
-    pub stands-reads : (v n : ℕ) → v < 2 ^ N → Stands sign N s at (integer sign N v) n → number_at sign N s at ≡ Val v n
+    pub stands-reads : (v n : ℕ) → v < 2 ^ N → Stands sign N s at (integer sign N v) n → number_at sign N s at ≡ number_of v n
     unfolding number_at
-    stands-reads v n l t = ap (bits_of N) (stands-is t) ∙ ap (λ (x : ℕ). Val x n) (bits_back N h sign v l).1
+    stands-reads v n l t = ap (bits_of N) (stands-is t) ∙ ap (λ (x : ℕ). number_of x n) (bits_back N h sign v l).1
 
   module _ (b : bytes s) where
     here : Is (int_of sign N (drop at s))
@@ -92,7 +94,7 @@ module _ (sign : Bool) (N : ℕ) (s : List ℕ) (at : ℕ) where
     unfolding number_at
     meets = reads_of (int_of sign N (drop at s)) here
 
-    pub reads-number : (r : Leb) → r ≡ number_at sign N s at → ReadsNumber sign N s at r
+    pub reads-number : (r : Result Number NoNumber) → r ≡ number_at sign N s at → ReadsNumber sign N s at r
     reads-number r e = record { answer = e; reads = rw e meets }
 
     pub told-one : (t : Told) → Reads sign N s at t → t ≡ told_read s at (number_at sign N s at)
@@ -106,12 +108,12 @@ module _ (sign : Bool) (N : ℕ) (s : List ℕ) (at : ℕ) where
       unfolding number_at
       says = says_of h (int_of sign N (drop at s)) here
 
-      from-says : (r : Leb) → Says sign N s at r → number_at sign N s at ≡ r
+      from-says : (r : Result Number NoNumber) → Says sign N s at r → number_at sign N s at ≡ r
       unfolding number_at
-      from-says (Val v n) f = stands-reads h v n f.small f.stands
-      from-says Short c = ap (bits_of N) (cut-is c)
-      from-says Number o = ap (bits_of N) (nothing_is (int_of sign N (drop at s)) here o)
+      from-says (Ok m) f = stands-reads h m.value m.len f.small f.stands
+      from-says (Err Short) c = ap (bits_of N) (cut-is c)
+      from-says (Err Wrong) o = ap (bits_of N) (nothing_is (int_of sign N (drop at s)) here o)
 
       -- EXACTLY: each answer, and when it is given
-      pub exactly : (r : Leb) → (number_at sign N s at ≡ r) ↔ Says sign N s at r
+      pub exactly : (r : Result Number NoNumber) → (number_at sign N s at ≡ r) ↔ Says sign N s at r
       exactly r = ((λ e. subst (Says sign N s at) e says), from-says r)

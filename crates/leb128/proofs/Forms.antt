@@ -12,10 +12,9 @@ use lib.Signed.{mag}
 use borrow.Author.Tests.{lt-ltb, le-ltb}
 use Rattle.leb128.specs.Grammar.{Written, u_last, s_low, s_high, more, ShortestForm}
 use Rattle.leb128.specs.Bits.{integer}
-use Rattle.leb128.specs.Number.{number_at}
+use Rattle.leb128.specs.Number.{number_of, number_at}
 use Rattle.leb128.specs.Shortest.{low, high, limit_of, shortest, bytes_of}
 use Rattle.leb128.specs.Bytes.{bytes}
-use Rattle.leb128.specs.declared.read.Leb.TheVariants.{Val}
 use Rattle.leb128.proofs.Arith.{split, either, pow-seven, half-seven, up, up_pos, up_neg, high-up, down}
 use Rattle.leb128.proofs.Grammars.{some_bytes, few_bytes, are-bytes, Ranged, same_bytes}
 use Rattle.leb128.proofs.Widths.{bits_back}
@@ -138,7 +137,7 @@ module _ (sign : Bool) (N v : ℕ) (h : 0 < N) (l : v < 2 ^ N) where
   bytes-bytes = are-bytes bytes-write
 
   -- THE ROUND TRIP: where the form stands, at any place and before anything, reading finds v
-  pub reads-back : (s : List ℕ) (at : ℕ) (rest : List ℕ) → drop at s ≡ bytes_of sign N v ++ rest → number_at sign N s at ≡ Val v (length (bytes_of sign N v))
+  pub reads-back : (s : List ℕ) (at : ℕ) (rest : List ℕ) → drop at s ≡ bytes_of sign N v ++ rest → number_at sign N s at ≡ number_of v (length (bytes_of sign N v))
   reads-back s at rest e =
       stands-reads sign N s at h v (length (bytes_of sign N v)) l
       (record { bytes = bytes_of sign N v; rest = rest; here = e; long = refl; writes = bytes-write })

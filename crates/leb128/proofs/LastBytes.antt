@@ -10,9 +10,8 @@ use lib.IntN.{ℤ, pos, ◌-ℤ◌}
 use borrow.Author.Tests.{lt-ltb, le-ltb, lt-leb}
 use Rattle.leb128.specs.Grammar.{Written, u_last, s_low, s_high}
 use Rattle.leb128.specs.Bits.{bits}
-use Rattle.leb128.specs.Number.{Read, is, wrong, last_of, before, int_of, bits_of, number_at}
+use Rattle.leb128.specs.Number.{number_of, Read, is, wrong, last_of, before, int_of, bits_of, number_at}
 use Rattle.leb128.specs.LastByte.{FifthU32, FifthS32, TenthS64, Going, LastRule}
-use Rattle.leb128.specs.declared.read.Leb.TheVariants.{Val}
 use Rattle.leb128.proofs.Arith.{either, up}
 use Rattle.leb128.proofs.Reader.{more-step, reads}
 
@@ -55,7 +54,7 @@ rule sign N k M Allowed l m good bad s at front b rest e long g =
       λ a.
           let t = good b a in
           let u = befores-is front t.0 in
-          (bits N u.0, ap (bits_of N) (q ∙ ap (befores front) (reads t.1 rest) ∙ u.1) ∙ ap (λ (x : ℕ). Val (bits N u.0) (suc x)) long),
+          (bits N u.0, ap (bits_of N) (q ∙ ap (befores front) (reads t.1 rest) ∙ u.1) ∙ ap (λ (x : ℕ). number_of (bits N u.0) (suc x)) long),
       λ a. ap (bits_of N) (q ∙ ap (befores front) (bad b rest a) ∙ befores-wrong front),
     )
 

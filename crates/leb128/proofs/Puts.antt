@@ -7,20 +7,18 @@ use native.Mathlib.Omega.{arith}
 use lib.ListN.{length, take, drop}
 use lib.Seq.{sets, sets-eq, drop_at, length-take-le}
 use borrow.Author.Tests.{le-leb, lt-leb}
+use Rattle.std.specs.Prelude.{Option, Some, None}
 use Rattle.leb128.specs.Answer.{told_wrote}
-use Rattle.leb128.specs.Number.{number_at}
+use Rattle.leb128.specs.Number.{number_of, number_at}
 use Rattle.leb128.specs.Shortest.{bytes_of, wrote_at, put_at}
 use Rattle.leb128.specs.Promise.{Writes, done, small, WritesNumber, CountsBytes}
-use Rattle.leb128.specs.declared.read.Leb.TheVariants.{Val}
-use Rattle.leb128.specs.declared.write.Wrote.{Wrote}
-use Rattle.leb128.specs.declared.write.Wrote.TheVariants.{To, Small}
 use Rattle.leb128.proofs.Arith.{either}
 use Rattle.leb128.proofs.Forms.{bytes-shortest, reads-back}
 
 -- with room for bs at the place, and without
 module _ (bs : List ℕ) (at : ℕ) (out : List ℕ) where
   module _ (l : at + length bs ≤ length out) where
-    pub wrote-to : wrote_at bs at out ≡ To (at + length bs)
+    pub wrote-to : wrote_at bs at out ≡ Some (at + length bs)
     unfolding wrote_at
     wrote-to = rw (le-leb (at + length bs) (length out) l)
 
@@ -29,7 +27,7 @@ module _ (bs : List ℕ) (at : ℕ) (out : List ℕ) where
     put_in = rw (le-leb (at + length bs) (length out) l)
 
   module _ (l : length out < at + length bs) where
-    pub wrote-small : wrote_at bs at out ≡ Small
+    pub wrote-small : wrote_at bs at out ≡ None
     unfolding wrote_at
     wrote-small = rw (lt-leb (at + length bs) (length out) l)
 
@@ -38,10 +36,10 @@ module _ (bs : List ℕ) (at : ℕ) (out : List ℕ) where
     put-none = rw (lt-leb (at + length bs) (length out) l)
 
   pub accepted : at + length bs ≤ length out → (p : ℕ) → p ≡ at + length bs → (out' : List ℕ) → out' ≡ sets out at bs
-      → (To p ≡ wrote_at bs at out) × (out' ≡ put_at bs at out)
-  accepted l p e out' f = (ap To e ∙ sym (wrote-to l), f ∙ sym (put_in l))
+      → (Some p ≡ wrote_at bs at out) × (out' ≡ put_at bs at out)
+  accepted l p e out' f = (ap Some e ∙ sym (wrote-to l), f ∙ sym (put_in l))
 
-  pub refused : length out < at + length bs → (Small ≡ wrote_at bs at out) × (out ≡ put_at bs at out)
+  pub refused : length out < at + length bs → (None ≡ wrote_at bs at out) × (out ≡ put_at bs at out)
   refused l = (sym (wrote-small l), sym (put-none l))
 
 module _ (sign : Bool) (N v : ℕ) (h : 0 < N) (l : v < 2 ^ N) where
@@ -56,7 +54,7 @@ module _ (sign : Bool) (N v : ℕ) (h : 0 < N) (l : v < 2 ^ N) where
       rw (wrote-to bs at out t, put_in bs at out t, sets-eq bs out at t, n) (done f t))
       (λ t. rw (wrote-small bs at out t, put-none bs at out t) (small f t))
 
-  pub writes-number : (at : ℕ) (out : List ℕ) (r : Wrote) (out' : List ℕ) → r ≡ wrote_at (bytes_of sign N v) at out → out' ≡ put_at (bytes_of sign N v) at out
+  pub writes-number : (at : ℕ) (out : List ℕ) (r : Option ℕ) (out' : List ℕ) → r ≡ wrote_at (bytes_of sign N v) at out → out' ≡ put_at (bytes_of sign N v) at out
       → WritesNumber sign N v at out r out'
   writes-number at out r out' e f = record { answer = e; bytes = f; writes = rw (e, f) (writes-of at out) }
 
@@ -64,22 +62,19 @@ module _ (sign : Bool) (N v : ℕ) (h : 0 < N) (l : v < 2 ^ N) where
   counts-bytes n e = record { answer = e; shortest = (bytes_of sign N v, bytes-shortest sign N v h l, sym e) }
 
 -- what a caller that has room knows
-module _ {sign : Bool} {N v at : ℕ} {out : List ℕ} {r : Wrote} {out' : List ℕ} (w : WritesNumber sign N v at out r out')
+module _ {sign : Bool} {N v at : ℕ} {out : List ℕ} {r : Option ℕ} {out' : List ℕ} (w : WritesNumber sign N v at out r out')
     (l : at + length (bytes_of sign N v) ≤ length out) where
-  pub goes_in : r ≡ To (at + length (bytes_of sign N v))
+  pub goes_in : r ≡ Some (at + length (bytes_of sign N v))
   goes_in = w.answer ∙ wrote-to (bytes_of sign N v) at out l
 
-  pub goes_to : (p : ℕ) → r ≡ To p → p ≡ at + length (bytes_of sign N v)
+  pub goes_to : (p : ℕ) → r ≡ Some p → p ≡ at + length (bytes_of sign N v)
   goes_to p e = let g = goes_in in cc
-
-  pub not-small : r ≡ Small → ⊥
-  not-small e = let g = goes_in in let o : ◌≡◌ {A = ℕ} 0 1 = cc in omega arith
 
   pub goes-bytes : out' ≡ sets out at (bytes_of sign N v)
   goes-bytes = w.bytes ∙ put_in (bytes_of sign N v) at out l
 
   -- what was written is read back
-  pub reads-written : 0 < N → v < 2 ^ N → number_at sign N out' at ≡ Val v (length (bytes_of sign N v))
+  pub reads-written : 0 < N → v < 2 ^ N → number_at sign N out' at ≡ number_of v (length (bytes_of sign N v))
   reads-written h k =
       let bs = bytes_of sign N v in
       let tail = drop (at + length bs) out in

@@ -1,7 +1,7 @@
 -- 01, "Instructions": which fifth byte u32 and s32 allow, and which tenth byte s64.
-use Rattle.std.specs.Prelude.{ℕ, suc, ◌≤◌, ◌≡◌, Bool, ◌⊎◌, List, [], ◌∷◌, ◌++◌, length, drop}
-use Rattle.leb128.specs.Number.{number_at}
-use Rattle.leb128.specs.declared.read.Leb.TheVariants.{Val, Number}
+use Rattle.std.specs.Prelude.{ℕ, suc, ◌≤◌, ◌≡◌, Bool, ◌⊎◌, List, [], ◌∷◌, ◌++◌, length, drop, Err}
+use Rattle.leb128.specs.Number.{number_of, number_at}
+use Rattle.leb128.specs.declared.reading.NoNumber.TheVariants.{Wrong}
 
 abbrev pub FifthU32 : ℕ → Type 0
 FifthU32 b = b ≤ 0x0F
@@ -21,4 +21,4 @@ Going (b ∷ bs) = (128 ≤ b) × Going bs
 abbrev pub LastRule : Bool → ℕ → ℕ → (ℕ → Type 0) → Type 0
 LastRule sign N k Allowed =
     (s : List ℕ) (at : ℕ) (front : List ℕ) (b : ℕ) (rest : List ℕ) → drop at s ≡ front ++ b ∷ rest → length front ≡ k → Going front
-    → (Allowed b → (v : ℕ) × (number_at sign N s at ≡ Val v (suc k))) × ((Allowed b → ⊥) → number_at sign N s at ≡ Number)
+    → (Allowed b → (v : ℕ) × (number_at sign N s at ≡ number_of v (suc k))) × ((Allowed b → ⊥) → number_at sign N s at ≡ Err Wrong)

@@ -1,8 +1,9 @@
 -- What reading finds, as a function: Core 2.0, 5.2.2, from the first byte on.
-use Rattle.std.specs.Prelude.{ℕ, suc, ◌+◌, ◌-◌, ◌^◌, List, [], ◌∷◌, Bool, true, false, cond, drop, ltb, leb, ℤ, pos, ◌+ℤ◌, ◌-ℤ◌, ◌*ℤ◌}
+use Rattle.std.specs.Prelude.{ℕ, suc, ◌+◌, ◌-◌, ◌^◌, List, [], ◌∷◌, Result, Ok, Err, Bool, true, false, cond, drop, ltb, leb, ℤ, pos, ◌+ℤ◌, ◌-ℤ◌, ◌*ℤ◌}
 use Rattle.leb128.specs.Bits.{bits}
-use Rattle.leb128.specs.declared.read.Leb.{Leb}
-use Rattle.leb128.specs.declared.read.Leb.TheVariants.{Val, Short, Number}
+use Rattle.leb128.specs.declared.reading.Number.{Number}
+use Rattle.leb128.specs.declared.reading.NoNumber.{NoNumber}
+use Rattle.leb128.specs.declared.reading.NoNumber.TheVariants.{Short, Wrong}
 
 -- an integer and how many bytes it takes; bytes that stop too early; no integer of this width
 pub data Read : Type 0 where
@@ -31,11 +32,15 @@ int_of sign N (n ∷ bs) =
     (last_of sign N n)
     (cond (ltb 7 N) (before n (int_of sign (N - 7) bs)) wrong)
 
-abbrev pub bits_of : ℕ → Read → Leb
-bits_of N (is z k) = Val (bits N z) k
-bits_of N cut = Short
-bits_of N wrong = Number
+-- the answer: a number of these bits and so many bytes
+abbrev pub number_of : ℕ → ℕ → Result Number NoNumber
+number_of v n = Ok (record { value = v; len = n })
+
+abbrev pub bits_of : ℕ → Read → Result Number NoNumber
+bits_of N (is z k) = number_of (bits N z) k
+bits_of N cut = Err Short
+bits_of N wrong = Err Wrong
 
 -- at a place of s
-unfoldable pub number_at : Bool → ℕ → List ℕ → ℕ → Leb
+unfoldable pub number_at : Bool → ℕ → List ℕ → ℕ → Result Number NoNumber
 number_at sign N s at = bits_of N (int_of sign N (drop at s))

@@ -1,13 +1,13 @@
 -- What the public functions promise: 01's answers, by Core's grammar; and the same as equations, for those who call them.
-use Rattle.std.specs.Prelude.{ℕ, ◌+◌, ◌≤◌, ◌<◌, ◌≡◌, Bool, List, ◌++◌, length, take, drop, ℤ}
+use Rattle.std.specs.Prelude.{ℕ, ◌+◌, ◌≤◌, ◌<◌, ◌≡◌, Bool, Option, Result, List, ◌++◌, length, take, drop, ℤ}
 use Rattle.card.specs.Card.{DONE, SHORT, NUMBER, SMALL}
 use Rattle.leb128.specs.Grammar.{ShortestForm, Stands, Cut, Nothing}
 use Rattle.leb128.specs.Bits.{integer, bits}
 use Rattle.leb128.specs.Answer.{Told, told, told_read, told_wrote}
 use Rattle.leb128.specs.Number.{number_at}
 use Rattle.leb128.specs.Shortest.{bytes_of, wrote_at, put_at}
-use Rattle.leb128.specs.declared.read.Leb.{Leb}
-use Rattle.leb128.specs.declared.write.Wrote.{Wrote}
+use Rattle.leb128.specs.declared.reading.Number.{Number}
+use Rattle.leb128.specs.declared.reading.NoNumber.{NoNumber}
 
 -- reading at a place: the integer that stands there; SHORT where it is cut; NUMBER where neither is so
 pub data Reads (sign : Bool) (N : ℕ) (s : List ℕ) (at : ℕ) : Told → Type 0 where
@@ -22,11 +22,11 @@ pub data Writes (sign : Bool) (N v at : ℕ) (out : List ℕ) : Told → List �
   small : {bs : List ℕ} → ShortestForm sign N (integer sign N v) bs → length out < at + length bs → Writes sign N v at out (told SMALL 0 0 0) out
 
 -- the contracts: r is the answer, out' the buffer afterwards
-pub record ReadsNumber (sign : Bool) (N : ℕ) (s : List ℕ) (at : ℕ) (r : Leb) : Type 0 where
+pub record ReadsNumber (sign : Bool) (N : ℕ) (s : List ℕ) (at : ℕ) (r : Result Number NoNumber) : Type 0 where
   pub answer : r ≡ number_at sign N s at
   pub reads : Reads sign N s at (told_read s at r)
 
-pub record WritesNumber (sign : Bool) (N v at : ℕ) (out : List ℕ) (r : Wrote) (out' : List ℕ) : Type 0 where
+pub record WritesNumber (sign : Bool) (N v at : ℕ) (out : List ℕ) (r : Option ℕ) (out' : List ℕ) : Type 0 where
   pub answer : r ≡ wrote_at (bytes_of sign N v) at out
   pub bytes : out' ≡ put_at (bytes_of sign N v) at out
   pub writes : Writes sign N v at out (told_wrote at r) out'

@@ -1,10 +1,8 @@
 -- The shortest form of an integer, as a function, and what writing it does to a buffer.
-use Rattle.std.specs.Prelude.{ℕ, zero, suc, ◌+◌, ◌-◌, ◌/◌, ◌%◌, ◌^◌, List, [], ◌∷◌, Bool, true, false, cond, ltb, leb, length, ℤ, pos, negsuc}
+use Rattle.std.specs.Prelude.{ℕ, zero, suc, ◌+◌, ◌-◌, ◌/◌, ◌%◌, ◌^◌, Option, Some, None, List, [], ◌∷◌, Bool, true, false, cond, ltb, leb, length, ℤ, pos, negsuc}
 use Rattle.std.proofs.lemmas.List.Edits.{sets}
 use Rattle.std.specs.Int.Signed.{mag}
 use Rattle.leb128.specs.Bits.{integer}
-use Rattle.leb128.specs.declared.write.Wrote.{Wrote}
-use Rattle.leb128.specs.declared.write.Wrote.TheVariants.{To, Small}
 
 -- the lowest seven bits, and the integer without them
 abbrev pub low : ℤ → ℕ
@@ -34,8 +32,8 @@ unfoldable pub bytes_of : Bool → ℕ → ℕ → List ℕ
 bytes_of sign N v = shortest_of (limit_of sign) (integer sign N v)
 
 -- writing bs from a place of a buffer on, if there is room
-unfoldable pub wrote_at : List ℕ → ℕ → List ℕ → Wrote
-wrote_at bs at out = cond (leb (at + length bs) (length out)) (To (at + length bs)) Small
+unfoldable pub wrote_at : List ℕ → ℕ → List ℕ → Option ℕ
+wrote_at bs at out = cond (leb (at + length bs) (length out)) (Some (at + length bs)) None
 
 unfoldable pub put_at : List ℕ → ℕ → List ℕ → List ℕ
 put_at bs at out = cond (leb (at + length bs) (length out)) (sets out at bs) out

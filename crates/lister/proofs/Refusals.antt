@@ -5,6 +5,8 @@ use mathlib.Core.List.{List, [], ◌∷◌, ◌++◌, append_assoc}
 use native.Mathlib.Omega.{arith}
 use lib.ListN.{length, length-append}
 use lib.Seq.{sets}
+use Rattle.std.specs.Prelude.{Option, Some, None}
+use Rattle.std.proofs.lemmas.Option.{none-some}
 use Rattle.text.specs.Decimal.{decimal}
 use Rattle.text.specs.Words.{blank, newline, joined}
 use Rattle.text.specs.Append.{Appends}
@@ -33,31 +35,26 @@ line-told {c} {p} {out} {o₄ = o₄} {n₄ = n₄} h k room a b d e =
     let ends = appended all (omega arith) in
     (omega (arith, ends.0), omega (arith, ap length (parted c p)), subst (λ (x : List ℕ). Appends x out 0 n₄ o₄) (parted c p) all)
 
--- a line is never empty
-some : (c p : ℕ) → 1 ≤ length (told c p)
-unfolding told
-some c p = omega (arith, length-append (joined (decimal c ∷ decimal p ∷ [])) (newline ∷ []))
-
 pub is-broken : {s out out' : List ℕ} {c p n : ℕ} → Breach s c p → length (told c p) ≤ 42 → 42 ≤ length out → Appends (told c p) out 0 n out'
-    → PrintsRefusal s out n out'
+    → PrintsRefusal s out (Some n) out'
 is-broken {s} {out} {out'} {c} {p} {n} b short room a =
     let e = appended a (omega arith) in
     let long : length (told c p) ≡ n = omega (arith, e.0) in
-    subst (λ (x : List ℕ). PrintsRefusal s out n x) (sym e.1) (subst (λ (k : ℕ). PrintsRefusal s out k (sets out 0 (told c p))) long (broken b))
+    subst (λ (x : List ℕ). PrintsRefusal s out (Some n) x) (sym e.1) (subst (λ (k : ℕ). PrintsRefusal s out (Some k) (sets out 0 (told c p))) long (broken b))
 
 -- nothing is printed only of a strip that keeps every rule
-pub none-valid : {s out out' : List ℕ} {n : ℕ} → PrintsRefusal s out n out' → n ≡ 0 → Valid s
+pub none-valid : {s out out' : List ℕ} {r : Option ℕ} → PrintsRefusal s out r out' → r ≡ None → Valid s
 none-valid (kept v) e = v
-none-valid (broken {code} {place} b) e = absurd (let z : ⊥ = omega (arith, some code place) in z)
+none-valid (broken b) e = absurd (none-some _ (sym e))
 
-refuses-once : {s out o o' : List ℕ} {n m : ℕ} → PrintsRefusal s out n o → PrintsRefusal s out m o' → (n ≡ m) × (o ≡ o')
+refuses-once : {s out o o' : List ℕ} {r q : Option ℕ} → PrintsRefusal s out r o → PrintsRefusal s out q o' → (r ≡ q) × (o ≡ o')
 refuses-once (kept v) (kept w) = (refl, refl)
 refuses-once (kept v) (broken b) = absurd (valid-no-breach v b)
 refuses-once (broken b) (kept v) = absurd (valid-no-breach v b)
 refuses-once {out = out} (broken a) (broken b) =
     let same = one-breach a b in
-    (ap₂ (λ (c p : ℕ). length (told c p)) same.0 same.1, ap₂ (λ (c p : ℕ). sets out 0 (told c p)) same.0 same.1)
+    (ap₂ (λ (c p : ℕ). Some (length (told c p))) same.0 same.1, ap₂ (λ (c p : ℕ). sets out 0 (told c p)) same.0 same.1)
 
 -- of the function's own contract
-pub one-refusal : (κs : _) (a : _) (e e' : _) (r r' : ℕ) → refusal.Post κs a r e → refusal.Post κs a r' e' → (r ≡ r') × (e.1.0.now ≡ e'.1.0.now)
+pub one-refusal : (κs : _) (a : _) (e e' : _) (r r' : Option ℕ) → refusal.Post κs a r e → refusal.Post κs a r' e' → (r ≡ r') × (e.1.0.now ≡ e'.1.0.now)
 one-refusal κs a e e' r r' p q = refuses-once p.1 q.1

@@ -1,8 +1,10 @@
 // The listing of a strip that keeps every rule.
 ghost use Rattle.rules.specs.Strip.{Valid};
 
-// Whether it was written.
-pub(crate) fn print(strip: &[u8]) -> bool
+use std::io;
+
+// The place moves on by an instruction, which only `next_line` knows: no `for` counts it.
+pub(crate) fn print(rt: &impl Print, strip: &[u8]) -> io::Result<()>
     requires { Valid strip.now }
 {
     let mut kinds = [0u8; limits::STACK];
@@ -12,12 +14,9 @@ pub(crate) fn print(strip: &[u8]) -> bool
     let mut at = checker::start(strip);
     while at < strip.len() {
         let n = listing::next_line(strip, at, &mut kinds, &mut blocks, state, &mut text);
-        let len = n.len;
-        if !crate::wrote(&text[..len]) {
-            return false;
-        }
+        rt.write_all(&text[..n.len])?;
         state = n.state;
         at = n.at;
     }
-    true
+    Ok(())
 }

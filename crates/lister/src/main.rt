@@ -4,49 +4,31 @@
 mod lines;
 mod refusal;
 
-use input::Input;
+use anyhow::{Context, Result};
+use std::io;
 use std::process::ExitCode;
-
-// As POSIX numbers them.
-const STDOUT_FILENO: i32 = 1;
-
-const STDERR_FILENO: i32 = 2;
 
 // What fails is said on standard error, and is a status of 1.
 fn main(rt: HostRuntime) -> ExitCode {
-    let mut strip = [0u8; input::ENOUGH];
-    let got = input::read_all(&mut rt.stdin(), &mut strip);
-    let done = match got {
-        Input::Bytes(n) => print(&strip[..n]),
-        Input::Failed => failed(b"listing: cannot read standard input\n"),
-    };
-    if done {
-        ExitCode::SUCCESS
-    } else {
-        ExitCode::FAILURE
+    match listed(&rt) {
+        Ok(()) => ExitCode::SUCCESS,
+        Err(failure) => {
+            let _ = eprintln!(rt; "listing: {failure}");
+            ExitCode::FAILURE
+        }
     }
 }
 
-// Whether it was written.
-fn print(strip: &[u8]) -> bool {
-    let mut out = [0u8; refusal::LONGEST];
-    let n = refusal::refusal(strip, &mut out);
-    if n == 0 {
-        lines::print(strip)
-    } else {
-        wrote(&out[..n])
-    }
+fn listed(rt: &HostRuntime) -> Result<()> {
+    let mut strip = [0; input::ENOUGH];
+    let n = input::read_all(&mut rt.stdin(), &mut strip).context("cannot read standard input")?;
+    print(rt, &strip[..n]).context("cannot write standard output")
 }
 
-// Whether it was written.
-pub(crate) fn wrote(text: &[u8]) -> bool {
-    if io::write_all(STDOUT_FILENO, text) {
-        return true;
+fn print(rt: &impl Print, strip: &[u8]) -> io::Result<()> {
+    let mut out = [0; refusal::LONGEST];
+    match refusal::refusal(strip, &mut out) {
+        Some(len) => rt.write_all(&out[..len]),
+        None => lines::print(rt, strip),
     }
-    failed(b"listing: cannot write standard output\n")
-}
-
-fn failed(text: &[u8]) -> bool {
-    io::write_all(STDERR_FILENO, text);
-    false
 }

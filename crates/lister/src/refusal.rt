@@ -1,22 +1,22 @@
 // What is printed of a strip that is turned away: one line, with code and place.
-ghost use Rattle.std.specs.Prelude.{◌≤◌, length};
+ghost use Rattle.std.specs.Prelude.{◌≤◌, IfSome, length};
 ghost use Rattle.text.specs.Append.{Appends};
 ghost use Rattle.lister.specs.Refusal.{told, PrintsRefusal};
 
 // Two numbers of at most twenty digits and a byte after each.
 pub(crate) const LONGEST: usize = 42;
 
-// 0, and nothing written, of a strip that keeps every rule.
-pub(crate) fn refusal(strip: &[u8], out: &mut [u8]) -> usize
+// The line's length; none, and nothing written, of a strip that keeps every rule.
+pub(crate) fn refusal(strip: &[u8], out: &mut [u8]) -> Option<usize>
     requires { 42 ≤ length out.old }
-    ensures upper_bound { result ≤ 42 }
+    ensures upper_bound { IfSome result (λ len. len ≤ 42) }
     ensures prints_refusal { PrintsRefusal strip.now out.old result out.new }
 {
     let a = checker::check(strip);
     if a.code == card::DONE {
-        return 0;
+        return None;
     }
-    line(a.code, a.place, out)
+    Some(line(a.code, a.place, out))
 }
 
 fn line(code: u8, place: usize, out: &mut [u8]) -> usize

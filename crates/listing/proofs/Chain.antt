@@ -1,6 +1,6 @@
 -- The parts of a line, one after the other, are the line.
 use Prim.Native.Nat.{ℕ, ◌+◌, ◌*◌, ◌≤◌}
-use mathlib.Core.Path.{◌≡◌, sym, ap, subst, ◌∙◌}
+use mathlib.Core.Path.{◌≡◌, sym, ap, ◌∙◌}
 use mathlib.Core.List.{List, [], ◌∷◌, ◌++◌, map, append_assoc}
 use native.Mathlib.Omega.{arith}
 use lib.ListN.{length}
@@ -12,28 +12,19 @@ use Rattle.opcode.specs.Table.{latest, carried}
 use Rattle.opcode.specs.Number.{class_of, name_of}
 use Rattle.opcode.specs.Entry.{class_in}
 use Rattle.opcode.proofs.Entries.{class-in}
-use Rattle.mnemonic.proofs.Letters.{letters-at}
-use Rattle.mnemonic.proofs.Names.{name-of-id, name-short, name-letters}
+use Rattle.mnemonic.proofs.Names.{name-of-id}
 use Rattle.instr.specs.declared.Instr.{Instr}
 use Rattle.instr.specs.Layout.{row_in}
 use Rattle.checker.specs.Walk.{KindBytes}
 use Rattle.checker.proofs.Held.{held-long}
 use Rattle.listing.specs.Line.{bracketed, mnemonic, immediates, line}
 use Rattle.listing.specs.Walk.{longest}
-use Rattle.listing.specs.Inner.Parts.{led, Lettered, Adds, Shows}
+use Rattle.listing.specs.Inner.Parts.{led, Adds, Shows}
 use Rattle.listing.proofs.Parts.{adds_same, adds-most, one_byte, adds-both, adds-ends, joined-led}
 
 module _ {kinds : List ℕ} {depth id entry : ℕ} {i : Instr} {room : ℕ} (w : Shows kinds depth id entry i room) where
   pub name-is : name_of id ≡ mnemonic i
   name-is = ap name_of w.id_is ∙ name-of-id i.first i.number w.typed.first
-
-  pub lettered : Lettered (name_of id)
-  lettered =
-      subst Lettered (sym name-is)
-      (record {
-        few = name-short i.first i.number w.typed.first;
-        letters = λ k l. omega (arith, (letters-at (mnemonic i) (name-letters i.first i.number w.typed.first) k l).low);
-      })
 
   pub class-is : {class : ℕ} → class ≡ class_in entry → class ≡ class_of (row_in latest i)
   class-is e = e ∙ class-in (carried w.code) w.entry_is ∙ ap class_of (sym w.row)

@@ -44,7 +44,6 @@ follow-begins {s} v {at} kinds blocks text e begins k b room =
         };
         kinds_long = k;
         blocks_long = b;
-        well = refl;
       });
       kinds_long = k;
       blocks_long = b;

@@ -1,12 +1,10 @@
 -- The parts of a line, as loops write them.
 use Prim.Native.Nat.{ℕ, zero, suc, ◌+◌, ◌*◌, ◌≤◌, ◌<◌}
-use mathlib.Core.Path.{◌≡◌, refl, sym, ap, ap₂, subst, ◌∙◌}
-use mathlib.Core.Bool.{Bool, true, false, not, cond}
+use mathlib.Core.Path.{◌≡◌, refl, sym, ap, subst, ◌∙◌}
+use mathlib.Core.Bool.{Bool, true, false, cond}
 use mathlib.Core.List.{List, [], ◌∷◌, ◌++◌, map, map-append, append_assoc, append-nil}
-use native.Mathlib.Decide.{dec_lt}
 use native.Mathlib.Omega.{arith}
 use lib.Dec.{eqb}
-use borrow.Author.Tests.{eqb-true, eqb-false, not-true, not-false}
 use lib.IntN.{pos}
 use lib.ListN.{length, take, get_or, length-map, length-append}
 use lib.Seq.{take_at, take_all, length-take-le}
@@ -15,11 +13,9 @@ use Rattle.text.specs.Words.{blank, joined}
 use Rattle.text.specs.Append.{Appends}
 use Rattle.text.proofs.Appending.{appended, length-kept, none-appended, both-appended, take_more}
 use Rattle.opcode.specs.Kind.{Kind, i32, i64, v128, kind_byte, kind_name}
-use Rattle.mnemonic.specs.Padded.{padded}
-use Rattle.mnemonic.proofs.Padding.{padded-front, padded-inside, padded-outside}
 use Rattle.checker.specs.Walk.{KindBytes}
 use Rattle.listing.specs.Line.{bracketed}
-use Rattle.listing.specs.Inner.Parts.{led, kind_text, between, Lettered, Adds}
+use Rattle.listing.specs.Inner.Parts.{led, kind_text, between, Adds}
 
 -- ---- texts of at most so many bytes, one after the other
 
@@ -199,31 +195,3 @@ module _ {bs out₀ out : List ℕ} {at to k : ℕ} (m : Telling bs out₀ at to
   telling-ends h sixteen =
       let last : take k bs ≡ bs = take_all k bs (omega arith) in
       adds-most (omega (arith, m.most)) (adds_same (ap (λ (x : List ℕ). led (map spelled (map pos x))) last) m.made)
-
--- ---- the loop over the letters of a name
-
-module _ {name row : List ℕ} (w : Lettered name) (is : row ≡ padded name) where
-  module _ {k : ℕ} (l : k < 32) where
-    there : get_or row k 0 ≡ get_or (padded name) k 0
-    there = ap (λ (r : List ℕ). get_or r k 0) is
-
-    pub name-goes : not (eqb (get_or row k 0) blank) ≡ true → k < length name
-    name-goes t =
-        elim (dec_lt k (length name)) [
-          | yes h ↦ h
-          | no h ↦ absurd (eqb-false (get_or row k 0) blank (not-true (eqb (get_or row k 0) blank) t) (there ∙ padded-outside name k l (omega arith)))
-        ]
-
-    pub name-stops : not (eqb (get_or row k 0) blank) ≡ false → length name ≤ k
-    name-stops t =
-        let e = eqb-true (get_or row k 0) blank (not-false (eqb (get_or row k 0) blank) t) in
-        elim (dec_lt k (length name)) [
-          | yes h ↦ absurd (let no : ⊥ = omega (arith, w.letters k h, padded-inside name k l h, there) in no)
-          | no h ↦ omega arith
-        ]
-
-  pub name-adds : {out out' : List ℕ} {at k n : ℕ} → k ≤ length name → length name ≤ k → Appends (take k row) out at n out' → Adds 32 name out at n out'
-  name-adds {out} {out'} {at} {k} {n} l h q =
-      let whole : k ≡ length name = omega arith in
-      let front : take k row ≡ name = ap₂ (λ (i : ℕ) (r : List ℕ). take i r) whole is ∙ padded-front name w.few in
-      record { short = w.few; appends = subst (λ (x : List ℕ). Appends x out at n out') front q }

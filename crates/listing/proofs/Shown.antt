@@ -108,7 +108,7 @@ module _ (v : ℕ) {z : ℤ} where
     back : to_z w32 (of_z w32 z) ≡ to_z w32 v
     back = ap (λ (x : ℤ). to_z w32 (of_z w32 x)) e ∙ ap (to_z w32) (of_z-to_z h)
 
-    pub word-casts : SFits w64 (to_z w32 (of_z w32 z))
+    word-casts : SFits w64 (to_z w32 (of_z w32 z))
     word-casts = subst (SFits w64) (sym back) (sfits_widen tt (sfits_to_z h))
 
     pub word-told : {out out' out'' : List ℕ} {at m n : ℕ} → Appends (blank ∷ []) out at m out'

@@ -16,28 +16,22 @@ pub(crate) fn immediates(class: u8, i: Instr, out: &mut [u8], at: usize) -> usiz
     ensures { Adds 336 (led (map spelled (Line·immediates i))) out.old at result out.new }
 {
     match class {
-        opcode::CLASS_INDEX => number(i.index as u64, out, at),
+        opcode::CLASS_INDEX => number(u64::from(i.index), out, at),
         opcode::CLASS_WORD => word(i.word, out, at),
         opcode::CLASS_LONG => long(i.long, out, at),
         opcode::CLASS_MEMORY => {
-            let p = number(i.align as u64, out, at);
-            number(i.offset as u64, out, p)
+            let p = number(u64::from(i.align), out, at);
+            number(u64::from(i.offset), out, p)
         }
         opcode::CLASS_MEMORY_LANE => {
-            let p = number(i.align as u64, out, at);
-            let q = number(i.offset as u64, out, p);
-            number(i.lane as u64, out, q)
+            let p = number(u64::from(i.align), out, at);
+            let q = number(u64::from(i.offset), out, p);
+            number(u64::from(i.lane), out, q)
         }
-        opcode::CLASS_LANE => number(i.lane as u64, out, at),
-        opcode::CLASS_BYTES => {
-            let b = i.bytes;
-            bytes(b, out, at)
-        }
-        opcode::CLASS_LANES => {
-            let b = i.bytes;
-            bytes(b, out, at)
-        }
-        opcode::CLASS_BLOCK_TYPE => number(i.block as u64, out, at),
+        opcode::CLASS_LANE => number(u64::from(i.lane), out, at),
+        opcode::CLASS_BYTES => bytes(i.bytes, out, at),
+        opcode::CLASS_LANES => bytes(i.bytes, out, at),
+        opcode::CLASS_BLOCK_TYPE => number(u64::from(i.block), out, at),
         _ => at,
     }
 }
@@ -56,8 +50,7 @@ fn word(v: u32, out: &mut [u8], at: usize) -> usize
     ensures { Adds 21 (blank ∷ spelled (integer true 32 v)) out.old at result out.new }
 {
     let to = text::push(b' ', out, at);
-    let z = scalar::sign::signed32(v);
-    text::signed(z as i64, out, to)
+    text::signed(i64::from(v.cast_signed()), out, to)
 }
 
 // Those of an s64.
@@ -66,7 +59,7 @@ fn long(v: u64, out: &mut [u8], at: usize) -> usize
     ensures { Adds 21 (blank ∷ spelled (integer true 64 v)) out.old at result out.new }
 {
     let to = text::push(b' ', out, at);
-    text::signed(scalar::sign::signed64(v), out, to)
+    text::signed(v.cast_signed(), out, to)
 }
 
 fn bytes(b: [u8; 16], out: &mut [u8], at: usize) -> usize
@@ -74,10 +67,8 @@ fn bytes(b: [u8; 16], out: &mut [u8], at: usize) -> usize
     ensures { Adds 336 (led (map spelled (map pos b))) out.old at result out.new }
 {
     let mut to = at;
-    let mut k: usize = 0;
-    while k < 16 {
-        to = number(b[k] as u64, out, to);
-        k += 1;
+    for x in &b {
+        to = number(u64::from(*x), out, to);
     }
     to
 }

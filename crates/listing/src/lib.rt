@@ -48,8 +48,7 @@ fn whole(strip: &[u8], out: &mut [u8]) -> Listed
     requires { Valid strip.now }
     ensures { Lists strip.now out.old result out.new }
 {
-    let mut none = [0u8; 0];
-    let len = pass(strip, &mut none);
+    let len = pass(strip, &mut []);
     if out.len() < len {
         return refused(card::SMALL, 0);
     }
@@ -72,6 +71,7 @@ fn refused(code: u8, place: usize) -> Listed
 }
 
 // All lines, one after the other, and their length. They are written where there is room for all of them; lent no room, they are only counted.
+// The loop stays a `while`: `at` leaps by each instruction's length, and is no index over a collection.
 fn pass(strip: &[u8], out: &mut [u8]) -> usize
     requires { Valid strip.now }
     ensures { Passed strip.now out.old result out.new }

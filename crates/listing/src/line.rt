@@ -1,5 +1,5 @@
 // One line: place, kinds, mnemonic and immediates.
-ghost use Rattle.std.specs.Prelude.{◌+◌, ◌≤◌, List, [], ◌∷◌, ◌++◌, length};
+ghost use Rattle.std.specs.Prelude.{◌≤◌, List, [], ◌∷◌, ◌++◌, length};
 ghost use Rattle.text.specs.Decimal.{decimal};
 ghost use Rattle.text.specs.Words.{blank};
 ghost use Rattle.opcode.specs.Kind.{Kind};
@@ -7,7 +7,7 @@ ghost use Rattle.opcode.specs.Number.{name_of};
 ghost use Rattle.checker.specs.Walk.{KindBytes};
 ghost use Rattle.listing.specs.Line.{line as Line·line};
 ghost use Rattle.listing.specs.Walk.{longest};
-ghost use Rattle.listing.specs.Inner.Parts.{Lettered, Adds, Shows};
+ghost use Rattle.listing.specs.Inner.Parts.{Adds, Shows};
 
 use crate::immediates::immediates;
 use crate::stack::stack;
@@ -42,15 +42,8 @@ fn place(at: usize, out: &mut [u8]) -> usize
     text::push(b' ', out, to)
 }
 
-// The letters before the first blank.
 fn name(id: u32, out: &mut [u8], at: usize) -> usize
-    requires { Lettered (name_of id) × (at + 32 ≤ length out.old) }
     ensures { Adds 32 (name_of id) out.old at result out.new }
 {
-    let letters = mnemonic::name(id);
-    let mut k: usize = 0;
-    while k < 32 && letters[k] != b' ' {
-        k += 1;
-    }
-    text::put(&letters[..k], out, at)
+    text::put(mnemonic::name(id).as_bytes(), out, at)
 }

@@ -12,10 +12,8 @@ pub(crate) fn stack(kinds: &[u8], depth: usize, out: &mut [u8], at: usize) -> us
     ensures { (κs : List Kind) → KindBytes kinds.now depth κs → Adds (5 * depth + 2) (bracketed κs) out.old at result out.new }
 {
     let mut to = text::push(b'[', out, at);
-    let mut k: usize = 0;
-    while k < depth {
-        to = next(k, kinds[k], out, to);
-        k += 1;
+    for (k, b) in kinds[..depth].iter().enumerate() {
+        to = next(k, *b, out, to);
     }
     text::push(b']', out, to)
 }
@@ -36,11 +34,9 @@ fn kind(b: u8, out: &mut [u8], at: usize) -> usize
     requires { at + 4 ≤ length out.old }
     ensures { Adds 4 (kind_text b) out.old at result out.new }
 {
-    if b == kinds_of::I32 {
-        return text::put(b"i32", out, at);
+    match b {
+        kinds_of::I32 => text::put(b"i32", out, at),
+        kinds_of::I64 => text::put(b"i64", out, at),
+        _ => text::put(b"v128", out, at),
     }
-    if b == kinds_of::I64 {
-        return text::put(b"i64", out, at);
-    }
-    text::put(b"v128", out, at)
 }

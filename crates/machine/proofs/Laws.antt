@@ -7,3 +7,4 @@ pub mod Ranges
 pub mod Update
 pub mod Numbers
 pub mod LowHalf
+pub mod Taken

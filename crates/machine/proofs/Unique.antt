@@ -9,20 +9,21 @@ use Rattle.opcode.specs.Number.{row_of}
 use Rattle.instr.specs.declared.Instr.{Instr}
 use Rattle.machine.specs.Inner.Fit.{DidBy, bounds_of}
 use Rattle.machine.specs.Answer.{Reach, told_bounds}
-use Rattle.machine.specs.declared.access.Bounds.{Bounds}
-use Rattle.machine.specs.declared.access.Bounds.TheVariants.{Clear, Past}
+use Rattle.std.specs.Prelude.{Ok, Err}
+use Rattle.std.specs.declared.result.Result.{Result}
+use Rattle.machine.specs.declared.access.PastEnd.{PastEnd}
 use Rattle.machine.proofs.slot.top_word.Reads as top-word
 use Rattle.machine.proofs.slot.carry.Reads as carry
 
 -- the card's numbers tell the answers apart
-told-once : (r r' : Bounds) → told_bounds r ≡ told_bounds r' → r ≡ r'
-told-once Clear Clear e = refl
-told-once Clear (Past a) e = absurd (let z : DONE ≡ TRAP = ap (λ (x : Reach). x.code) e in omega (arith, z))
-told-once (Past a) Clear e = absurd (let z : TRAP ≡ DONE = ap (λ (x : Reach). x.code) e in omega (arith, z))
-told-once (Past a) (Past b) e = ap Past (ap (λ (x : Reach). x.address) e)
+told-once : (r r' : Result (Unit {0}) PastEnd) → told_bounds r ≡ told_bounds r' → r ≡ r'
+told-once (Ok x) (Ok y) e = refl
+told-once (Ok x) (Err a) e = absurd (let z : DONE ≡ TRAP = ap (λ (x : Reach). x.code) e in omega (arith, z))
+told-once (Err a) (Ok x) e = absurd (let z : TRAP ≡ DONE = ap (λ (x : Reach). x.code) e in omega (arith, z))
+told-once (Err a) (Err b) e = ap (λ (n : ℕ). Err (record { address = n })) (ap (λ (x : Reach). x.address) e)
 
 module _ (id : ℕ) (i : Instr) (st : List ℕ) (d : ℕ) (c : Code) (row : row_of id ≡ carried c) where
-  pub one-bounds : (len : ℕ) (r r' : Bounds) → ((c : Code) → row_of id ≡ carried c → told_bounds r ≡ bounds_of c i st d len)
+  pub one-bounds : (len : ℕ) (r r' : Result (Unit {0}) PastEnd) → ((c : Code) → row_of id ≡ carried c → told_bounds r ≡ bounds_of c i st d len)
       → ((c : Code) → row_of id ≡ carried c → told_bounds r' ≡ bounds_of c i st d len) → r ≡ r'
   one-bounds len r r' p q = told-once r r' (p c row ∙ sym (q c row))
 

@@ -3,24 +3,21 @@ ghost use Rattle.std.specs.Prelude.{◌≡◌, ◌<◌, ◌≤◌, ◌^◌};
 ghost use Rattle.machine.specs.Answer.{told_bounds};
 ghost use Rattle.machine.specs.Inner.Fit.{bounds_at};
 
-// An access is within the memory, or this is its first address at or past the memory's end.
+// An access that is not within the memory: its first address at or past the memory's end.
 #[derive(Clone, Copy)]
-pub enum Bounds {
-    Clear,
-    Past(u64),
+pub struct PastEnd {
+    pub address: u64,
 }
 
 // Address and offset are added without wrapping.
-pub(crate) fn bounds_at(at: usize, n: usize, len: usize) -> Bounds
+pub(crate) fn bounds_at(at: usize, n: usize, len: usize) -> Result<(), PastEnd>
     requires { (at < 2 ^ 33) × (n ≤ 16) }
     ensures { told_bounds result ≡ bounds_at at n len }
 {
     if at + n <= len {
-        return Bounds::Clear;
+        return Ok(());
     }
-    if at < len {
-        Bounds::Past(len as u64)
-    } else {
-        Bounds::Past(at as u64)
-    }
+    Err(PastEnd {
+        address: at.max(len) as u64,
+    })
 }

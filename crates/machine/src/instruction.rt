@@ -6,13 +6,20 @@ ghost use Rattle.opcode.specs.Entry.{entry_of};
 ghost use Rattle.machine.specs.Answer.{told_bounds};
 ghost use Rattle.machine.specs.Inner.Fit.{Fits, Ready, DidBy, bounds_of};
 
-use crate::access::Bounds;
+use crate::access::PastEnd;
 use crate::{access, slot, step};
 use instr::Instr;
 use lane::V128;
 
 // The address is the value on top, or the one under it.
-pub fn bounds(id: u32, entry: u64, i: Instr, stack: &[u8], depth: usize, len: usize) -> Bounds
+pub fn bounds(
+    id: u32,
+    entry: u64,
+    i: Instr,
+    stack: &[u8],
+    depth: usize,
+    len: usize,
+) -> Result<(), PastEnd>
     requires { (entry ≡ entry_of (row_of id)) × Fits id stack.now depth }
     ensures { (c : Code) → row_of id ≡ carried c → told_bounds result ≡ bounds_of c i stack.now depth len }
 {
@@ -37,7 +44,7 @@ pub fn bounds(id: u32, entry: u64, i: Instr, stack: &[u8], depth: usize, len: us
             opcode::moved(entry) as usize,
             len,
         ),
-        _ => Bounds::Clear,
+        _ => Ok(()),
     }
 }
 

@@ -8,6 +8,6 @@ mod span;
 mod step;
 mod vector;
 
-pub use access::Bounds;
+pub use access::PastEnd;
 pub use instruction::{bounds, exec};
 pub use slot::{carry, top_word};

@@ -5,7 +5,8 @@ ghost use Rattle.operation.specs.Vector.{le};
 ghost use Rattle.machine.specs.Inner.Flat.{HasOperands, slot_at, put_slot, top_of, low32, low64};
 
 use crate::span;
-use lane::{V128, i32x4, i64x2};
+use crate::vector::ZEROS;
+use lane::{I32x4, I64x2, Integer, Unpacked, V128};
 
 pub(crate) fn get(s: &[u8], n: usize) -> V128
     requires { (n < stack_limit) × (16 * n + 16 ≤ length s.now) }
@@ -32,20 +33,20 @@ pub(crate) fn top(stack: &[u8], depth: usize, j: usize) -> V128
 pub(crate) fn word(v: V128) -> u32
     ensures { result ≡ low32 v.bytes }
 {
-    (i32x4::extract_lane(v, 0).value % 4294967296) as u32
+    (I32x4::extract_lane(v, 0).unwrap_or(0) % 4294967296) as u32
 }
 
 pub(crate) fn long(v: V128) -> u64
     ensures { result ≡ low64 v.bytes }
 {
-    i64x2::extract_lane(v, 0).value
+    I64x2::extract_lane(v, 0).unwrap_or(0)
 }
 
 // A number's bytes, with zeros after them.
 pub(crate) fn of_number(x: u64) -> V128
     ensures { result.bytes ≡ le 16 x }
 {
-    i64x2::replace_lane(V128 { bytes: [0u8; 16] }, 0, x).value
+    I64x2::replace_lane(ZEROS, 0, x).unwrap_or(ZEROS)
 }
 
 // The number on top: what a branch asks.

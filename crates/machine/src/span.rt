@@ -10,10 +10,8 @@ pub(crate) fn read(s: &[u8], at: usize, n: usize) -> V128
     ensures { result.bytes ≡ padded (part n at s.now) }
 {
     let mut b = [0u8; 16];
-    let mut k = 0;
-    while k < n {
+    for k in 0..n {
         b[k] = s[at + k];
-        k += 1;
     }
     V128 { bytes: b }
 }
@@ -24,9 +22,7 @@ pub(crate) fn write(s: &mut [u8], at: usize, v: V128, n: usize)
     ensures { s.new ≡ stored s.old at (take n v.bytes) }
 {
     let b = v.bytes;
-    let mut k = 0;
-    while k < n {
+    for k in 0..n {
         s[at + k] = b[k];
-        k += 1;
     }
 }

@@ -4,3 +4,7 @@ pub(crate) mod memory;
 mod operands;
 pub(crate) mod single;
 pub(crate) mod unary;
+
+use lane::V128;
+
+pub(crate) const ZEROS: V128 = V128 { bytes: [0u8; 16] };

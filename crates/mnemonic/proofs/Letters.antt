@@ -1,18 +1,12 @@
 -- The bytes of names: none is a blank, an end of line or a bracket, so that a name ends where it does.
-use Prim.Native.Nat.{ℕ, zero, suc, ◌≤◌, ◌<◌}
+use Prim.Native.Nat.{ℕ, ◌≤◌}
 use mathlib.Core.Bool.{Bool, true, ◌&&◌, ◌||◌}
 use mathlib.Core.List.{List, [], ◌∷◌}
 use mathlib.Core.Logic.{⊎_elim}
 use native.Mathlib.Omega.{arith}
 use lib.Dec.{T, leb, leb→le}
-use lib.ListN.{length, get_or}
 use mir.Facts.{and_yes, or_yes}
 use Rattle.mnemonic.specs.Letters.{Letter, Letters}
-
-pub letters-at : (n : List ℕ) → Letters n → (k : ℕ) → k < length n → Letter (get_or n k 0)
-letters-at [] t k l = let none : ⊥ = omega arith in absurd none
-letters-at (b ∷ bs) t zero l = t.0
-letters-at (b ∷ bs) t (suc k) l = letters-at bs t.1 k (omega arith)
 
 -- ---- by a test
 

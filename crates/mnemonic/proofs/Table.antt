@@ -1,46 +1,42 @@
--- The code's blocks: rows of 32 bytes, each a name and blanks.
-use Prim.Native.Nat.{ℕ, zero, suc, ◌+◌, ◌*◌, ◌/◌, ◌%◌, ◌<◌}
-use Prim.Native.String.{String}
-use mathlib.Core.Path.{◌≡◌, ap, ◌∙◌}
-use mathlib.Core.List.{List, [], ◌∷◌, ◌++◌, map}
+-- The names in code are the table's.
+use Prim.Native.Nat.{ℕ, ◌-◌, ◌≤◌, ◌<◌}
+use mathlib.Core.Path.{◌≡◌, refl, sym, ap, ◌∙◌}
+use mathlib.Core.Bool.{cond}
+use mathlib.Core.List.{List, [], map}
 use native.Mathlib.Omega.{arith}
-use lib.ListN.{length, get_or, take, drop}
-use lib.Seq.{take_at, drop-append-add}
+use lib.Dec.{ltb}
+use lib.ListN.{get_or, get_or-map}
+use Rattle.std.specs.Borrow.{Bor}
+use Rattle.std.specs.Prelude.{slice_index_or}
+use Rattle.std.specs.List.{range_with_len}
+use Rattle.std.proofs.lemmas.List.FromFn.{get_or-map-range_with_len}
 use Rattle.opcode.specs.Ascii.{ascii}
+use Rattle.opcode.specs.Table.{name, lines, unassigned, ◌is◌, vector_name, plain_lines, look_up_name, plain_name}
 use Rattle.opcode.specs.Number.{name_of}
-use Rattle.opcode.specs.Lists.{up_from}
-use Rattle.mnemonic.specs.Padded.{padded}
-use Rattle.mnemonic.specs.Inner.Block.{texts, joined, block, row}
-use Rattle.mnemonic.specs.Inner.Row.{row_of_name}
-use Rattle.mnemonic.proofs.Texts.{row_name, name-in-row}
-use Rattle.mnemonic.proofs.Padding.{length-padded}
+use Rattle.mnemonic.specs.declared.vector.TheConstants.{NAMES}
 
--- ---- a row of a block
+-- ---- those of a first byte
 
-joined-row : (ts : List String) (r : ℕ) → r < length ts → take 32 (drop (r * 32) (joined ts)) ≡ padded (ascii (get_or ts r ""))
-joined-row [] r h = let none : ⊥ = omega arith in absurd none
-joined-row (t ∷ ts) zero h = take_at (padded (ascii t)) (joined ts) 32 (length-padded (ascii t))
-joined-row (t ∷ ts) (suc r) h =
-    let past : suc r * 32 ≡ length (padded (ascii t)) + r * 32 = omega (arith, length-padded (ascii t)) in
-    ap (λ (j : ℕ). take 32 (drop j (padded (ascii t) ++ joined ts))) past ∙ ap (take 32) (drop-append-add (padded (ascii t)) (joined ts) (r * 32))
-    ∙ joined-row ts r (omega arith)
+abbrev text : ℕ → List ℕ
+text id = ascii (cond (ltb id 256) (look_up_name id plain_lines) (name (get_or lines (id - 256) ("" is unassigned))))
 
-nth : (f : ℕ → String) (a m n : ℕ) → n < m → get_or (map f (up_from a m)) n "" ≡ f (a + n)
-nth f a zero n l = let none : ⊥ = omega arith in absurd none
-nth f a (suc m) zero l = ap f (omega arith)
-nth f a (suc m) (suc n) l = nth f (suc a) m n (omega arith) ∙ ap f (omega arith)
+-- antt computes the text
+pub named : {id k : ℕ} → id ≡ k → text k ≡ name_of id
+unfolding name_of plain_name vector_name
+named e = ap text (sym e)
 
-abbrev from : ℕ → ℕ → String
-from b n = get_or texts (16 * b + n) ""
+-- ---- those after the prefix
 
-in_row : (b n : ℕ) → n < 16 → row n (block b) ≡ padded (row_name (16 * b + n))
-unfolding row
-in_row b n l =
-    let same : from b (0 + n) ≡ from b n = ap (from b) (omega arith) in
-    joined-row (map (from b) (up_from 0 16)) n l ∙ ap (λ (t : String). padded (ascii t)) (nth (from b) 0 16 n l ∙ same)
+abbrev texts : List (List ℕ)
+texts = map (λ n. n.now) NAMES
 
--- what the code reads
-pub read : (id : ℕ) {r : ℕ} → r ≡ row_of_name id → row (r % 16) (block (r / 16)) ≡ padded (name_of id)
-read id {r} is =
-    let whole : 16 * (r / 16) + r % 16 ≡ r = omega arith in
-    in_row (r / 16) (r % 16) (omega arith) ∙ ap padded (ap row_name (whole ∙ is) ∙ name-in-row id)
+all-texts : texts ≡ map name_of (range_with_len 256 256)
+unfolding name_of vector_name
+all-texts = refl
+
+pub entry : (names : List (Bor (List ℕ))) (id : ℕ) → map (λ n. n.now) names ≡ texts → 256 ≤ id → id < 512
+    → (slice_index_or names (id - 256) record { ref_ptr = (0, 0); now = [] }).now ≡ name_of id
+entry names id e h l =
+    sym (get_or-map (λ (n : Bor (List ℕ)). n.now) names (id - 256) record { ref_ptr = (0, 0); now = [] })
+    ∙ ap (λ (ts : List (List ℕ)). slice_index_or ts (id - 256) []) (e ∙ all-texts)
+    ∙ get_or-map-range_with_len name_of 256 256 (id - 256) id [] (omega arith) (omega arith)

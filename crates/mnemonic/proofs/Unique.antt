@@ -3,7 +3,9 @@
 use Prim.Native.Nat.{ℕ}
 use mathlib.Core.Path.{◌≡◌, sym, ◌∙◌}
 use mathlib.Core.List.{List}
+use contract.Lifetimes.{Lfts}
+use Rattle.std.specs.Borrow.{Bor}
 use Rattle.mnemonic.proofs.name.Reads as name
 
-pub one_name : (id : ℕ) {r r' : List ℕ} → name.Post tt (id, tt) r (id, tt) → name.Post tt (id, tt) r' (id, tt) → r ≡ r'
-one_name id p q = p ∙ sym q
+pub one_name : (id : ℕ) (κs : Lfts 1) (r r' : Bor (List ℕ)) → name.Post κs (id, tt) r (id, tt) → name.Post κs (id, tt) r' (id, tt) → r.now ≡ r'.now
+one_name id κs r r' p q = p ∙ sym q

@@ -1,3 +1,1 @@
-pub mod Padded
 pub mod Letters
-pub mod Inner

@@ -1,55 +1,42 @@
 // The instructions' names.
 #![tactic(auto)]
 
-mod rows;
+mod vector;
 
 ghost use Rattle.std.specs.Prelude.{◌≡◌};
 ghost use Rattle.opcode.specs.Number.{name_of};
-ghost use Rattle.mnemonic.specs.Padded.{padded};
-ghost use Rattle.mnemonic.specs.Inner.Row.{row_of_name};
 
-// The rows of a block.
-const ROWS: u32 = 16;
-
-// A row without a name.
-const NAMELESS: u32 = 271;
-
-// The row that has the name of the instruction with this id.
-fn row(id: u32) -> u32
-    ensures { result ≡ row_of_name id }
+// The name of the instruction with this id; "" where there is none.
+pub fn name(id: u32) -> &'static str
+    ensures { result.now ≡ name_of id }
 {
     match id {
-        0x02 => 256,
-        0x03 => 257,
-        0x0B => 258,
-        0x0C => 259,
-        0x0D => 260,
-        0x1A => 261,
-        0x20 => 262,
-        0x21 => 263,
-        0x22 => 264,
-        0x41 => 265,
-        0x42 => 266,
-        0x45 => 267,
-        0x49 => 268,
-        0x6A => 269,
-        0x6B => 270,
-        _ => if id < 256 {
-            NAMELESS
-        } else if id < 512 {
-            id - 256
-        } else {
-            NAMELESS
-        },
+        0..256 => plain(id as u8),
+        256..512 => vector::NAMES[id as usize - 256],
+        _ => "",
     }
 }
 
-// The name of the instruction with this id, and blanks after it; all blanks where there is none.
-pub fn name(id: u32) -> [u8; 32]
-    ensures { result ≡ padded (name_of id) }
+// The name of the instruction that is this first byte alone (Core 6.5).
+fn plain(first: u8) -> &'static str
+    ensures { result.now ≡ name_of first }
 {
-    let r = row(id);
-    let mut out = [b' '; 32];
-    rows::in_block(r / ROWS, (r % ROWS) as usize, &mut out);
-    out
+    match first {
+        0x02 => "block",
+        0x03 => "loop",
+        0x0B => "end",
+        0x0C => "br",
+        0x0D => "br_if",
+        0x1A => "drop",
+        0x20 => "local.get",
+        0x21 => "local.set",
+        0x22 => "local.tee",
+        0x41 => "i32.const",
+        0x42 => "i64.const",
+        0x45 => "i32.eqz",
+        0x49 => "i32.lt_u",
+        0x6A => "i32.add",
+        0x6B => "i32.sub",
+        _ => "",
+    }
 }

@@ -1,61 +1,39 @@
 // How many cases there were of each sort, and how many of them differed.
-use hexadecimal::STDOUT_FILENO;
+use std::fmt;
+use std::ops::Add;
 
-#[derive(Clone, Copy)]
-pub(crate) enum Sort {
-    Call,
-    Trap,
-    Refusal,
-}
-
-#[derive(Clone, Copy)]
+#[derive(Clone, Copy, Default)]
 pub(crate) struct Count {
-    calls: u64,
-    traps: u64,
-    refusals: u64,
-    differ: u64,
+    pub(crate) calls: u64,
+    pub(crate) traps: u64,
+    pub(crate) refusals: u64,
+    pub(crate) differ: u64,
 }
 
-pub(crate) fn none() -> Count {
-    Count {
-        calls: 0,
-        traps: 0,
-        refusals: 0,
-        differ: 0,
+impl Add for Count {
+    type Output = Count;
+
+    fn add(self, more: Count) -> Count {
+        Count {
+            calls: self.calls.wrapping_add(more.calls),
+            traps: self.traps.wrapping_add(more.traps),
+            refusals: self.refusals.wrapping_add(more.refusals),
+            differ: self.differ.wrapping_add(more.differ),
+        }
     }
 }
 
-pub(crate) fn one(sort: Sort, held: bool) -> Count {
-    let mut n = none();
-    match sort {
-        Sort::Call => n.calls = 1,
-        Sort::Trap => n.traps = 1,
-        Sort::Refusal => n.refusals = 1,
+impl fmt::Display for Count {
+    fn fmt<W: fmt::Write>(&self, f: &mut fmt::Formatter<W>) -> fmt::Result {
+        let Count {
+            calls,
+            traps,
+            refusals,
+            differ,
+        } = self;
+        write!(
+            f,
+            "{calls} calls, {traps} traps, {refusals} refusals, {differ} differ"
+        )
     }
-    if !held {
-        n.differ = 1;
-    }
-    n
-}
-
-pub(crate) fn both(a: Count, b: Count) -> Count {
-    Count {
-        calls: std::num::wrapping_add_u64(a.calls, b.calls),
-        traps: std::num::wrapping_add_u64(a.traps, b.traps),
-        refusals: std::num::wrapping_add_u64(a.refusals, b.refusals),
-        differ: std::num::wrapping_add_u64(a.differ, b.differ),
-    }
-}
-
-pub(crate) fn print(n: Count) {
-    number(n.calls, b" calls,");
-    number(n.traps, b" traps,");
-    number(n.refusals, b" refusals,");
-    number(n.differ, b" differ\n");
-}
-
-fn number(n: u64, what: &[u8]) {
-    io::write_all(STDOUT_FILENO, b" ");
-    io::print_decimal(STDOUT_FILENO, n);
-    io::write_all(STDOUT_FILENO, what);
 }

@@ -1,193 +1,72 @@
 // A budget that is cut into slices: a run, and resumes after it with what the call before left.
-ghost use Rattle.std.specs.Prelude.{◌<◌};
-
-use crate::{BUFFER, digest, in_32_bits, left};
-use cases::{
-    bytes_in, decimal, end_line, field, fill, find, length_in, memory_room, name, number_in,
-    strip_room,
-};
+use crate::digest::Digest;
+use crate::lent::Lent;
+use crate::picture::Picture;
+use anyhow::Result;
+use cases::{Case, Fields, UNTOUCHED};
 use strip::Answer;
 
-// Strips that are cut in every way are short.
-const SHORT: usize = 512;
-
 // cut NAME STRIP ARGUMENTS MEMORY RESULTS IMAGE BUDGET BUDGET ..
-pub(crate) fn cut(line: &[u8]) {
-    let mut strip = strip_room();
-    let n = bytes_in(line, 2, &mut strip);
-    let mut args = [0u8; SHORT];
-    let p = bytes_in(line, 3, &mut args);
-    let mut mem = memory_room();
-    let m = length_in(line, 4, &mem);
-    let mut results = [0xEEu8; 128];
-    let r = length_in(line, 5, &results);
-    let mut image = [0xEEu8; BUFFER];
-    let i = length_in(line, 6, &image);
-    cut_in(
-        line,
-        &strip[..n],
-        &args[..p],
-        &mut mem[..m],
-        &mut results[..r],
-        &mut image[..i],
-    );
-}
-
-fn cut_in(
-    line: &[u8],
-    strip: &[u8],
-    args: &[u8],
-    mem: &mut [u8],
-    results: &mut [u8],
-    image: &mut [u8],
-) {
-    fill(mem);
-    let budget = in_32_bits(number_in(line, 7));
-    let a = strip::run(strip, args, mem, results, image, budget);
-    print(line, budget, a, mem, results, image);
-    more(line, strip, mem, results, image);
-}
-
-fn more(line: &[u8], strip: &[u8], mem: &mut [u8], results: &mut [u8], image: &mut [u8]) {
-    let mut at = field(line, 8);
-    while at < line.len() {
-        slice(line, number_in(&line[at..], 0), strip, mem, results, image);
-        at = find(line, at, b' ') + 1;
+pub(crate) fn cut(case: &Case, mut line: Fields) -> Result<()> {
+    let args = line.bytes(case.rt.alloc())?;
+    let mut lent = begun(case, line.number(), line.number(), line.number())?;
+    let first = line.number();
+    let answer = lent.run(&args, first);
+    print(case, first, answer, &lent)?;
+    for word in line.rest().split_whitespace() {
+        let budget = word.parse::<u32>()?;
+        let answer = lent.resume(budget);
+        print(case, budget, answer, &lent)?;
     }
+    Ok(())
 }
 
-fn slice(
-    line: &[u8],
-    steps: usize,
-    strip: &[u8],
-    mem: &mut [u8],
-    results: &mut [u8],
-    image: &mut [u8],
-) {
-    let budget = in_32_bits(steps);
-    let a = strip::resume(strip, mem, results, image, budget);
-    print(line, budget, a, mem, results, image);
+fn begun<'a>(
+    case: &'a Case,
+    memory_len: u32,
+    results_len: u32,
+    image_len: u32,
+) -> Result<Lent<'a>> {
+    let alloc = case.rt.alloc();
+    let image = vec![in alloc; UNTOUCHED; image_len as usize]?;
+    Ok(Lent::of(alloc, &case.strip, memory_len, results_len, image)?)
 }
 
-fn print(line: &[u8], budget: u32, a: Answer, mem: &[u8], results: &[u8], image: &[u8]) {
-    name(line);
-    decimal(budget as u64);
-    left::print(a, mem, results);
-    left::print_image(image);
-    end_line();
+fn print(case: &Case, budget: u32, answer: Answer, lent: &Lent) -> Result<()> {
+    let name = case.name;
+    let picture = Picture(lent.image());
+    println!(case.rt; "{name} {budget} {}{picture}", lent.left(answer))?;
+    Ok(())
 }
 
-// slices NAME STRIP ARGUMENTS MEMORY RESULTS LAST: each way to cut the last budget in three. A line for each first slice: what it leaves, and at its
-// end one number for all that the second and the third leave. They are called also where the one before was not out of budget.
-pub(crate) fn slices(line: &[u8]) {
-    let last = number_in(line, 6);
-    let mut a = 0;
-    while a <= last {
-        name(line);
-        decimal(a as u64);
-        first(line, a);
-        seconds(line, a, last - a);
-        end_line();
-        a += 1;
+// slices NAME STRIP ARGUMENTS MEMORY RESULTS LAST: each way to cut the last budget in three. A line for each first slice: what it leaves, and at
+// its end one number for all that the second and the third leave. They are called also where the one before was not out of budget.
+pub(crate) fn slices(case: &Case, mut line: Fields) -> Result<()> {
+    let args = line.bytes(case.rt.alloc())?;
+    let memory_len = line.number();
+    let results_len = line.number();
+    let before = begun(case, memory_len, results_len, image::BYTES as u32)?;
+    let last = line.number();
+    for first in 0..=last {
+        let mut lent = before.clone()?;
+        let answer = lent.run(&args, first);
+        let digest = seconds(&lent, last - first)?;
+        let name = case.name;
+        let picture = Picture(lent.image());
+        println!(case.rt; "{name} {first} {}{picture} {digest}", lent.left(answer))?;
     }
+    Ok(())
 }
 
-fn first(line: &[u8], a: usize) {
-    let mut strip = [0u8; SHORT];
-    let n = bytes_in(line, 2, &mut strip);
-    let mut args = [0u8; SHORT];
-    let p = bytes_in(line, 3, &mut args);
-    let mut mem = [0u8; SHORT];
-    let m = length_in(line, 4, &mem);
-    let mut results = [0xEEu8; 128];
-    let r = length_in(line, 5, &results);
-    let mut image = [0xEEu8; image::BYTES];
-    first_in(
-        &strip[..n],
-        &args[..p],
-        &mut mem[..m],
-        &mut results[..r],
-        &mut image,
-        in_32_bits(a),
-    );
-}
-
-fn first_in(
-    strip: &[u8],
-    args: &[u8],
-    mem: &mut [u8],
-    results: &mut [u8],
-    image: &mut [u8],
-    budget: u32,
-) {
-    fill(mem);
-    let a = strip::run(strip, args, mem, results, image, budget);
-    left::print(a, mem, results);
-    left::print_image(image);
-}
-
-fn seconds(line: &[u8], a: usize, rest: usize)
-    requires { rest < 4294967296 }
-{
-    let mut h = digest::EMPTY;
-    let mut b = 0;
-    while b <= rest {
-        h = in_three(line, a, b, rest - b, h);
-        b += 1;
+// Of all that the second and the third slice leave, in each way to cut the rest in two.
+fn seconds(after_first: &Lent, rest: u32) -> Result<Digest> {
+    let mut digest = Digest::EMPTY;
+    for second in 0..=rest {
+        let mut lent = after_first.clone()?;
+        for budget in [second, rest - second] {
+            let answer = lent.resume(budget);
+            digest = lent.digest(digest, answer);
+        }
     }
-    digest::print(h);
-}
-
-fn in_three(line: &[u8], a: usize, b: usize, c: usize, h: u32) -> u32 {
-    let mut strip = [0u8; SHORT];
-    let n = bytes_in(line, 2, &mut strip);
-    let mut args = [0u8; SHORT];
-    let p = bytes_in(line, 3, &mut args);
-    let mut mem = [0u8; SHORT];
-    let m = length_in(line, 4, &mem);
-    let mut results = [0xEEu8; 128];
-    let r = length_in(line, 5, &results);
-    let mut image = [0xEEu8; image::BYTES];
-    three_in(
-        &strip[..n],
-        &args[..p],
-        &mut mem[..m],
-        &mut results[..r],
-        &mut image,
-        in_32_bits(a),
-        in_32_bits(b),
-        in_32_bits(c),
-        h,
-    )
-}
-
-fn three_in(
-    strip: &[u8],
-    args: &[u8],
-    mem: &mut [u8],
-    results: &mut [u8],
-    image: &mut [u8],
-    a: u32,
-    b: u32,
-    c: u32,
-    h: u32,
-) -> u32 {
-    fill(mem);
-    strip::run(strip, args, mem, results, image, a);
-    two_more(strip, mem, results, image, b, c, h)
-}
-
-fn two_more(
-    strip: &[u8],
-    mem: &mut [u8],
-    results: &mut [u8],
-    image: &mut [u8],
-    b: u32,
-    c: u32,
-    h: u32,
-) -> u32 {
-    let y = strip::resume(strip, mem, results, image, b);
-    let second = digest::of_call(h, y, mem, results, image);
-    let z = strip::resume(strip, mem, results, image, c);
-    digest::of_call(second, z, mem, results, image)
+    Ok(digest)
 }

@@ -6,52 +6,31 @@
 mod cutting;
 mod digest;
 mod judging;
-mod left;
+mod lent;
+mod picture;
 
-use cases::find;
-use cutting::{cut, slices};
-use input::Input;
-use judging::{bytes, places, resume};
-use std::fs::File;
-use std::io::{Error, ErrorKind};
+use anyhow::Result;
+use cases::{Case, Fields};
+use std::fs;
 
-// More bytes than an image has.
-const BUFFER: usize = image::BYTES + 64;
-
-fn main(rt: HostRuntime) -> std::io::Result<()> {
-    let mut file = File::open(&rt, "cases.txt")?;
-    let mut text = io::large_buffer();
-    let Input::Bytes(n) = input::read_all(&mut file, &mut text) else {
-        return Err(Error::new(ErrorKind::Other, "cases.txt cannot be read"));
-    };
-    lines(&text[..n]);
+fn main(rt: HostRuntime) -> Result<()> {
+    let text = fs::read_to_string(&rt, "cases.txt")?;
+    for line in text.lines() {
+        if !line.starts_with('#') {
+            done(&rt, Fields::of(line))?;
+        }
+    }
     Ok(())
 }
 
-fn lines(s: &[u8]) {
-    let mut at = 0;
-    while at < s.len() {
-        let end = find(s, at, b'\n');
-        line(&s[at..end]);
-        at = end + 1;
+fn done<'a>(rt: &'a HostRuntime, mut line: Fields<'a>) -> Result<()> {
+    let case = Case::of(rt, &mut line)?;
+    match case.task {
+        "slices" => cutting::slices(&case, line),
+        "cut" => cutting::cut(&case, line),
+        "resume" => judging::resume(&case, line),
+        "places" => judging::places(&case, line),
+        "bytes" => judging::bytes(&case, line),
+        _ => Ok(()),
     }
-}
-
-// The first letter of a line's first word tells what is done.
-fn line(s: &[u8]) {
-    if s.len() == 0 {
-        return;
-    }
-    match s[0] {
-        b's' => slices(s),
-        b'c' => cut(s),
-        b'r' => resume(s),
-        b'p' => places(s),
-        b'b' => bytes(s),
-        _ => {}
-    }
-}
-
-fn in_32_bits(n: usize) -> u32 {
-    (n % 4294967296) as u32
 }

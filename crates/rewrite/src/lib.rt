@@ -55,7 +55,7 @@ fn refused(code: u8, place: usize) -> Rewritten
 
 // A pass over the instructions of a strip of this version, from `start` to the end of the file. Their shortest forms are written, or only counted,
 // from the same place of the output on; the answer is the place after them. One function for both passes: the decoder and the encoder have one caller
-// here.
+// here. The loop stays a `while`: `at` leaps by each instruction's length, and is no index over a collection.
 fn pass(version: u16, strip: &[u8], start: usize, out: &mut [u8], writing: bool) -> usize
     requires { AtPass version strip.now start writing (length out.old) }
     ensures { Passed version strip.now start writing out.old result out.new }

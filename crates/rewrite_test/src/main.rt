@@ -1,101 +1,117 @@
 // Strips rewritten; stdout has what documents 01 and 02 say of each, worked out by hand. Each row: code, place, length, the output, which was all EE.
 #![tactic(auto)]
 
-use hexadecimal::STDOUT_FILENO;
+use hexadecimal::Hex;
+use std::io;
 
-fn main() {
-    shortened();
-    room();
-    refusals();
-    blocks();
-    block_refusals();
+fn main(rt: HostRuntime) -> io::Result<()> {
+    shortened(&rt)?;
+    room(&rt)?;
+    refusals(&rt)?;
+    blocks(&rt)?;
+    block_refusals(&rt)
 }
 
-fn shortened() {
-    // document 01's whole strip, which is shortest as it is
-    into_32(
-        b"WGP\x01\x00\x00\x00\x01\x7B\xFD\x0C\x00\x01\x02\x03\x04\x05\x06\x07\x08\x09\x0A\x0B\x0C\x0D\x0E\x0F\x0B",
-    );
-    // the same with the number after FD in five bytes
-    into_32(
-        b"WGP\x01\x00\x00\x00\x01\x7B\xFD\x8C\x80\x80\x80\x00\x00\x01\x02\x03\x04\x05\x06\x07\x08\x09\x0A\x0B\x0C\x0D\x0E\x0F\x0B",
-    );
-    // i32.const 1, i64.const -1
-    into_32(b"WGP\x01\x00\x00\x00\x01\x7F\x41\x81\x80\x80\x80\x00\x0B");
-    into_32(b"WGP\x01\x00\x00\x00\x01\x7E\x42\xFF\xFF\xFF\xFF\xFF\xFF\xFF\xFF\xFF\x7F\x0B");
-    // local.get 0, v128.load of exponent 4 and offset 0
-    into_32(b"WGP\x01\x00\x01\x00\x01\x7F\x7B\x20\x80\x00\xFD\x00\x84\x00\x80\x80\x00\x0B");
+fn shortened(rt: &HostRuntime) -> io::Result<()> {
+    rows(
+        rt,
+        32,
+        &[
+            // document 01's whole strip, which is shortest as it is
+            b"WGP\x01\x00\x00\x00\x01\x7B\xFD\x0C\x00\x01\x02\x03\x04\x05\x06\x07\x08\x09\x0A\x0B\x0C\x0D\x0E\x0F\x0B",
+            // the same with the number after FD in five bytes
+            b"WGP\x01\x00\x00\x00\x01\x7B\xFD\x8C\x80\x80\x80\x00\x00\x01\x02\x03\x04\x05\x06\x07\x08\x09\x0A\x0B\x0C\x0D\x0E\x0F\x0B",
+            // i32.const 1, i64.const -1
+            b"WGP\x01\x00\x00\x00\x01\x7F\x41\x81\x80\x80\x80\x00\x0B",
+            b"WGP\x01\x00\x00\x00\x01\x7E\x42\xFF\xFF\xFF\xFF\xFF\xFF\xFF\xFF\xFF\x7F\x0B",
+            // local.get 0, v128.load of exponent 4 and offset 0
+            b"WGP\x01\x00\x01\x00\x01\x7F\x7B\x20\x80\x00\xFD\x00\x84\x00\x80\x80\x00\x0B",
+        ],
+    )
 }
 
 // Twelve bytes fit into twelve.
-fn room() {
-    into_12(b"WGP\x01\x00\x00\x00\x01\x7F\x41\x81\x80\x80\x80\x00\x0B");
-    into_11(b"WGP\x01\x00\x00\x00\x01\x7F\x41\x81\x80\x80\x80\x00\x0B");
-    into_11(b"WGP\x01\x00\x00\x00\x01\x7F\x41\x01\x0B");
+fn room(rt: &HostRuntime) -> io::Result<()> {
+    rows(
+        rt,
+        12,
+        &[b"WGP\x01\x00\x00\x00\x01\x7F\x41\x81\x80\x80\x80\x00\x0B"],
+    )?;
+    rows(
+        rt,
+        11,
+        &[
+            b"WGP\x01\x00\x00\x00\x01\x7F\x41\x81\x80\x80\x80\x00\x0B",
+            b"WGP\x01\x00\x00\x00\x01\x7F\x41\x01\x0B",
+        ],
+    )
 }
 
 // Asked before the room: an empty file, no `end`, a byte after it, bits that s32 does not have.
-fn refusals() {
-    into_12(b"");
-    into_12(b"WGP\x01\x00\x00\x00\x01\x7F\x41\x81\x80\x80\x80\x00");
-    into_12(b"WGP\x01\x00\x00\x00\x01\x7F\x41\x81\x80\x80\x80\x00\x0B\x00");
-    into_11(b"WGP\x01\x00\x00\x00\x01\x7F\x41\x81\x80\x80\x80\x10\x0B");
+fn refusals(rt: &HostRuntime) -> io::Result<()> {
+    rows(
+        rt,
+        12,
+        &[
+            b"",
+            b"WGP\x01\x00\x00\x00\x01\x7F\x41\x81\x80\x80\x80\x00",
+            b"WGP\x01\x00\x00\x00\x01\x7F\x41\x81\x80\x80\x80\x00\x0B\x00",
+        ],
+    )?;
+    rows(
+        rt,
+        11,
+        &[b"WGP\x01\x00\x00\x00\x01\x7F\x41\x81\x80\x80\x80\x10\x0B"],
+    )
 }
 
 // Version 2: labels are numbers, a block type is a byte.
-fn blocks() {
-    // block, br 0 with its label in five bytes, end, end
-    into_32(b"WGP\x02\x00\x00\x00\x00\x02\x40\x0C\x80\x80\x80\x80\x00\x0B\x0B");
-    // loop of one v128: 7B is no number, and stays; the number after FD takes two bytes
-    into_32(
-        b"WGP\x02\x00\x00\x00\x01\x7B\x03\x7B\xFD\x8C\x00\x00\x01\x02\x03\x04\x05\x06\x07\x08\x09\x0A\x0B\x0C\x0D\x0E\x0F\x0B\x0B",
-    );
-    // block of one i32, i32.const 1, i32.const 0, i32.eqz, br_if 1, end, end
-    into_32(
-        b"WGP\x02\x00\x00\x00\x01\x7F\x02\x7F\x41\x81\x00\x41\x80\x00\x45\x0D\x81\x80\x00\x0B\x0B",
-    );
-    // i32.const 5, br 0, i32.lt_u in dead code, end
-    into_32(b"WGP\x02\x00\x00\x00\x01\x7F\x41\x85\x00\x0C\x80\x00\x49\x0B");
-    // twelve bytes, into twelve and into eleven
-    into_12(b"WGP\x02\x00\x00\x00\x00\x02\x40\x0B\x0B");
-    into_11(b"WGP\x02\x00\x00\x00\x00\x02\x40\x0B\x0B");
+fn blocks(rt: &HostRuntime) -> io::Result<()> {
+    rows(
+        rt,
+        32,
+        &[
+            // block, br 0 with its label in five bytes, end, end
+            b"WGP\x02\x00\x00\x00\x00\x02\x40\x0C\x80\x80\x80\x80\x00\x0B\x0B",
+            // loop of one v128: 7B is no number, and stays; the number after FD takes two bytes
+            b"WGP\x02\x00\x00\x00\x01\x7B\x03\x7B\xFD\x8C\x00\x00\x01\x02\x03\x04\x05\x06\x07\x08\x09\x0A\x0B\x0C\x0D\x0E\x0F\x0B\x0B",
+            // block of one i32, i32.const 1, i32.const 0, i32.eqz, br_if 1, end, end
+            b"WGP\x02\x00\x00\x00\x01\x7F\x02\x7F\x41\x81\x00\x41\x80\x00\x45\x0D\x81\x80\x00\x0B\x0B",
+            // i32.const 5, br 0, i32.lt_u in dead code, end
+            b"WGP\x02\x00\x00\x00\x01\x7F\x41\x85\x00\x0C\x80\x00\x49\x0B",
+        ],
+    )?;
+    rows(
+        rt,
+        12,
+        &[
+            // twelve bytes, into twelve and into eleven
+            b"WGP\x02\x00\x00\x00\x00\x02\x40\x0B\x0B",
+        ],
+    )?;
+    rows(rt, 11, &[b"WGP\x02\x00\x00\x00\x00\x02\x40\x0B\x0B"])
 }
 
 // A padded label one too far, a block type that is none, a block without its `end`, and version 1, which has no blocks.
-fn block_refusals() {
-    into_12(b"WGP\x02\x00\x00\x00\x00\x0C\x81\x00\x0B");
-    into_12(b"WGP\x02\x00\x00\x00\x00\x02\x00\x0B\x0B");
-    into_12(b"WGP\x02\x00\x00\x00\x00\x02\x40\x0B");
-    into_12(b"WGP\x01\x00\x00\x00\x00\x02\x40\x0B\x0B");
+fn block_refusals(rt: &HostRuntime) -> io::Result<()> {
+    rows(
+        rt,
+        12,
+        &[
+            b"WGP\x02\x00\x00\x00\x00\x0C\x81\x00\x0B",
+            b"WGP\x02\x00\x00\x00\x00\x02\x00\x0B\x0B",
+            b"WGP\x02\x00\x00\x00\x00\x02\x40\x0B",
+            b"WGP\x01\x00\x00\x00\x00\x02\x40\x0B\x0B",
+        ],
+    )
 }
 
-fn into_32(strip: &[u8]) {
-    let mut out = [0xEEu8; 32];
-    let r = rewrite::rewrite(strip, &mut out);
-    row(r.code, r.place, r.len, &out);
-}
-
-fn into_12(strip: &[u8]) {
-    let mut out = [0xEEu8; 12];
-    let r = rewrite::rewrite(strip, &mut out);
-    row(r.code, r.place, r.len, &out);
-}
-
-fn into_11(strip: &[u8]) {
-    let mut out = [0xEEu8; 11];
-    let r = rewrite::rewrite(strip, &mut out);
-    row(r.code, r.place, r.len, &out);
-}
-
-fn row(code: u8, place: usize, len: usize, out: &[u8]) {
-    decimal(code as u64);
-    decimal(place as u64);
-    decimal(len as u64);
-    hexadecimal::print(out);
-    io::write_all(STDOUT_FILENO, b"\n");
-}
-
-fn decimal(n: u64) {
-    io::print_decimal(STDOUT_FILENO, n);
-    io::write_all(STDOUT_FILENO, b" ");
+// Each strip into as much room.
+fn rows(rt: &HostRuntime, room: usize, strips: &[&[u8]]) -> io::Result<()> {
+    for strip in strips {
+        let mut out = vec![in rt.alloc(); 0xEE; room]?;
+        let r = rewrite::rewrite(strip, &mut out);
+        println!(rt; "{} {} {} {}", r.code, r.place, r.len, Hex(&out))?;
+    }
+    Ok(())
 }

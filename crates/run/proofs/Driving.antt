@@ -23,8 +23,9 @@ use Rattle.machine.specs.Value.{Value}
 use Rattle.machine.specs.Memory.{part}
 use Rattle.machine.specs.Inner.Fit.{Fits, DidBy, bounds_of}
 use Rattle.machine.specs.Inner.Fit.{Ready}
-use Rattle.machine.specs.declared.access.Bounds.{Bounds}
-use Rattle.machine.specs.declared.access.Bounds.TheVariants.{Clear, Past}
+use Rattle.std.specs.Prelude.{Ok, Err}
+use Rattle.std.specs.declared.result.Result.{Result}
+use Rattle.machine.specs.declared.access.PastEnd.{PastEnd}
 use Rattle.machine.specs.Answer.{Reach, in_reach, told_bounds}
 use Rattle.rules.specs.Header.{Header}
 use Rattle.rules.specs.Strip.{Reads, Valid}
@@ -41,12 +42,12 @@ use Rattle.run.proofs.Leading.{sound-of}
 use Rattle.run.proofs.Turning.{row_is, fits, ready, is-clear, is-past, did}
 use Rattle.run.proofs.Ways.{Way, turning, goes_to, traps-at, way}
 
-pub not-clear : {b : Bounds} {a : ℕ} → b ≡ Past a → b ≡ Clear → ⊥
+pub not-clear : {b : Result (Unit {0}) PastEnd} {e : PastEnd} → b ≡ Err e → b ≡ Ok tt → ⊥
 not-clear e f = let z : ◌≡◌ {A = ℕ} 0 1 = cc in omega arith
 
-reach-clear : (b : Bounds) → told_bounds b ≡ in_reach → b ≡ Clear
-reach-clear Clear e = refl
-reach-clear (Past a) e = absurd (let z : TRAP ≡ DONE = ap (λ (x : Reach). x.code) e in omega (arith, z))
+reach-clear : (b : Result (Unit {0}) PastEnd) → told_bounds b ≡ in_reach → b ≡ Ok tt
+reach-clear (Ok x) e = refl
+reach-clear (Err a) e = absurd (let z : TRAP ≡ DONE = ap (λ (x : Reach). x.code) e in omega (arith, z))
 
 -- a strip has one number of results
 results-once : {s : List ℕ} (v w : Valid s) (out : List ℕ) → Slots v.header.results out → Slots w.header.results out
@@ -218,9 +219,9 @@ module _ {s : List ℕ} {v : Valid s} {c₀ : Config} {mem₀ out : List ℕ} {b
               by (goes_to r e q x) = fits r h.results D.carries.rep q (λ z. let w : ◌≡◌ {A = ℕ} 0 1 = cc in omega arith)
               by (traps-at r e q x) = fits r h.results D.carries.rep q (λ z. let w : ◌≡◌ {A = ℕ} 0 1 = cc in omega arith)
 
-          module _ (b : Bounds) (told : (c : Code) → row_of id ≡ carried c → told_bounds b ≡ bounds_of c i stack depth (length mem)) where
+          module _ (b : Result (Unit {0}) PastEnd) (told : (c : Code) → row_of id ≡ carried c → told_bounds b ≡ bounds_of c i stack depth (length mem)) where
             -- within the memory: asked of `exec`, and what it leaves
-            module _ (clear : b ≡ Clear) where
+            module _ (clear : b ≡ Ok tt) where
               pub exec-apt : (f.entry ≡ entry_of (row_of id)) × Ready id i stack depth locals mem
               exec-apt = (entry_is, subst (λ (n : ℕ). Ready n i stack depth locals mem) (sym id_is) (by stands))
                 where
@@ -250,7 +251,7 @@ module _ {s : List ℕ} {v : Valid s} {c₀ : Config} {mem₀ out : List ℕ} {b
                       kept
 
             -- past its end
-            pub strayed : 0 < left → (b ≡ Clear → ⊥) → Is (leaves TRAP at steps mem results)
+            pub strayed : 0 < left → (b ≡ Ok tt → ⊥) → Is (leaves TRAP at steps mem results)
             strayed more out-of-reach = by stands
               where
                 by : Way s h c i d.len → Is (leaves TRAP at steps mem results)

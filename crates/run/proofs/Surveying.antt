@@ -4,11 +4,14 @@ use mathlib.Core.Path.{◌≡◌, refl, ap, ap₂, sym, ◌∙◌, subst}
 use mathlib.Core.Bool.{Bool, true, false}
 use mathlib.Core.List.{List, ◌++◌, map, reverse}
 use mathlib.Core.Logic.{inl, inr}
-use mathlib.Core.Option.{Option, some}
+use mathlib.Core.Option.{some}
 use native.Mathlib.Omega.{arith}
 use lib.ListN.{length, get_or, set, take, drop, length-append, length-map, length-reverse, length-drop, length-set}
 use lib.Seq.{take_at, get_or-set_same}
-use Rattle.card.specs.Card.{DONE, ROOM, OUT, SMALL, IMAGE}
+use Rattle.std.specs.Prelude.{None, Some, Ok, Err}
+use Rattle.std.specs.declared.option.Option.{Option}
+use Rattle.std.specs.declared.result.Result.{Result}
+use Rattle.card.specs.Card.{ROOM, OUT, SMALL, IMAGE}
 use Rattle.card.specs.declared.Answer.{Answer}
 use Rattle.leb128.specs.Bytes.{bytes}
 use Rattle.limits.specs.Limits.{slot, memory_limit, stack_limit, nest_limit}
@@ -21,7 +24,8 @@ use Rattle.rules.specs.Header.{Header, locals}
 use Rattle.rules.specs.Typing.{Frame, all_values}
 use Rattle.rules.specs.Strip.{Reaches, Valid}
 use Rattle.rules.proofs.Onward.{declared, reached-within, reached-once}
-use Rattle.rules.proofs.Verdicts.{breach-coded}
+use Rattle.rules.specs.Breach.{Breach}
+use Rattle.checker.specs.declared.Refusal.{Refusal}
 use Rattle.checker.specs.declared.place.Surveyed.{Surveyed}
 use Rattle.checker.specs.Survey.{marks_of, fronted, Surveys, breaks, misses, finds}
 use Rattle.checker.proofs.Marks.{marks-many}
@@ -49,35 +53,35 @@ use Rattle.run.proofs.Answering.{turned-call}
 fronted-long : (xs old : List ℕ) → length xs ≤ length old → length (fronted xs old) ≡ length old
 fronted-long xs old l = length-append xs (drop (length xs) old) ∙ omega (arith, l, length-drop (length xs) old)
 
-module _ {s : List ℕ} {place : ℕ} {kinds₀ marks₀ kinds marks : List ℕ} {w : Surveyed} (sv : Surveys s place kinds₀ marks₀ w kinds marks) where
-  pub survey-valid : w.code ≡ DONE → Valid s
-  survey-valid done = by sv done
+module _ {s : List ℕ} {place : ℕ} {kinds₀ marks₀ kinds marks : List ℕ} {answer : Result (Option Surveyed) Refusal} (sv : Surveys s place kinds₀ marks₀ answer kinds marks) where
+  pub survey-valid : {known : Option Surveyed} → answer ≡ Ok known → Valid s
+  survey-valid {known} done = by sv done
     where
-      by : {w : Surveyed} {kinds marks : List ℕ} → Surveys s place kinds₀ marks₀ w kinds marks → w.code ≡ DONE → Valid s
-      by (breaks b) e = absurd (breach-coded b e)
+      by : {answer : Result (Option Surveyed) Refusal} {kinds marks : List ℕ} → Surveys s place kinds₀ marks₀ answer kinds marks → answer ≡ Ok known → Valid s
+      by (breaks b) e = absurd (let z : ◌≡◌ {A = ℕ} 0 1 = cc in omega arith)
       by (misses v never) e = v
       by (finds v r l a) e = v
 
   -- the counts in the header, and the kind bytes that they count
-  pub survey-counts : (done : w.code ≡ DONE) → Counts (declared (survey-valid done).reached)
+  pub survey-counts : {known : Option Surveyed} (done : answer ≡ Ok known) → Counts (declared (survey-valid done).reached)
   survey-counts done = counts-read (declared (survey-valid done).reached)
 
-  pub survey-inside : w.code ≡ DONE → 8 + (get_or s 5 0 + get_or s 6 0) ≤ length s
+  pub survey-inside : {known : Option Surveyed} → answer ≡ Ok known → 8 + (get_or s 5 0 + get_or s 6 0) ≤ length s
   survey-inside done = omega (arith, (survey-counts done).body, inside (declared (survey-valid done).reached))
 
   -- the stack holds the values that it tells
-  pub survey-deep : w.found ≡ true → w.depth ≤ stack_limit
+  pub survey-deep : {w : Surveyed} → answer ≡ Ok (Some w) → w.depth ≤ stack_limit
   survey-deep is-so = let f = survey-found sv is-so in omega (arith, f.depth_is, (reached-within f.reached).values)
 
   -- no array grows
-  pub survey-kinds : w.found ≡ true → length kinds₀ ≡ stack_limit → length kinds ≡ stack_limit
+  pub survey-kinds : {w : Surveyed} → answer ≡ Ok (Some w) → length kinds₀ ≡ stack_limit → length kinds ≡ stack_limit
   survey-kinds is-so e =
       let f = survey-found sv is-so in
       let front = map kind_byte (all_values f.frames) in
       ap length f.kinds-are
       ∙ fronted-long front kinds₀ (omega (arith, e, length-map (all_values f.frames) kind_byte, (reached-within f.reached).values)) ∙ e
 
-  pub survey-marks : w.found ≡ true → length marks₀ ≡ 3 * nest_limit + 1 → length marks ≡ 3 * nest_limit + 1
+  pub survey-marks : {w : Surveyed} → answer ≡ Ok (Some w) → length marks₀ ≡ 3 * nest_limit + 1 → length marks ≡ 3 * nest_limit + 1
   survey-marks is-so e =
       let f = survey-found sv is-so in
       ap length f.marks-are
@@ -90,20 +94,20 @@ module _ {s : List ℕ} {place : ℕ} {kinds₀ marks₀ kinds marks : List ℕ}
     abbrev Answers : Answer → Type 0
     Answers r = Resumes s mem out buffer budget (leaves r.code r.place r.steps mem out (some buffer))
 
-    pub checked-first : (w.code ≡ DONE → ⊥) → Resumes s mem out buffer budget (leaves w.code w.place 0 mem out (some buffer))
-    checked-first ne = by sv ne
+    pub checked-first : {e : Refusal} → answer ≡ Err e → Resumes s mem out buffer budget (leaves e.code e.place 0 mem out (some buffer))
+    checked-first {e} is = by sv is
       where
-        by : {w : Surveyed} {kinds marks : List ℕ} → Surveys s place kinds₀ marks₀ w kinds marks → (w.code ≡ DONE → ⊥)
-            → Resumes s mem out buffer budget (leaves w.code w.place 0 mem out (some buffer))
-        by (breaks b) ne = refused (breaks-rule b)
-        by (misses v never) ne = absurd (ne refl)
-        by (finds v r l a) ne = absurd (ne refl)
+        by : {answer : Result (Option Surveyed) Refusal} {kinds marks : List ℕ} → Surveys s place kinds₀ marks₀ answer kinds marks → answer ≡ Err e
+            → Resumes s mem out buffer budget (leaves e.code e.place 0 mem out (some buffer))
+        by (breaks {e = e'} b) q = let same : e' ≡ e = cc in refused (breaks-rule (subst (λ (x : Refusal). Breach s x.code x.place) same b))
+        by (misses v never) q = absurd (let z : ◌≡◌ {A = ℕ} 0 1 = cc in omega arith)
+        by (finds v r l a) q = absurd (let z : ◌≡◌ {A = ℕ} 0 1 = cc in omega arith)
 
     -- of any proof that it keeps the rules
     turned : (v : Valid s) {code : ℕ} (r : Answer) → (r.code ≡ code) × (r.place ≡ 0) × (r.steps ≡ 0) → Fails (resume_asks s mem out buffer v.header) code → Answers r
     turned v r e f = turned-call r e (fails v f)
 
-    module _ (done : w.code ≡ DONE) where
+    module _ {known : Option Surveyed} (done : answer ≡ Ok known) where
       pub no_room : (r : Answer) → (r.code ≡ ROOM) × (r.place ≡ 0) × (r.steps ≡ 0) → memory_limit < length mem → Answers r
       no_room r e l = turned (survey-valid done) r e (inl (λ k. omega (arith, k, l), refl))
 
@@ -125,12 +129,12 @@ module _ {s : List ℕ} {place : ℕ} {kinds₀ marks₀ kinds marks : List ℕ}
             there v c p =
                 subst (λ (x : ℕ). Reaches s v.header x (frames p.sound)) (sym (read ∙ place-in p.sound buffer p.rest p.bytes)) p.sound.reached
 
-            pub no_place : (r : Answer) → (r.code ≡ IMAGE) × (r.place ≡ 0) × (r.steps ≡ 0) → w.found ≡ false → Answers r
+            pub no_place : (r : Answer) → (r.code ≡ IMAGE) × (r.place ≡ 0) × (r.steps ≡ 0) → known ≡ None → Answers r
             no_place r e is-not =
                 not-pictured (survey-valid done) r e
-                (λ c p. survey-nowhere sv is-not (survey-valid done) (frames p.sound) (there (survey-valid done) c p) p.sound.live)
+                (λ c p. survey-nowhere sv (done ∙ ap Ok is-not) (survey-valid done) (frames p.sound) (there (survey-valid done) c p) p.sound.live)
 
-            module _ (f : Found s place kinds₀ marks₀ w kinds marks) where
+            module _ {w : Surveyed} (f : Found s place kinds₀ marks₀ w kinds marks) where
               abbrev v : Valid s
               v = f.valid
 
@@ -232,6 +236,6 @@ pub resumed : {s mem out buffer marks : List ℕ} {place depth count budget code
 resumed {s} {mem} {out} {buffer} {budget = budget} {code} {at} {steps} {mem'} {out'} {buffer'} l long kept d =
     let r = d.ready in
     subst (Resumes s mem out buffer budget)
-    (sym (ap (λ (i : Option (List ℕ)). leaves code at steps mem' out' i) (sym (lent-some buffer' (omega (arith, long, kept)))) ∙ d.same
+    (sym (ap (λ (i : mathlib.Core.Option.Option (List ℕ)). leaves code at steps mem' out' i) (sym (lent-some buffer' (omega (arith, long, kept)))) ∙ d.same
     ∙ ap (meter s r.valid.header budget 0 r.config out) (lent-some buffer long)))
     (metered r.valid r.config (l, (r.slots, (long, ((r.config, r.pictures), tt)))) r.pictures)

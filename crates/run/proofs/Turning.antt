@@ -20,8 +20,9 @@ use Rattle.instr.proofs.Ranges.{lane-range, shuffle-range}
 use Rattle.machine.specs.Exec.{State, Outcome, goes, trap, stuck, exec}
 use Rattle.machine.specs.Inner.Flat.{flat}
 use Rattle.machine.specs.Inner.Fit.{Fit, Fits, Indexed, Named, Ready, DidBy, bounds_of}
-use Rattle.machine.specs.declared.access.Bounds.{Bounds}
-use Rattle.machine.specs.declared.access.Bounds.TheVariants.{Clear}
+use Rattle.std.specs.Prelude.{Ok}
+use Rattle.std.specs.declared.result.Result.{Result}
+use Rattle.machine.specs.declared.access.PastEnd.{PastEnd}
 use Rattle.machine.specs.Answer.{Reach, in_reach, out_of_reach, told_bounds}
 use Rattle.machine.proofs.Simulates.{simulates}
 use Rattle.machine.proofs.Fits.{slotted, enough, clear, past_end}
@@ -104,7 +105,7 @@ module _ {v : ℕ} {s : List ℕ} {p n : ℕ} {i : Instr} {c : Code} (r : Reads 
           (subst (λ (z : List ℕ). Rep σ' z f.depth ls' m') (sym x.stack)
           (subst (λ (z : List ℕ). Rep σ' f.stack f.depth z m') (sym x.locals) (subst (λ (z : List ℕ). Rep σ' f.stack f.depth f.locals z) (sym x.memory) after)))
 
-    pub is-past : {a k : ℕ} → exec rs c i σ ≡ trap a k → (b : Bounds) → told_bounds b ≡ bounds_of c i st d (length m) → b ≡ Clear → ⊥
+    pub is-past : {a k : ℕ} → exec rs c i σ ≡ trap a k → (b : Result (Unit {0}) PastEnd) → told_bounds b ≡ bounds_of c i st d (length m) → b ≡ Ok tt → ⊥
     is-past {a} {k} e b f g =
         let past : in_reach ≡ out_of_reach _ = ap told_bounds (sym g) ∙ f ∙ (past_end rs i σ st d ls m rep a k c e).bounds in
         let z : DONE ≡ TRAP = ap (λ (x : Reach). x.code) past in omega (arith, z)

@@ -31,13 +31,7 @@ pub(crate) struct Target {
 pub(crate) fn turns(group: u8) -> bool
     ensures { result ≡ turns_at group }
 {
-    if group == opcode::GROUP_END {
-        return true;
-    }
-    if opcode::GROUP_I32_LT_U < group {
-        return true;
-    }
-    false
+    group == opcode::GROUP_END || opcode::GROUP_I32_LT_U < group
 }
 
 pub(crate) fn turn(
@@ -103,9 +97,7 @@ fn results_of(block: u8) -> usize
     ensures { result ≡ length (block_results block) }
 {
     match block {
-        opcode::kind::I32 => 1,
-        opcode::kind::I64 => 1,
-        opcode::kind::V128 => 1,
+        opcode::kind::I32 | opcode::kind::I64 | opcode::kind::V128 => 1,
         _ => 0,
     }
 }
@@ -115,13 +107,7 @@ fn taken(group: u8, stack: &[u8], depth: usize) -> bool
     requires { (((group ≡ 27 → ⊥) → 1 ≤ depth)) × HasOperands 0 stack.now depth }
     ensures { result ≡ cond (eqb group 27) true (not (eqb (low32 (top_of stack.now depth 1)) 0)) }
 {
-    if group == opcode::GROUP_BR {
-        return true;
-    }
-    if machine::top_word(stack, depth) == 0 {
-        return false;
-    }
-    true
+    group == opcode::GROUP_BR || machine::top_word(stack, depth) != 0
 }
 
 // To the block of this number, the nearest being 0; past the last, out of the strip.

@@ -1,9 +1,7 @@
 // A run that is resumed from the image that it left.
 ghost use Rattle.std.specs.Prelude.{◌+◌, ◌≤◌, ◌≡◌, length};
 ghost use Rattle.std.proofs.Math.Option.{some};
-ghost use Rattle.limits.specs.Limits.{local_bytes, stack_bytes};
 ghost use Rattle.machine.specs.Memory.{part};
-ghost use Rattle.image.specs.Image.{front_bytes, image_bytes};
 ghost use Rattle.run.specs.Meter.{leaves};
 ghost use Rattle.run.specs.Resume.{Resumes};
 ghost use Rattle.run.specs.Inner.Steps.{Resumable, Resumed};
@@ -28,14 +26,14 @@ pub fn resume(
     let mut labels = Labels {
         marks: [0usize; crate::MARKS],
     };
-    let known = checker::survey(strip, place, &mut kinds, &mut labels.marks);
-    if known.code != card::DONE {
-        return Answer {
-            code: known.code,
-            place: known.place,
+    let surveyed = match checker::survey(strip, place, &mut kinds, &mut labels.marks) {
+        Ok(surveyed) => surveyed,
+        Err(e) => return Answer {
+            code: e.code,
+            place: e.place,
             steps: 0,
-        };
-    }
+        },
+    };
     if limits::MEMORY < mem.len() {
         return refused(card::ROOM);
     }
@@ -45,9 +43,9 @@ pub fn resume(
     if image.len() < image::BYTES {
         return refused(card::SMALL);
     }
-    if !known.found {
+    let Some(known) = surveyed else {
         return refused(card::IMAGE);
-    }
+    };
     let count = strip[5] as usize + strip[6] as usize;
     let end = 8 + count;
     let depth = known.depth;
@@ -83,8 +81,14 @@ fn carry_on(
     requires { Resumable strip.now mem.old results.old image.old marks.old place depth count }
     ensures { Resumed strip.now mem.old results.old image.old marks.old place depth count budget result.code result.place result.steps mem.new results.new image.new }
 {
-    let mut stack = stack_in(image, depth);
-    let mut locals = locals_in(image, count);
+    let mut stack = Stack {
+        bytes: slots_in(image, image::FRONT + limits::LOCAL_BYTES),
+        depth,
+    };
+    let mut locals = Locals {
+        bytes: slots_in(image, image::FRONT),
+        count,
+    };
     let mut ends = Closings {
         words: [0u32; crate::ENDS],
     };
@@ -105,26 +109,13 @@ fn carry_on(
     pause(stop, image, held, &stack.bytes, &locals.bytes)
 }
 
-// The slots of the image, of which the lowest `depth` hold values.
-fn stack_in(image: &[u8], depth: usize) -> Stack
-    requires { image_bytes ≤ length image.now }
-    ensures { (result.bytes ≡ part stack_bytes (front_bytes + local_bytes) image.now) × (result.depth ≡ depth) }
+// As many bytes of the image, from a place on.
+fn slots_in<const N: usize>(image: &[u8], from: usize) -> [u8; N]
+    requires { from + N ≤ length image.now }
+    ensures { result ≡ part N from image.now }
 {
-    let mut bytes = [0u8; limits::STACK_BYTES];
-    let from = image::FRONT + limits::LOCAL_BYTES;
-    let end = from + limits::STACK_BYTES;
-    buffer::copy(&image[from..end], &mut bytes);
-    Stack { bytes, depth }
-}
-
-// And its locals.
-fn locals_in(image: &[u8], count: usize) -> Locals
-    requires { image_bytes ≤ length image.now }
-    ensures { (result.bytes ≡ part local_bytes front_bytes image.now) × (result.count ≡ count) }
-{
-    let mut bytes = [0u8; limits::LOCAL_BYTES];
-    let from = image::FRONT;
-    let end = from + limits::LOCAL_BYTES;
-    buffer::copy(&image[from..end], &mut bytes);
-    Locals { bytes, count }
+    let end = from + N;
+    let mut bytes = [0u8; N];
+    bytes.copy_from_slice(&image[from..end]);
+    bytes
 }

@@ -16,7 +16,6 @@ use crate::arguments::locals_of;
 use crate::{Closings, Labels, Stack, blocks};
 use card::Answer;
 use instr::Instr;
-use machine::Bounds;
 
 // From the first instruction, with the arguments as locals and a zeroed stack.
 pub(crate) fn drive(
@@ -97,7 +96,8 @@ pub(crate) fn pause(
     }
 }
 
-// From any place, with the stack, the open blocks and the locals there.
+// From any place, with the stack, the open blocks and the locals there. The loop stays a `loop`: `at` leaps by each instruction's length or to where a
+// branch leads, and is no index over a collection.
 pub(crate) fn go_on(
     strip: &[u8],
     mem: &mut [u8],
@@ -148,12 +148,12 @@ pub(crate) fn go_on(
             left -= 1;
         } else {
             match machine::bounds(f.id, f.entry, i, stack, depth, mem.len()) {
-                Bounds::Clear => {
+                Ok(()) => {
                     depth = machine::exec(f.id, f.entry, i, stack, depth, locals, mem);
                     at += d.len;
                     left -= 1;
                 }
-                Bounds::Past(_) => return Stop {
+                Err(_) => return Stop {
                     code: card::TRAP,
                     place: at,
                     steps: budget - left,

@@ -2,6 +2,7 @@
 pub mod Wrap
 pub mod Twos
 pub mod Saturate
-pub mod Product
 pub mod Integers
 pub mod Exact
+pub mod Lanes
+pub mod Wide

@@ -1,14 +1,16 @@
-// The arithmetic of one lane (Core 4.3.2), by width. A lane is its bits, a u8, u16, u32 or u64; each function is an operation of the
-// standard at one width, or a step of one. The four shapes are types that carry their constants, from which the widths and the
-// bounds here are taken.
+// The arithmetic of one lane (Core 4.3.2). A lane is its bits, a u8, u16, u32 or u64: each operation of the standard is a method, whose
+// clause is said once over the width. The four shapes are types that carry their constants.
 #![tactic(auto)]
 
-pub mod compare;
-pub mod saturating;
+pub mod lane;
+pub mod lane16;
+pub mod lane32;
+pub mod lane64;
+pub mod lane8;
 pub mod shape;
-pub mod shift;
-pub mod sign;
-pub mod widen;
-pub mod wrapping;
+pub mod wide;
 
-pub use shape::{I8x16, I16x8, I32x4, I64x2};
+pub use lane::Lane;
+pub use lane16::{dot_s16, q15mulr_sat_s16};
+pub use shape::{I8x16, I16x8, I32x4, I64x2, Shape};
+pub use wide::{Narrow, Small};

@@ -5,126 +5,32 @@
 // the older cases answer had been worked out before, by others in another language, and is the same but where a limit moved.
 #![tactic(auto)]
 
-mod list;
+mod calls;
+mod outputs;
 
-use cases::{
-    answer, bytes_in, changes, decimal, end_line, fill, find, hex, length_in, memory_room, name,
-    number_in, strip_room,
-};
-use input::Input;
-use list::{list, rooms};
-use std::fs::File;
-use std::io::{Error, ErrorKind};
+use anyhow::Result;
+use cases::{Case, Fields};
+use std::fs;
 
-fn main(rt: HostRuntime) -> std::io::Result<()> {
-    let mut file = File::open(&rt, "cases.txt")?;
-    let mut text = [0u8; 131072];
-    let Input::Bytes(n) = input::read_all(&mut file, &mut text) else {
-        return Err(Error::new(ErrorKind::Other, "cases.txt cannot be read"));
-    };
-    lines(&text[..n]);
+fn main(rt: HostRuntime) -> Result<()> {
+    let text = fs::read_to_string(&rt, "cases.txt")?;
+    for line in text.lines() {
+        if !line.starts_with('#') {
+            done(&rt, Fields::of(line))?;
+        }
+    }
     Ok(())
 }
 
-fn lines(s: &[u8]) {
-    let mut at = 0;
-    while at < s.len() {
-        let end = find(s, at, b'\n');
-        case(&s[at..end]);
-        at = end + 1;
+fn done<'a>(rt: &'a HostRuntime, mut line: Fields<'a>) -> Result<()> {
+    let case = Case::of(rt, &mut line)?;
+    match case.task {
+        "check" => calls::check(&case),
+        "run" => calls::run(&case, line),
+        "budgets" => calls::budgets(&case, line),
+        "shorten" => outputs::shorten(&case, line),
+        "list" => outputs::list(&case, line),
+        "rooms" => outputs::rooms(&case, line),
+        _ => Ok(()),
     }
-}
-
-// A line's first word says what is done; the first letter tells all but two of them apart.
-fn case(line: &[u8]) {
-    if line.len() < 2 {
-        return;
-    }
-    match line[0] {
-        b'c' => check(line),
-        b'r' => run_or_rooms(line, line[1]),
-        b'b' => budgets(line),
-        b's' => shorten(line),
-        b'l' => list(line),
-        _ => {}
-    }
-}
-
-fn run_or_rooms(line: &[u8], second: u8) {
-    if second == b'o' {
-        rooms(line);
-    } else {
-        run(line);
-    }
-}
-
-// check NAME STRIP
-fn check(line: &[u8]) {
-    let mut strip = strip_room();
-    let n = bytes_in(line, 2, &mut strip);
-    let a = strip::check(&strip[..n]);
-    name(line);
-    answer(a.code, a.place, a.steps as usize);
-    end_line();
-}
-
-// run NAME STRIP ARGUMENTS MEMORY RESULTS BUDGET
-fn run(line: &[u8]) {
-    run_at(line, number_in(line, 6) as u32);
-}
-
-// budgets NAME STRIP ARGUMENTS MEMORY RESULTS LAST: run at every budget from 0 to the last.
-fn budgets(line: &[u8]) {
-    let last = number_in(line, 6);
-    let mut k = 0;
-    while k <= last {
-        run_at(line, k as u32);
-        k += 1;
-    }
-}
-
-fn run_at(line: &[u8], budget: u32) {
-    let mut strip = strip_room();
-    let n = bytes_in(line, 2, &mut strip);
-    let mut args = [0u8; 512];
-    let p = bytes_in(line, 3, &mut args);
-    let mut mem = memory_room();
-    let m = length_in(line, 4, &mem);
-    let mut results = [0xEEu8; 128];
-    let r = length_in(line, 5, &results);
-    name(line);
-    decimal(budget as u64);
-    run_in(
-        &strip[..n],
-        &args[..p],
-        &mut mem[..m],
-        &mut results[..r],
-        budget,
-    );
-}
-
-fn run_in(strip: &[u8], args: &[u8], mem: &mut [u8], results: &mut [u8], budget: u32) {
-    fill(mem);
-    let a = strip::run_once(strip, args, mem, results, budget);
-    answer(a.code, a.place, a.steps as usize);
-    hex(results);
-    changes(mem);
-    end_line();
-}
-
-// shorten NAME STRIP OUTPUT
-fn shorten(line: &[u8]) {
-    let mut strip = strip_room();
-    let n = bytes_in(line, 2, &mut strip);
-    let mut out = [0xEEu8; 1024];
-    let m = length_in(line, 3, &out);
-    name(line);
-    shorten_in(&strip[..n], &mut out[..m]);
-}
-
-fn shorten_in(strip: &[u8], out: &mut [u8]) {
-    let w = strip::rewrite(strip, out);
-    answer(w.code, w.place, w.len);
-    hex(out);
-    end_line();
 }

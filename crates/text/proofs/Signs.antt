@@ -1,12 +1,12 @@
 -- A sign before the digits.
-use Prim.Native.Nat.{ℕ, suc, ◌+◌, ◌-◌, ◌^◌, ◌≤◌, ◌<◌}
+use Prim.Native.Nat.{ℕ, suc, ◌+◌, ◌≤◌, ◌<◌}
 use mathlib.Core.Path.{◌≡◌, refl, ap, sym, ◌∙◌, subst}
 use mathlib.Core.Bool.{true, false}
 use mathlib.Core.List.{List, [], ◌∷◌}
 use native.Mathlib.Omega.{arith}
 use borrow.Author.Tests.{leb-false}
 use lib.Dec.{T}
-use lib.IntN.{ℤ, pos, negsuc}
+use lib.IntN.{ℤ, pos, negsuc, nat_abs}
 use lib.ListN.{length, set}
 use lib.Seq.{sets, set_comm}
 use lib.Signed.{le_z}
@@ -17,33 +17,26 @@ use Rattle.text.specs.Append.{Appends, fits, no_room}
 use Rattle.text.specs.Decimal.{decimal, minus, spelled}
 use Rattle.text.proofs.Appending.{with-room}
 
-plain : (z : ℤ) → le_z (pos 0) z ≡ true → decimal (of_z w64 z) ≡ spelled z
+plain : (z : ℤ) → le_z (pos 0) z ≡ true → decimal (nat_abs z) ≡ spelled z
 unfolding spelled
 plain (pos n) t = refl
 plain (negsuc n) t = absurd (subst T (sym t) tt)
 
-turned : (z : ℤ) → SFits w64 z → le_z (pos 0) z ≡ false → (0 < of_z w64 z) × (minus ∷ decimal ((2 ^ 64 - 1) - of_z w64 z + 1) ≡ spelled z)
+turned : (z : ℤ) → le_z (pos 0) z ≡ false → minus ∷ decimal (nat_abs z) ≡ spelled z
 unfolding spelled
-turned (pos n) f t = absurd (let none : ⊥ = omega (arith, leb-false 0 n t) in none)
-turned (negsuc n) f t = (omega (arith, f.sfits), ap (λ (k : ℕ). minus ∷ decimal k) (omega (arith, f.sfits)))
+turned (pos n) t = absurd (let none : ⊥ = omega (arith, leb-false 0 n t) in none)
+turned (negsuc n) t = refl
 
--- of a number that a local holds, and its bits: they are its size, or turned over and one more
-module _ (z : ℤ) (f : SFits w64 z) (b : ℕ) (e : b ≡ of_z w64 (to_z w64 (of_z w64 z))) where
-  pub no_sign : le_z (pos 0) (to_z w64 (of_z w64 z)) ≡ true → decimal b ≡ spelled z
-  no_sign t = ap decimal e ∙ plain (to_z w64 (of_z w64 z)) t ∙ ap spelled (to_z-of_z w64 z f)
+-- a number that a local holds, and its size
+module _ (z : ℤ) (f : SFits w64 z) (n : ℕ) (e : n ≡ nat_abs (to_z w64 (of_z w64 z))) where
+  size : n ≡ nat_abs z
+  size = e ∙ ap nat_abs (to_z-of_z w64 z f)
 
-  module _ (t : le_z (pos 0) (to_z w64 (of_z w64 z)) ≡ false) where
-    both : (0 < of_z w64 z) × (minus ∷ decimal ((2 ^ 64 - 1) - of_z w64 z + 1) ≡ spelled z)
-    both = turned z f (rw (to_z-of_z w64 z f) at t)
+  pub no_sign : le_z (pos 0) (to_z w64 (of_z w64 z)) ≡ true → decimal n ≡ spelled z
+  no_sign t = ap decimal size ∙ plain z (rw (to_z-of_z w64 z f) at t)
 
-    bits : b ≡ of_z w64 z
-    bits = e ∙ ap (of_z w64) (to_z-of_z w64 z f)
-
-    pub some-bit : 0 < b
-    some-bit = omega (arith, bits, both.0)
-
-    pub sign : minus ∷ decimal ((2 ^ 64 - 1) - b + 1) ≡ spelled z
-    sign = ap (λ (k : ℕ). minus ∷ decimal ((2 ^ 64 - 1) - k + 1)) bits ∙ both.1
+  pub sign : le_z (pos 0) (to_z w64 (of_z w64 z)) ≡ false → minus ∷ decimal n ≡ spelled z
+  sign t = ap (λ (k : ℕ). minus ∷ decimal k) size ∙ turned z (rw (to_z-of_z w64 z f) at t)
 
 set-sets : (vs out : List ℕ) (i j b : ℕ) → i < j → set (sets out j vs) i b ≡ sets (set out i b) j vs
 set-sets [] out i j b h = refl

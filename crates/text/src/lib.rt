@@ -40,15 +40,13 @@ pub fn decimal(n: u64, out: &mut [u8], at: usize) -> usize
 pub fn signed(n: i64, out: &mut [u8], at: usize) -> usize
     ensures { Appends (spelled n) out.old at result out.new }
 {
-    let bits = scalar::sign::bits64(n);
+    let size = n.unsigned_abs();
     if 0 <= n {
-        return decimal(bits, out, at);
+        return decimal(size, out, at);
     }
     if out.len() <= at {
         return at;
     }
-    // -n by its bits: of the least n no i64 holds it
-    let size = !bits + 1;
     let first = at + 1;
     let end = decimal(size, out, first);
     if end == first {

@@ -5,13 +5,15 @@ use mathlib.Core.Bool.{Bool, true, false, ◌&&◌}
 use mathlib.Core.List.{List, [], ◌∷◌}
 use mathlib.Core.Logic.{◌↔◌}
 use lib.Dec.{T, ltb, ltb→lt, lit<}
+use Rattle.std.specs.Prelude.{Result}
 use Rattle.scalar.specs.Scalar.{clamp, sat, iaddsat, inarrow, iq15mulrsat, idot}
 use Rattle.operation.specs.Vector.{lane, build}
 use Rattle.lane.specs.declared.V128.{V128}
 use Rattle.leb128.specs.Number.{last_of, before, int_of, number_at}
 use Rattle.leb128.specs.Promise.{ReadsNumber}
 use Rattle.leb128.specs.Bytes.{bytes}
-use Rattle.leb128.specs.declared.read.Leb.{Leb}
+use Rattle.leb128.specs.declared.reading.Number.{Number}
+use Rattle.leb128.specs.declared.reading.NoNumber.{NoNumber}
 use Rattle.leb128.proofs.Exact.{reads-number}
 use Rattle.weights.specs.Weights.{All, none, ◌and◌, Holds, weights}
 
@@ -29,7 +31,7 @@ are-bytes (b ∷ bs) h zero = ltb→lt b 256 (both (ltb b 256) (small bs) h).0
 are-bytes (b ∷ bs) h (suc i) = are-bytes bs (both (ltb b 256) (small bs) h).1 i
 
 -- what the reader computes from bytes meets its contract, and nothing else does
-read : (sign : Bool) (N : ℕ) (s : List ℕ) → T (small s) → (said : Leb) → number_at sign N s 0 ≡ said → (r : Leb) → ReadsNumber sign N s 0 r ↔ (r ≡ said)
+read : (sign : Bool) (N : ℕ) (s : List ℕ) → T (small s) → (said : Result Number NoNumber) → number_at sign N s 0 ≡ said → (r : Result Number NoNumber) → ReadsNumber sign N s 0 r ↔ (r ≡ said)
 read sign N s h said e r = ((λ m. m.answer ∙ e), (λ f. reads-number sign N s 0 (are-bytes s h) r (f ∙ sym e)))
 
 -- where the operation computes to what is said, the contract is the equation

@@ -1,21 +1,17 @@
 -- 01, "Test weights": those marked P, in one list. A weight is put on the contract of a function of lane, or on a reading by leb128's contract.
-use Rattle.std.specs.Prelude.{ℕ, ◌≡◌, Bool, true, false, ◌↔◌, List, [], ◌∷◌, ℤ, pos, neg_ℤ}
+use Rattle.std.specs.Prelude.{ℕ, ◌≡◌, Bool, true, false, ◌↔◌, List, [], ◌∷◌, Result, Err, ℤ, pos, neg_ℤ}
 use Rattle.std.specs.Int.{Width}
-use Rattle.scalar.specs.Scalar.{wrap}
+use Rattle.scalar.specs.Scalar.{S, U, wrap}
 use Rattle.operation.specs.Shape.{i8x16, i16x8, i32x4}
 use Rattle.operation.specs.Vector.{vec}
+use Rattle.operation.specs.Op.{Add, AddSat, DotS, Narrow, Q15mulrSatS, binary}
 use Rattle.lane.specs.declared.V128.{V128}
-use Rattle.lane.proofs.i8x16.add.Reads as add
-use Rattle.lane.proofs.i8x16.add_sat_u.Reads as add-sat-u
-use Rattle.lane.proofs.i8x16.add_sat_s.Reads as add-sat-s
-use Rattle.lane.proofs.i8x16.narrow_i16x8_u.Reads as narrow-i16x8-u
-use Rattle.lane.proofs.i8x16.narrow_i16x8_s.Reads as narrow-i16x8-s
-use Rattle.lane.proofs.i16x8.q15mulr_sat_s.Reads as q15mulr-sat-s
-use Rattle.lane.proofs.i32x4.dot_i16x8_s.Reads as dot-i16x8-s
 use Rattle.leb128.specs.Bits.{bits}
+use Rattle.leb128.specs.Number.{number_of}
 use Rattle.leb128.specs.Promise.{ReadsNumber}
-use Rattle.leb128.specs.declared.read.Leb.{Leb}
-use Rattle.leb128.specs.declared.read.Leb.TheVariants.{Val, Number}
+use Rattle.leb128.specs.declared.reading.Number.{Number}
+use Rattle.leb128.specs.declared.reading.NoNumber.{NoNumber}
+use Rattle.leb128.specs.declared.reading.NoNumber.TheVariants.{Wrong}
 
 -- the functions of lane that 01 weighs
 pub data Function : Type 0 where
@@ -27,27 +23,26 @@ pub data Function : Type 0 where
   i16x8_q15mulr_sat_s : Function
   i32x4_dot_i16x8_s : Function
 
--- What each promises of its answer r to the vectors a and b. `Post` is made by the prover out of the `ensures` in lane's text, and speaks of the
--- lifetimes (none), the arguments, the answer, and the arguments at the end, which are as they were.
+-- what each promises of its answer r to the vectors a and b; src/ shows it of lane's function, at its shape
 abbrev pub Promises : Function → V128 → V128 → V128 → Type 0
-Promises i8x16_add a b r = add.Post tt (a, (b, tt)) r (a, (b, tt))
-Promises i8x16_add_sat_u a b r = add-sat-u.Post tt (a, (b, tt)) r (a, (b, tt))
-Promises i8x16_add_sat_s a b r = add-sat-s.Post tt (a, (b, tt)) r (a, (b, tt))
-Promises i8x16_narrow_i16x8_u a b r = narrow-i16x8-u.Post tt (a, (b, tt)) r (a, (b, tt))
-Promises i8x16_narrow_i16x8_s a b r = narrow-i16x8-s.Post tt (a, (b, tt)) r (a, (b, tt))
-Promises i16x8_q15mulr_sat_s a b r = q15mulr-sat-s.Post tt (a, (b, tt)) r (a, (b, tt))
-Promises i32x4_dot_i16x8_s a b r = dot-i16x8-s.Post tt (a, (b, tt)) r (a, (b, tt))
+Promises i8x16_add a b r = r.bytes ≡ binary (Add i8x16) a.bytes b.bytes
+Promises i8x16_add_sat_u a b r = r.bytes ≡ binary (AddSat U i8x16) a.bytes b.bytes
+Promises i8x16_add_sat_s a b r = r.bytes ≡ binary (AddSat S i8x16) a.bytes b.bytes
+Promises i8x16_narrow_i16x8_u a b r = r.bytes ≡ binary (Narrow U i8x16) a.bytes b.bytes
+Promises i8x16_narrow_i16x8_s a b r = r.bytes ≡ binary (Narrow S i8x16) a.bytes b.bytes
+Promises i16x8_q15mulr_sat_s a b r = r.bytes ≡ binary Q15mulrSatS a.bytes b.bytes
+Promises i32x4_dot_i16x8_s a b r = r.bytes ≡ binary DotS a.bytes b.bytes
 
 pub data Weight : Type 0 where
   -- a function of lane on two vectors, and the vector that it answers
   lanes : Function → List ℕ → List ℕ → List ℕ → Weight
   -- a number of N bits (true: signed) read from the first of these bytes on, and what is answered
-  reading : Bool → ℕ → List ℕ → Leb → Weight
+  reading : Bool → ℕ → List ℕ → Result Number NoNumber → Weight
 
 -- an answer meets the contract exactly where it is the one said
 abbrev pub Holds : Weight → Type 0
 Holds (lanes f a b said) = (r : V128) → Promises f (record { bytes = a }) (record { bytes = b }) r ↔ (r.bytes ≡ said)
-Holds (reading sign N bytes said) = (r : Leb) → ReadsNumber sign N bytes 0 r ↔ (r ≡ said)
+Holds (reading sign N bytes said) = (r : Result Number NoNumber) → ReadsNumber sign N bytes 0 r ↔ (r ≡ said)
 
 -- of every weight of a list
 infixr 5 ◌and◌
@@ -74,9 +69,9 @@ weights =
     lanes i16x8_q15mulr_sat_s (every i16x8 (pos 1)) (every i16x8 (pos 16384)) (every i16x8 (pos 1)) ∷
     lanes i16x8_q15mulr_sat_s (every i16x8 (pos 1)) (every i16x8 (minus 16384)) (every i16x8 (pos 0)) ∷
     lanes i32x4_dot_i16x8_s (every i16x8 (minus 32768)) (every i16x8 (minus 32768)) (every i32x4 (minus 2147483648)) ∷
-    reading false 32 (0x8E ∷ 0x01 ∷ []) (Val 142 2) ∷
-    reading false 32 (0x8E ∷ 0x81 ∷ 0x80 ∷ 0x80 ∷ 0x00 ∷ []) (Val 142 5) ∷
-    reading false 32 (0x8E ∷ 0x81 ∷ 0x80 ∷ 0x80 ∷ 0x10 ∷ []) Number ∷
-    reading true 32 (0xFF ∷ 0xFF ∷ 0xFF ∷ 0xFF ∷ 0x7F ∷ []) (Val (bits 32 (minus 1)) 5) ∷
-    reading true 32 (0xFF ∷ 0xFF ∷ 0xFF ∷ 0xFF ∷ 0x0F ∷ []) Number ∷
+    reading false 32 (0x8E ∷ 0x01 ∷ []) (number_of 142 2) ∷
+    reading false 32 (0x8E ∷ 0x81 ∷ 0x80 ∷ 0x80 ∷ 0x00 ∷ []) (number_of 142 5) ∷
+    reading false 32 (0x8E ∷ 0x81 ∷ 0x80 ∷ 0x80 ∷ 0x10 ∷ []) (Err Wrong) ∷
+    reading true 32 (0xFF ∷ 0xFF ∷ 0xFF ∷ 0xFF ∷ 0x7F ∷ []) (number_of (bits 32 (minus 1)) 5) ∷
+    reading true 32 (0xFF ∷ 0xFF ∷ 0xFF ∷ 0xFF ∷ 0x0F ∷ []) (Err Wrong) ∷
     []

@@ -1,6 +1,6 @@
 -- Inner: the walk at a place, with where the body of each open block begins.
-use Rattle.std.specs.Prelude.{ℕ, ◌≡◌, Bool, true, false, List, [], ◌∷◌, length, get_or}
-use Rattle.card.specs.Card.{DONE}
+use Rattle.std.specs.Prelude.{ℕ, ◌≡◌, Bool, true, false, List, [], ◌∷◌, length, get_or, Some, None}
+use Rattle.std.specs.declared.option.Option.{Option}
 use Rattle.limits.specs.Limits.{nest_limit}
 use Rattle.rules.specs.Typing.{Frame, Live}
 use Rattle.rules.specs.Strip.{Reaches, Valid}
@@ -23,9 +23,9 @@ pub record Coming (s : List ℕ) (version n takes : ℕ) (kinds blocks bodies : 
   pub bodies_long : length bodies ≡ nest_limit
 
 -- what was known when the walk stood at the place; where it never did, a strip that keeps every rule has no instruction there
-pub record Stood (s : List ℕ) (version n takes place : ℕ) (kinds blocks bodies : List ℕ) (there : State) : Type 0 where
-  pub known : there.code ≡ DONE → Coming s version n takes kinds blocks bodies there.depth there.nest there.floor there.dead place
-  pub nowhere : (there.code ≡ DONE → ⊥) → (v : Valid s) (fs : List Frame) → Reaches s v.header place fs → ⊥
+pub record Stood (s : List ℕ) (version n takes place : ℕ) (kinds blocks bodies : List ℕ) (there : Option State) : Type 0 where
+  pub known : (st : State) → there ≡ Some st → Coming s version n takes kinds blocks bodies st.depth st.nest st.floor st.dead place
+  pub nowhere : there ≡ None → (v : Valid s) (fs : List Frame) → Reaches s v.header place fs → ⊥
 
 -- whether code is dead
 pub record TellsDead (fs : List Frame) (r : Bool) : Type 0 where

@@ -1,12 +1,9 @@
 -- Inner: the instructions up to a place.
 use Rattle.std.specs.Prelude.{ℕ, ◌+◌, ◌<◌, ◌≤◌, ◌^◌, ◌≡◌, Bool, List, length, drop}
-use Rattle.card.specs.Card.{DONE}
 use Rattle.limits.specs.Limits.{stack_limit, nest_limit}
 use Rattle.rules.specs.Header.{Header, Declares, header_bytes, locals}
 use Rattle.rules.specs.Typing.{Frame}
 use Rattle.rules.specs.Strip.{Reaches}
-use Rattle.rules.specs.Breach.{Breach}
-use Rattle.checker.specs.declared.header.Head.{Head}
 use Rattle.checker.specs.Walk.{KindBytes, Framed}
 use Rattle.checker.specs.Inner.Blocks.{top_first}
 
@@ -24,11 +21,6 @@ pub record Begins (s : List ℕ) (version n takes start : ℕ) : Type 0 where
   pub header : Header
   pub setting : Setting s version n takes header
   pub start_is : length (header_bytes header) ≡ start
-
--- a header that was read, or its breach
-pub record HeadRead (s : List ℕ) (r : Head) : Type 0 where
-  pub whole : r.code ≡ DONE → Begins s r.version r.locals r.takes r.start
-  pub broken : (r.code ≡ DONE → ⊥) → Breach s r.code r.place
 
 -- all is well up to a place, and these frames are open
 pub record Going (s : List ℕ) (version n takes : ℕ) (kinds blocks : List ℕ) (depth nest floor : ℕ) (dead : Bool) (at : ℕ) : Type 0 where

@@ -1,33 +1,27 @@
 -- Inner: the header and the instructions, apart.
-use Rattle.std.specs.Prelude.{ℕ, ◌+◌, ◌<◌, ◌≤◌, ◌≡◌, Bool, true, false, List, [], ◌∷◌, ◌++◌, map, length, drop}
-use Rattle.card.specs.Card.{DONE, SHORT, KIND}
-use Rattle.card.specs.declared.Answer.{Answer}
+use Rattle.std.specs.Prelude.{ℕ, ◌+◌, ◌<◌, ◌≤◌, ◌≡◌, Bool, List, [], ◌∷◌, ◌++◌, map, length, drop, Ok, Err}
+use Rattle.std.specs.declared.result.Result.{Result}
+use Rattle.card.specs.Card.{SHORT, KIND}
 use Rattle.opcode.specs.Kind.{Kind, kind_byte}
 use Rattle.opcode.specs.Table.{End, plain}
 use Rattle.instr.specs.declared.Instr.{Instr}
-use Rattle.rules.specs.Header.{Version, Header, Declares, locals}
+use Rattle.rules.specs.Header.{Header, Declares, locals}
 use Rattle.rules.specs.Typing.{Frame}
-use Rattle.rules.specs.Breach.{At, Breach}
+use Rattle.rules.specs.Breach.{At}
+use Rattle.checker.specs.declared.Refusal.{Refusal}
 use Rattle.checker.specs.Inner.Stack.{Top}
 use Rattle.checker.specs.Inner.Blocks.{top_first}
 
+-- a line of the card, and its place
+abbrev pub refusal : ℕ → ℕ → Refusal
+refusal c p = record { code = c; place = p }
+
 -- n kind bytes from place 8 on
-pub data KindsSay (s : List ℕ) (n : ℕ) : ℕ → ℕ → Type 0 where
-  cut : (ks : List Kind) → length ks < n → drop 8 s ≡ map kind_byte ks → KindsSay s n SHORT (length s)
+pub data KindsSay (s : List ℕ) (n : ℕ) : Result (Unit {0}) Refusal → Type 0 where
+  cut : (ks : List Kind) → length ks < n → drop 8 s ≡ map kind_byte ks → KindsSay s n (Err (refusal SHORT (length s)))
   other : (ks : List Kind) (b : ℕ) (rest : List ℕ) → length ks < n → drop 8 s ≡ map kind_byte ks ++ b ∷ rest → ((k : Kind) → b ≡ kind_byte k → ⊥)
-      → KindsSay s n KIND (8 + length ks)
-  all : (ks : List Kind) (rest : List ℕ) → length ks ≡ n → drop 8 s ≡ map kind_byte ks ++ rest → KindsSay s n DONE 0
-
--- a byte that is no version's
-pub record OtherVersion (b : ℕ) (r : Bool) : Type 0 where
-  pub other : r ≡ true → Version b → ⊥
-  pub carried : r ≡ false → Version b
-
--- a header that is declared, or its breach
-pub record Headed (s : List ℕ) (r : Answer) : Type 0 where
-  pub steps : r.steps ≡ 0
-  pub whole : r.code ≡ DONE → (h : Header) × Declares s h
-  pub broken : (r.code ≡ DONE → ⊥) → Breach s r.code r.place
+      → KindsSay s n (Err (refusal KIND (8 + length ks)))
+  all : (ks : List Kind) (rest : List ℕ) → length ks ≡ n → drop 8 s ≡ map kind_byte ks ++ rest → KindsSay s n (Ok tt)
 
 -- the version, and how many locals and results the header declares
 pub record Counts (s : List ℕ) (version n r : ℕ) (h : Header) : Type 0 where

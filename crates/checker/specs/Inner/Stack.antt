@@ -1,7 +1,9 @@
 -- Inner: kinds taken from the stack and left on it, inside the innermost block.
-use Rattle.std.specs.Prelude.{ℕ, ◌+◌, ◌≤◌, ◌<◌, ◌≡◌, Bool, List, ◌++◌, length, drop}
+use Rattle.std.specs.Prelude.{ℕ, ◌+◌, ◌≤◌, ◌<◌, ◌≡◌, Bool, List, ◌++◌, length, drop, Some, None, Ok, Err}
+use Rattle.std.specs.declared.option.Option.{Option}
+use Rattle.std.specs.declared.result.Result.{Result}
 use Rattle.std.proofs.Math.Option.{some}
-use Rattle.card.specs.Card.{DONE, OPERAND, DEEP}
+use Rattle.card.specs.Card.{OPERAND, DEEP}
 use Rattle.limits.specs.Limits.{stack_limit}
 use Rattle.opcode.specs.Kind.{Kind}
 use Rattle.opcode.specs.Effect.{◌⇒◌}
@@ -9,9 +11,9 @@ use Rattle.opcode.specs.Number.{packed}
 use Rattle.rules.specs.Typing.{Frame, Has}
 use Rattle.checker.specs.Walk.{KindBytes}
 
--- where it is done, an array is as it was from n on
-abbrev pub Keeps : ℕ → ℕ → List ℕ → List ℕ → Type 0
-Keeps code n before after = code ≡ DONE → drop n after ≡ drop n before
+-- an array is as it was from n on
+abbrev pub Keeps : ℕ → List ℕ → List ℕ → Type 0
+Keeps n before after = drop n after ≡ drop n before
 
 -- the innermost block's values are on top of the others', which reach up to the floor
 pub record Top (kinds : List ℕ) (depth floor : ℕ) (dead : Bool) (outer : List Kind) (f : Frame) : Type 0 where
@@ -19,10 +21,10 @@ pub record Top (kinds : List ℕ) (depth floor : ℕ) (dead : Bool) (outer : Lis
   pub floor_is : length outer ≡ floor
   pub dead_is : f.dead ≡ dead
 
--- how many values lie under the operands; more than the stack holds where they are not there
-pub data Under (f : Frame) (ins : List Kind) (floor : ℕ) : ℕ → Type 0 where
-  under : (below : List Kind) → Has f below ins → Under f ins floor (floor + length below)
-  missing : {n : ℕ} → stack_limit < n → ((below : List Kind) → Has f below ins → ⊥) → Under f ins floor n
+-- how many values lie under the operands, if these are there
+pub data Under (f : Frame) (ins : List Kind) (floor : ℕ) : Option ℕ → Type 0 where
+  under : (below : List Kind) → Has f below ins → Under f ins floor (Some (floor + length below))
+  missing : ((below : List Kind) → Has f below ins → ⊥) → Under f ins floor None
 
 -- a signature whose number holds each kind in a byte of its own
 pub record Small (ins outs : List Kind) : Type 0 where
@@ -30,14 +32,14 @@ pub record Small (ins outs : List Kind) : Type 0 where
   pub one : length outs ≤ 1
   pub some : 0 < packed (some (ins ⇒ outs))
 
--- kinds left over those below: a code, and the stack's depth then
-pub data Leaves (below outs : List Kind) (kinds : List ℕ) : ℕ → ℕ → Type 0 where
-  too_many : {d : ℕ} → stack_limit < length (below ++ outs) → Leaves below outs kinds DEEP d
-  left : {d : ℕ} → length (below ++ outs) ≤ stack_limit → KindBytes kinds d (below ++ outs) → Leaves below outs kinds DONE d
+-- kinds left over those below: the stack's depth then
+pub data Leaves (below outs : List Kind) (kinds : List ℕ) : Result ℕ ℕ → Type 0 where
+  too_many : stack_limit < length (below ++ outs) → Leaves below outs kinds (Err DEEP)
+  left : {d : ℕ} → length (below ++ outs) ≤ stack_limit → KindBytes kinds d (below ++ outs) → Leaves below outs kinds (Ok d)
 
 -- operands taken and results left: the same
-pub data Applies (outer : List Kind) (f : Frame) (ins outs : List Kind) (kinds : List ℕ) : ℕ → ℕ → Type 0 where
-  lacks : {d : ℕ} → ((below : List Kind) → Has f below ins → ⊥) → Applies outer f ins outs kinds OPERAND d
-  over : {d : ℕ} (below : List Kind) → Has f below ins → stack_limit < length (outer ++ (below ++ outs)) → Applies outer f ins outs kinds DEEP d
+pub data Applies (outer : List Kind) (f : Frame) (ins outs : List Kind) (kinds : List ℕ) : Result ℕ ℕ → Type 0 where
+  lacks : ((below : List Kind) → Has f below ins → ⊥) → Applies outer f ins outs kinds (Err OPERAND)
+  over : (below : List Kind) → Has f below ins → stack_limit < length (outer ++ (below ++ outs)) → Applies outer f ins outs kinds (Err DEEP)
   fits : {d : ℕ} (below : List Kind) → Has f below ins → length (outer ++ (below ++ outs)) ≤ stack_limit → KindBytes kinds d (outer ++ (below ++ outs))
-      → Applies outer f ins outs kinds DONE d
+      → Applies outer f ins outs kinds (Ok d)

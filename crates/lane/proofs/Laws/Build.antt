@@ -2,13 +2,17 @@
 use mathlib.Core.Path.{◌≡◌, sym, ap, ap₂, ◌∙◌, subst}
 use mathlib.Core.List.{List, ◌∷◌, ◌++◌, append_assoc}
 use Prim.Native.Nat.{ℕ, ◌+◌, ◌*◌, ◌/◌, ◌%◌, ◌^◌, ◌≤◌, ◌<◌}
-use native.Mathlib.Nat.{zero-mul, mul-add, add-mul, two-mul, one-mul, mul-one, add_assoc, le_antisymm}
+use native.Mathlib.Nat.{zero-mul, mul-add, add-mul, two-mul, one-mul, mul-one, add_assoc, le_antisymm, mul-le-mul_right}
 use native.Mathlib.Numerals.{add-one}
 use native.Mathlib.Omega.{arith}
-use lib.ListN.{length, take, drop, set, length-append}
+use lib.ListN.{length, take, drop, set, replicate, length-append}
 use lib.Seq.{drop-drop, length-take-le, take_at, drop_at, take_all, set_split}
-use Rattle.operation.specs.Vector.{le, build, Sixteen}
-use Rattle.lane.specs.Inner.Put.{put}
+use mir.Syntax.{Width, w8, w16, w32, w64, w128}
+use mir.Val.{bits, bytes}
+use Rattle.operation.specs.Shape.{lanes}
+use Rattle.operation.specs.Vector.{le, build, vec, Sixteen}
+use Rattle.lane.specs.Inner.Put.{put, Wrote}
+use Rattle.operation.proofs.Laws.Vectors.{sixteen-zeros}
 use Rattle.operation.proofs.Laws.Number.{length-le, le_split, le-mod}
 
 -- at one byte putting a lane is a store
@@ -82,3 +86,41 @@ built-more k n g v v' x h b e s p = record { sixteen = s; lanes = step }
 pub built-all : (k n m : ℕ) (g : ℕ → ℕ) (v : List ℕ) → n ≤ m → m ≤ n → m * k ≡ 16 → Built k n g v → v ≡ build k m g
 built-all k n m g v h l e b =
     sym (take_all (m * k) v (omega (arith, b.sixteen.long))) ∙ subst (λ (j : ℕ). take (j * k) v ≡ build k j g) (le_antisymm h l) b.lanes
+
+-- ---- a vector of the lanes of one width
+
+-- so many lanes of width w are sixteen bytes
+sixteen-bytes : (w : Width) (m : ℕ) → m * bits w ≡ 128 → m * bytes w ≡ 16
+sixteen-bytes w8 m e = omega arith
+sixteen-bytes w16 m e = omega arith
+sixteen-bytes w32 m e = omega arith
+sixteen-bytes w64 m e = omega arith
+sixteen-bytes w128 m e = omega arith
+
+pub as-many : (w : Width) (m : ℕ) → m * bits w ≡ 128 → m ≡ lanes w
+as-many w8 m e = omega arith
+as-many w16 m e = omega arith
+as-many w32 m e = omega arith
+as-many w64 m e = omega arith
+as-many w128 m e = omega arith
+
+-- the first n lanes of v are g 0 to g (n - 1)
+abbrev pub Begun : Width → ℕ → (ℕ → ℕ) → List ℕ → Type 0
+Begun w n g v = Built (bytes w) n g v
+
+pub begun-none : (w : Width) (g : ℕ → ℕ) → Begun w 0 g (replicate 16 0)
+begun-none w g = built-none (bytes w) g (replicate 16 0) sixteen-zeros
+
+-- lane n of m is within them
+pub room : (w : Width) (m n : ℕ) → m * bits w ≡ 128 → n < m → n * bytes w + bytes w ≤ 16
+room w m n e h = within (bytes w) (sixteen-bytes w m e)
+  where
+    within : (k : ℕ) → m * k ≡ 16 → n * k + k ≤ 16
+    within k f = let l : n + 1 ≤ m = omega arith in omega (arith, mul-le-mul_right k l, add-mul n 1 k, one-mul k)
+
+pub begun-more : (w : Width) (m n : ℕ) (g : ℕ → ℕ) (v v' : List ℕ) (x : ℕ) → m * bits w ≡ 128 → n < m → Begun w n g v → Wrote w v n x v' → x ≡ g n → Begun w (n + 1) g v'
+begun-more w m n g v v' x e h b p f = built-more (bytes w) n g v v' x (room w m n e h) b f p.sixteen p.same
+
+pub begun-all : (w : Width) (m n : ℕ) (g : ℕ → ℕ) (v : List ℕ) → m * bits w ≡ 128 → n ≡ m → Begun w n g v → v ≡ vec w g
+begun-all w m n g v e h b =
+    built-all (bytes w) n (lanes w) g v (omega (arith, as-many w m e)) (omega (arith, as-many w m e)) (ap (λ (j : ℕ). j * bytes w) (sym (as-many w m e)) ∙ sixteen-bytes w m e) b

@@ -2,8 +2,8 @@
 use mathlib.Core.Path.{◌≡◌, refl, sym, ap, ap₂, ◌∙◌, subst}
 use mathlib.Core.Bool.{Bool, true, false, cond}
 use mathlib.Core.List.{List, ◌++◌}
-use Prim.Native.Nat.{ℕ, suc, ◌+◌, ◌*◌, ◌-◌, ◌/◌, ◌%◌, ◌^◌, ◌≤◌, ◌<◌}
-use native.Mathlib.Nat.{mul_comm, mul_assoc, mul-add, mul-suc, add_comm, mod-eq_of_lt, mod-lt, mul-le-mul_left}
+use Prim.Native.Nat.{ℕ, zero, suc, ◌+◌, ◌*◌, ◌-◌, ◌/◌, ◌%◌, ◌^◌, ◌≤◌, ◌<◌}
+use native.Mathlib.Nat.{mul_comm, mul_assoc, mul-add, mul-suc, add_comm, mod-lt, mul-le-mul_left}
 use native.Mathlib.Omega.{arith}
 use lib.Arith.{digits_div, digits_mod}
 use lib.Dec.{eqb, ltb}
@@ -11,10 +11,13 @@ use borrow.Author.Tests.{eqb-true, eqb-false, ltb-true, ltb-false}
 use lib.ListN.{length, take, drop, length-drop, take-append-drop}
 use lib.Seq.{length-take-le, drop-drop}
 use lib.Pow.{pow_pos, shr-shr}
-use Rattle.operation.specs.Vector.{number, le, build, Sixteen}
-use Rattle.operation.proofs.Laws.Number.{Bytes, length-le, number_append, number-le, number_lt, bytes_take, bytes_drop, field_of, field-low, field-high}
-use Rattle.operation.proofs.Laws.Build.{in-lanes, build-same}
-use Rattle.lane.specs.Inner.Put.{put}
+use mir.Syntax.{Width, w8, w16, w32, w64, w128}
+use mir.Val.{bits}
+use Rattle.operation.specs.Vector.{number, le, build, vec, lane, Sixteen}
+use Rattle.operation.proofs.Laws.Number.{Bytes, length-le, number_append, number-le, number_lt, bytes_take, bytes_drop, field_of, field-low, field-high, le-mod}
+use Rattle.operation.proofs.Laws.Build.{in-lanes}
+use Rattle.lane.specs.Inner.Put.{put, Wrote}
+use Rattle.lane.proofs.Laws.Build.{room}
 
 -- three parts: a below bit k·i, then k bits b, then c
 abbrev whole : ℕ → ℕ → ℕ → ℕ → ℕ → ℕ
@@ -100,10 +103,30 @@ module _ (k i x : ℕ) (v : List ℕ) (h : i * k + k ≤ length v) where
           ∙ field-other (8 * k) i n before (x % 2 ^ (8 * k)) (number (take k (drop (i * k) v))) behind small new old (eqb-false n i e)
           ∙ ap (λ (y : ℕ). field_of (8 * k) y n) (sym parts)
 
+-- a lane is its lowest k bytes
+build-low : (k m : ℕ) (g h : ℕ → ℕ) → ((n : ℕ) → n < m → le k (g n) ≡ le k (h n)) → build k m g ≡ build k m h
+unfolding build
+build-low k zero g h e = refl
+build-low k (suc m) g h e = ap₂ ◌++◌ (build-low k m g h (λ n l. e n (omega (arith, l)))) (e m (omega arith))
+
 -- as a vector of m lanes
-pub put-lanes : (k m i x : ℕ) (v : List ℕ) → m * k ≡ 16 → i * k + k ≤ 16 → x < 2 ^ (8 * k) → Sixteen v → Sixteen (put k v i x)
+pub put-lanes : (k m i x : ℕ) (v : List ℕ) → m * k ≡ 16 → i * k + k ≤ 16 → Sixteen v → Sixteen (put k v i x)
     → put k v i x ≡ build k m (λ n. cond (eqb n i) x (field_of (8 * k) (number v) n))
-put-lanes k m i x v e h f s s' =
+put-lanes k m i x v e h s s' =
     in-lanes k m (put k v i x) e s'
-    ∙ build-same k m (field_of (8 * k) (number (put k v i x))) (λ n. cond (eqb n i) x (field_of (8 * k) (number v) n))
-    (λ n l. field_put k i x v (subst (λ (j : ℕ). i * k + k ≤ j) (sym s.long) h) n s.bytes ∙ ap (λ (y : ℕ). cond (eqb n i) y (field_of (8 * k) (number v) n)) (mod-eq_of_lt f))
+    ∙ build-low k m (field_of (8 * k) (number (put k v i x))) (λ n. cond (eqb n i) x (field_of (8 * k) (number v) n))
+    (λ n l. ap (le k) (field_put k i x v (subst (λ (j : ℕ). i * k + k ≤ j) (sym s.long) h) n s.bytes) ∙ low (eqb n i) (field_of (8 * k) (number v) n))
+  where
+    low : (t : Bool) (y : ℕ) → le k (cond t (x % 2 ^ (8 * k)) y) ≡ le k (cond t x y)
+    low true y = le-mod k x
+    low false y = refl
+
+-- of the lanes of width w
+pub wrote-lanes : (w : Width) (m i x : ℕ) (v v' : List ℕ) → m * bits w ≡ 128 → i < m → Sixteen v → Wrote w v i x v'
+    → v' ≡ vec w (λ n. cond (eqb n i) x (lane w v n))
+unfolding lane
+wrote-lanes w8 m i x v v' e l s p = p.same ∙ put-lanes 1 16 i x v refl (room w8 m i e l) s (subst Sixteen p.same p.sixteen)
+wrote-lanes w16 m i x v v' e l s p = p.same ∙ put-lanes 2 8 i x v refl (room w16 m i e l) s (subst Sixteen p.same p.sixteen)
+wrote-lanes w32 m i x v v' e l s p = p.same ∙ put-lanes 4 4 i x v refl (room w32 m i e l) s (subst Sixteen p.same p.sixteen)
+wrote-lanes w64 m i x v v' e l s p = p.same ∙ put-lanes 8 2 i x v refl (room w64 m i e l) s (subst Sixteen p.same p.sixteen)
+wrote-lanes w128 m i x v v' e l s p = p.same ∙ put-lanes 16 1 i x v refl (room w128 m i e l) s (subst Sixteen p.same p.sixteen)

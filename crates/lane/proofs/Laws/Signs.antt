@@ -2,16 +2,16 @@
 use mathlib.Core.Path.{◌≡◌, refl, sym, ap, ap₂, ◌∙◌}
 use mathlib.Core.Bool.{Bool, true}
 use mathlib.Core.List.{List}
-use Prim.Native.Nat.{ℕ, zero, suc, ◌+◌, ◌*◌, ◌/◌, ◌%◌, ◌^◌, ◌<◌, suc-le-suc}
-use native.Mathlib.Nat.{add-zero, mod-lt, mod-eq_of_lt, div-lt_iff_lt-mul}
+use Prim.Native.Nat.{ℕ, zero, suc, ◌+◌, ◌*◌, ◌/◌, ◌%◌, ◌^◌, ◌≤◌, ◌<◌, suc-le-suc}
+use native.Mathlib.Nat.{add-zero, mul_comm, mul-le-mul, mod-lt, mod-eq_of_lt, div-lt_iff_lt-mul}
 use native.Mathlib.Omega.{arith}
 use lib.Bits.{bit_and, and_zero_r, and_block, and_mask}
 use lib.Dec.{eqb}
 use lib.IntN.{pos}
 use lib.Signed.{lt_z}
-use lib.Pow.{pow_pos, split, high, low}
+use lib.Pow.{pow_pos, pow_mono, split, high, low}
 use borrow.Author.Tests.{eqb-true}
-use mir.Syntax.{Width, w64}
+use mir.Syntax.{Width, w8, w16, w32, w64, w128}
 use mir.Val.{bits, hbits, to_z}
 use mir.ValLaws.{pow-bits}
 use Rattle.operation.specs.Shape.{lanes}
@@ -20,6 +20,7 @@ use Rattle.operation.specs.Op.{Bitmask, truth, all, tally, test}
 use Rattle.operation.proofs.Laws.Number.{field_of}
 use Rattle.operation.proofs.Laws.Scan.{all-each, sign_bit, truth-le, tally-lt, tally-same, tally-parts, tally-low}
 use Rattle.lane.specs.Inner.Words.{fieldwise, signs}
+use Rattle.lane.proofs.Laws.Build.{as-many}
 use Rattle.lane.proofs.Laws.Words.{fieldwise-same, field_next, field-first, masked-here, word_lane}
 
 -- ---- a vector's signs are those of its two words
@@ -54,11 +55,34 @@ pub signs-lt : (w : Width) (x : ℕ) → signs w x < 2 ^ (64 / bits w)
 unfolding signs
 signs-lt w x = tally-lt (64 / bits w) (sign_at w x)
 
--- as a function has them: s and s', the signs of the words x and x'
-pub both_words : (w : Width) (v : List ℕ) {s s' x x' : ℕ} → 64 / bits w + 64 / bits w ≡ lanes w
-    → s ≡ signs w x → x ≡ lane w64 v 0 → s' ≡ signs w x' → x' ≡ lane w64 v 1 → s + 2 ^ (64 / bits w) * s' ≡ test (Bitmask w) v
-both_words w v e p q p' q' =
-    ap₂ (λ (a b : ℕ). a + 2 ^ (64 / bits w) * b) (p ∙ ap (signs w) q) (p' ∙ ap (signs w) q') ∙ sym (by-words w v e)
+few : (w : Width) → 64 / bits w ≤ 8
+few w8 = omega arith
+few w16 = omega arith
+few w32 = omega arith
+few w64 = omega arith
+few w128 = omega arith
+
+-- as a function has them: s and s', the signs of the words x and x', s' shifted past those of x
+pub sign-words : (w : Width) (m : ℕ) (v : List ℕ) {s s' x x' l : ℕ} → m * bits w ≡ 128 → 64 / bits w + 64 / bits w ≡ lanes w → l ≡ m
+    → s ≡ signs w x → x ≡ lane w64 v 0 → s' ≡ signs w x' → x' ≡ lane w64 v 1 → s + s' * 2 ^ (l / 2) % 2 ^ 32 ≡ test (Bitmask w) v
+sign-words w m v {s} {s'} {x} {x'} {l} e h f p q p' q' =
+    ap₂ ◌+◌ (p ∙ ap (signs w) q) (ap (λ (j : ℕ). s' * 2 ^ j % 2 ^ 32) half ∙ mod-eq_of_lt small ∙ mul_comm s' (2 ^ k) ∙ ap (λ (y : ℕ). 2 ^ k * y) (p' ∙ ap (signs w) q'))
+    ∙ sym (by-words w v h)
+  where
+    k : ℕ
+    k = 64 / bits w
+
+    half : l / 2 ≡ k
+    half = omega (arith, as-many w m e)
+
+    least : 2 ^ k ≤ 2 ^ 8
+    least = pow_mono (few w)
+
+    below : s' ≤ 2 ^ 8
+    below = omega (arith, signs-lt w x', least)
+
+    small : s' * 2 ^ k < 2 ^ 32
+    small = omega (arith, mul-le-mul below least)
 
 -- ---- a word's signs by one product
 

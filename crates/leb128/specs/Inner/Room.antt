@@ -1,8 +1,5 @@
--- Inner: widths by their largest number, room = 2^N - 1, as the loops have them.
-use Rattle.std.specs.Prelude.{ℕ, ◌-◌, ◌/◌, ◌^◌, Bool, true, false, cond, ◌&&◌, ltb, leb, ℤ, pos, negsuc}
-
-abbrev pub width_of : ℕ → ℕ
-width_of room = cond (ltb room (2 ^ 32)) 32 64
+-- Inner: the bits that are open by the largest number that they hold, room = 2^N - 1, as the loops have them.
+use Rattle.std.specs.Prelude.{ℕ, ◌-◌, ◌/◌, Bool, true, false, cond, ltb, leb, ℤ, pos, negsuc}
 
 -- a last byte stays within the bits that are left
 abbrev pub allowed_in : Bool → ℕ → ℕ → Bool
@@ -18,9 +15,3 @@ extended_to true room b = cond (ltb b 64) b (room - (127 - b))
 abbrev pub int : Bool → ℕ → ℤ
 int false n = pos n
 int true n = negsuc n
-
-abbrev pub is_negative : Bool → ℕ → ℕ → Bool
-is_negative sign room v = sign && ltb (room / 2) v
-
-abbrev pub magnitude_of : Bool → ℕ → ℕ → ℕ
-magnitude_of neg room v = cond neg (room - v) v

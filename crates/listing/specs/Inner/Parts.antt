@@ -1,5 +1,5 @@
 -- Inner: the parts of a line.
-use Rattle.std.specs.Prelude.{ℕ, zero, suc, ◌<◌, ◌≤◌, ◌≡◌, cond, List, [], ◌∷◌, ◌++◌, eqb, length, get_or}
+use Rattle.std.specs.Prelude.{ℕ, zero, suc, ◌≤◌, ◌≡◌, cond, List, [], ◌∷◌, ◌++◌, eqb, length}
 use Rattle.limits.specs.Limits.{stack_limit}
 use Rattle.text.specs.Words.{blank}
 use Rattle.text.specs.Append.{Appends}
@@ -25,11 +25,6 @@ kind_text b = cond (eqb b (kind_byte i32)) (kind_name i32) (cond (eqb b (kind_by
 abbrev pub between : ℕ → List ℕ
 between zero = []
 between (suc k) = blank ∷ []
-
--- a name: at most 32 letters, none of them a blank, which stands after the last
-pub record Lettered (xs : List ℕ) : Type 0 where
-  pub few : length xs ≤ 32
-  pub letters : (k : ℕ) → k < length xs → blank < get_or xs k 0
 
 -- a text of at most so many bytes, from a place on
 pub record Adds (most : ℕ) (text out : List ℕ) (at next : ℕ) (out' : List ℕ) : Type 0 where

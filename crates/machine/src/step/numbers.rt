@@ -7,7 +7,6 @@ ghost use Rattle.operation.specs.Vector.{le};
 ghost use Rattle.machine.specs.Inner.Flat.{HasOperands, slot_at, put_slot, top_of, low32};
 
 use crate::slot;
-use scalar::wrapping::{add32, sub32};
 
 // A number as a new value.
 pub(crate) fn push_number(x: u64, stack: &mut [u8], depth: usize)
@@ -23,7 +22,7 @@ pub(crate) fn add(stack: &mut [u8], depth: usize)
 {
     let b = slot::word(slot::top(stack, depth, 1));
     let a = slot::word(slot::top(stack, depth, 2));
-    slot::put(stack, depth - 2, slot::of_number(add32(a, b) as u64));
+    slot::put(stack, depth - 2, slot::of_number(a.wrapping_add(b) as u64));
 }
 
 pub(crate) fn sub(stack: &mut [u8], depth: usize)
@@ -32,7 +31,7 @@ pub(crate) fn sub(stack: &mut [u8], depth: usize)
 {
     let b = slot::word(slot::top(stack, depth, 1));
     let a = slot::word(slot::top(stack, depth, 2));
-    slot::put(stack, depth - 2, slot::of_number(sub32(a, b) as u64));
+    slot::put(stack, depth - 2, slot::of_number(a.wrapping_sub(b) as u64));
 }
 
 pub(crate) fn eqz(stack: &mut [u8], depth: usize)
@@ -40,13 +39,7 @@ pub(crate) fn eqz(stack: &mut [u8], depth: usize)
     ensures { stack.new ≡ put_slot stack.old (depth - 1) (le 16 (cond (eqb (low32 (top_of stack.old depth 1)) 0) 1 0)) }
 {
     let a = slot::word(slot::top(stack, depth, 1));
-    slot::put(stack, depth - 1, slot::of_number(is_zero(a)));
-}
-
-fn is_zero(a: u32) -> u64
-    ensures { result ≡ cond (eqb a 0) 1 0 }
-{
-    if a == 0 { 1 } else { 0 }
+    slot::put(stack, depth - 1, slot::of_number(u64::from(a == 0)));
 }
 
 pub(crate) fn lt_u(stack: &mut [u8], depth: usize)
@@ -55,13 +48,7 @@ pub(crate) fn lt_u(stack: &mut [u8], depth: usize)
 {
     let b = slot::word(slot::top(stack, depth, 1));
     let a = slot::word(slot::top(stack, depth, 2));
-    slot::put(stack, depth - 2, slot::of_number(is_less(a, b)));
-}
-
-fn is_less(a: u32, b: u32) -> u64
-    ensures { result ≡ cond (ltb a b) 1 0 }
-{
-    if a < b { 1 } else { 0 }
+    slot::put(stack, depth - 2, slot::of_number(u64::from(a < b)));
 }
 
 pub(crate) fn get_local(index: u32, locals: &[u8], stack: &mut [u8], depth: usize)

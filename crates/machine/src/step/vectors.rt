@@ -9,8 +9,9 @@ ghost use Rattle.opcode.specs.Table.{does};
 ghost use Rattle.opcode.specs.Number.{row_of};
 ghost use Rattle.machine.specs.Inner.Flat.{HasOperands, put_slot, top_of, low32, lowest};
 
+use crate::vector::ZEROS;
 use crate::{slot, vector};
-use lane::{V128, i8x16};
+use lane::V128;
 
 pub(crate) fn unary(id: u32, stack: &mut [u8], depth: usize)
     requires { HasOperands 1 stack.old depth }
@@ -43,7 +44,11 @@ pub(crate) fn shuffle(indices: V128, stack: &mut [u8], depth: usize)
 {
     let b = slot::top(stack, depth, 1);
     let a = slot::top(stack, depth, 2);
-    slot::put(stack, depth - 2, i8x16::shuffle(a, b, indices).value);
+    slot::put(
+        stack,
+        depth - 2,
+        lane::shuffle(a, b, indices).unwrap_or(ZEROS),
+    );
 }
 
 pub(crate) fn test(id: u32, stack: &mut [u8], depth: usize)

@@ -7,17 +7,18 @@ ghost use Rattle.operation.specs.Op.{Splat, ExtractLane, ReplaceLane, splat, ext
 ghost use Rattle.opcode.specs.Table.{carried, vector};
 ghost use Rattle.opcode.specs.Number.{row_of};
 
-use lane::{V128, i8x16, i16x8, i32x4, i64x2};
+use crate::vector::ZEROS;
+use lane::{I8x16, I16x8, I32x4, I64x2, Integer, Packed, Unpacked, V128};
 
 pub(crate) fn splat(id: u32, x: u64) -> V128
     ensures { (w : Width) → row_of id ≡ carried (vector (Splat w)) → result.bytes ≡ splat w x }
 {
     match id {
-        0x10F => i8x16::splat((x % 0x1_0000_0000) as u32),
-        0x110 => i16x8::splat((x % 0x1_0000_0000) as u32),
-        0x111 => i32x4::splat((x % 0x1_0000_0000) as u32),
-        0x112 => i64x2::splat(x),
-        _ => V128 { bytes: [0u8; 16] },
+        0x10F => I8x16::splat((x % 0x1_0000_0000) as u32),
+        0x110 => I16x8::splat((x % 0x1_0000_0000) as u32),
+        0x111 => I32x4::splat((x % 0x1_0000_0000) as u32),
+        0x112 => I64x2::splat(x),
+        _ => ZEROS,
     }
 }
 
@@ -25,12 +26,12 @@ pub(crate) fn extract(id: u32, a: V128, lane: u8) -> u64
     ensures { (s : Sign) (w : Width) → row_of id ≡ carried (vector (ExtractLane s w)) → lane < lanes w → result ≡ extracted s w a.bytes lane }
 {
     match id {
-        0x115 => i8x16::extract_lane_s(a, lane).value,
-        0x116 => i8x16::extract_lane_u(a, lane).value,
-        0x118 => i16x8::extract_lane_s(a, lane).value,
-        0x119 => i16x8::extract_lane_u(a, lane).value,
-        0x11B => i32x4::extract_lane(a, lane).value,
-        0x11D => i64x2::extract_lane(a, lane).value,
+        0x115 => I8x16::extract_lane_s(a, lane).unwrap_or(0),
+        0x116 => I8x16::extract_lane_u(a, lane).unwrap_or(0),
+        0x118 => I16x8::extract_lane_s(a, lane).unwrap_or(0),
+        0x119 => I16x8::extract_lane_u(a, lane).unwrap_or(0),
+        0x11B => I32x4::extract_lane(a, lane).unwrap_or(0),
+        0x11D => I64x2::extract_lane(a, lane).unwrap_or(0),
         _ => 0,
     }
 }
@@ -39,10 +40,10 @@ pub(crate) fn replace(id: u32, a: V128, lane: u8, x: u64) -> V128
     ensures { (w : Width) → row_of id ≡ carried (vector (ReplaceLane w)) → lane < lanes w → result.bytes ≡ replaced w a.bytes lane x }
 {
     match id {
-        0x117 => i8x16::replace_lane(a, lane, (x % 0x1_0000_0000) as u32).value,
-        0x11A => i16x8::replace_lane(a, lane, (x % 0x1_0000_0000) as u32).value,
-        0x11C => i32x4::replace_lane(a, lane, (x % 0x1_0000_0000) as u32).value,
-        0x11E => i64x2::replace_lane(a, lane, x).value,
-        _ => V128 { bytes: [0u8; 16] },
+        0x117 => I8x16::replace_lane(a, lane, (x % 0x1_0000_0000) as u32).unwrap_or(ZEROS),
+        0x11A => I16x8::replace_lane(a, lane, (x % 0x1_0000_0000) as u32).unwrap_or(ZEROS),
+        0x11C => I32x4::replace_lane(a, lane, (x % 0x1_0000_0000) as u32).unwrap_or(ZEROS),
+        0x11E => I64x2::replace_lane(a, lane, x).unwrap_or(ZEROS),
+        _ => ZEROS,
     }
 }

@@ -1,12 +1,10 @@
--- The row that has the id's name.
-use mathlib.Core.Path.{refl, ◌∙◌}
 use native.Mathlib.Omega.{arith}
-use Rattle.mnemonic.proofs.Texts.{row_inside}
-use Rattle.mnemonic.proofs.Table.{read}
+use Rattle.mnemonic.proofs.Ids.{nameless}
+use Rattle.mnemonic.proofs.Table.{entry}
 use Rattle.mnemonic.proofs.name.Goals as goal
 
-pub in_block-requires : goal.in_block-requires
-in_block-requires c = (omega (arith, row_inside c.args.id), (omega arith, refl))
+pub returns-in-256-to-511 : goal.returns-in-256-to-511
+returns-in-256-to-511 c = search (entry, arith)
 
-pub returns : goal.returns
-returns c = c.in_block.ensures ∙ read _ c.row-r.ensures
+pub returns-in_default : goal.returns-in_default
+returns-in_default c = search (nameless, arith)

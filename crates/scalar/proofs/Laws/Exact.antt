@@ -1,15 +1,13 @@
 -- Of one lane, once over the width (01, "Lane rules"): an extended product is exact and never leaves its lane; a dot product wraps only where
 -- all four inputs are the least value.
-use Rattle.std.proofs.Common.{◌≡◌, ℕ, zero, suc, ◌+◌, ◌-◌, ◌*◌, ◌^◌, ◌<◌, ◌≤◌, T, ltb, ◌⊎◌, ◌↔◌, ℤ, pos, negsuc, ◌+ℤ◌, ◌*ℤ◌, neg_ℤ, nat_abs, sym, refl, ap, ◌∙◌, subst, ap₂, inl, inr, lt_of_le_of_lt, le_of_lt, mod-eq_of_lt, mul_comm, mul-le-mul, eq-or-lt_of_le, mul-le-mul_left, mul-lt-mul_of_pos_right, pow-suc, arith, lt→ltb, pow_pos, pow-add}
+use Rattle.std.proofs.Common.{◌≡◌, ℕ, zero, suc, ◌+◌, ◌-◌, ◌*◌, ◌^◌, ◌<◌, ◌≤◌, ◌⊎◌, ◌↔◌, ℤ, pos, negsuc, ◌+ℤ◌, ◌*ℤ◌, neg_ℤ, nat_abs, sym, refl, ap, ◌∙◌, subst, ap₂, inl, inr, lt_of_le_of_lt, le_of_lt, mod-eq_of_lt, mul_comm, eq-or-lt_of_le, mul-le-mul_left, mul-lt-mul_of_pos_right, pow-suc, arith, pow_pos, pow-add}
 use lib.Signed.{mag}
 use mir.Syntax.{Width}
 use mir.Val.{bits, hbits}
-use mir.ValLaws.{bits-suc, to_z-Fits}
+use mir.ValLaws.{bits-suc}
 use Rattle.scalar.specs.Bounds.{least}
 use Rattle.scalar.specs.Scalar.{Sign, S, U, value, wrap, iextmul, idot}
-use Rattle.scalar.proofs.Laws.Integers.{wrap-lt}
-use Rattle.scalar.proofs.Laws.Product.{below}
-use Rattle.scalar.proofs.Laws.Twos.{crossed, half-power, product-fits}
+use Rattle.scalar.proofs.Laws.Twos.{crossed, half-power, product-abs, product-fits, signed}
 use Rattle.scalar.proofs.Laws.Wrap.{sub_cases, wrap-held}
 
 -- w' has twice the bits of w
@@ -20,11 +18,14 @@ half-bits : (w w' : Width) → Doubles w w' → hbits w' ≡ suc (hbits w + hbit
 half-bits w w' e = omega (arith, bits-suc w, bits-suc w', e)
 
 -- a signed integer that w' holds is read back
-read_back : (w : Width) (z : ℤ) → mag z < 2 ^ hbits w → value S w (wrap w z) ≡ z
+pub read_back : (w : Width) (z : ℤ) → mag z < 2 ^ hbits w → value S w (wrap w z) ≡ z
 read_back w z h = ap (value S w) (wrap-held w z h) ∙ crossed w z h
 
-signed : (w : Width) (x : ℕ) → x < 2 ^ bits w → mag (value S w x) < 2 ^ hbits w
-signed w x h = (to_z-Fits w x (record { fits = h })).sfits
+-- a product of two numbers of k bits has k + k
+below : (k : ℕ) {a b : ℕ} → a < 2 ^ k → b < 2 ^ k → a * b < 2 ^ (k + k)
+below k {a} {b} ha hb =
+    subst (λ (n : ℕ). a * b < n) (sym (pow-add 2 k k))
+    (lt_of_le_of_lt (mul-le-mul_left a (le_of_lt hb)) (mul-lt-mul_of_pos_right ha (pow_pos k)))
 
 -- the lane of twice the width, read by the same ending, is the product of the two lanes
 pub extmul-exact : (s : Sign) (w w' : Width) (x y : ℕ) → Doubles w w' → x < 2 ^ bits w → y < 2 ^ bits w
@@ -32,13 +33,10 @@ pub extmul-exact : (s : Sign) (w w' : Width) (x y : ℕ) → Doubles w w' → x 
 unfolding iextmul
 extmul-exact U w w' x y e hx hy = ap pos (mod-eq_of_lt (subst (λ (k : ℕ). x * y < 2 ^ k) (sym e) (below (bits w) hx hy)))
 extmul-exact S w w' x y e hx hy =
-    read_back w' (value S w x *ℤ value S w y) (product-fits w w' (value S w x) (value S w y) wide (signed w x hx) (signed w y hy)).sfits
+    read_back w' (value S w x *ℤ value S w y) (product-fits w w' (value S w x) (value S w y) wide (signed w x) (signed w y)).sfits
   where
-    more : hbits w + hbits w < hbits w'
-    more = omega (arith, half-bits w w' e)
-
-    wide : T (ltb (hbits w + hbits w) (hbits w'))
-    wide = lt→ltb (hbits w + hbits w) (hbits w') more
+    wide : hbits w + hbits w < hbits w'
+    wide = omega (arith, half-bits w w' e)
 
 -- ---- integers from -H to H - 1
 
@@ -52,14 +50,7 @@ abs_neg : (n : ℕ) → nat_abs (neg_ℤ (pos n)) ≡ n
 abs_neg zero = refl
 abs_neg (suc n) = refl
 
--- a product's magnitude is at most H-as-H
-product-abs : (x y : ℤ) (H : ℕ) → mag x < H → mag y < H → nat_abs (x *ℤ y) ≤ H * H
-product-abs (pos a) (pos b) H hx hy = mul-le-mul (le_of_lt hx) (le_of_lt hy)
-product-abs (pos a) (negsuc b) H hx hy = subst (λ (n : ℕ). n ≤ H * H) (sym (abs_neg (a * suc b))) (mul-le-mul (le_of_lt hx) hy)
-product-abs (negsuc a) (pos b) H hx hy = subst (λ (n : ℕ). n ≤ H * H) (sym (abs_neg (suc a * b))) (mul-le-mul hx (le_of_lt hy))
-product-abs (negsuc a) (negsuc b) H hx hy = mul-le-mul hx hy
-
--- and H-as-H is the product of two -H only
+-- H-as-H is the product of two -H only
 full-product : (x y : ℤ) (H : ℕ) → mag x < H → mag y < H → x *ℤ y ≡ pos (H * H) → (x ≡ negsuc (H - 1)) × (y ≡ negsuc (H - 1))
 full-product (pos a) (pos b) H hx hy e = absurd (omega (arith, mul-less a b H hx (le_of_lt hy), ap nat_abs e))
 full-product (pos a) (negsuc b) H hx hy e = absurd (omega (arith, mul-less a (suc b) H hx hy, sym (abs_neg (a * suc b)) ∙ ap nat_abs e))
@@ -111,16 +102,16 @@ module _ (w w' : Width) (x y x' y' : ℕ) (e : Doubles w w')
       H = 2 ^ hbits w
 
       mx : mag (value S w x) < H
-      mx = signed w x hx
+      mx = signed w x
 
       my : mag (value S w y) < H
-      my = signed w y hy
+      my = signed w y
 
       mx' : mag (value S w x') < H
-      mx' = signed w x' hx'
+      mx' = signed w x'
 
       my' : mag (value S w y') < H
-      my' = signed w y' hy'
+      my' = signed w y'
 
       second : nat_abs (value S w x' *ℤ value S w y') ≤ H * H
       second = product-abs (value S w x') (value S w y') H mx' my'
@@ -150,7 +141,7 @@ module _ (w w' : Width) (x y x' y' : ℕ) (e : Doubles w w')
               ∙ ap (λ (k : ℕ). pos (k * k + k * k)) one
 
           fits : H * H + H * H < 2 ^ hbits w'
-          fits = subst (λ (z : ℤ). mag z < 2 ^ hbits w') (f ∙ sum) (signed w' (wrap w' (p +ℤ q)) (wrap-lt w' (p +ℤ q)))
+          fits = subst (λ (z : ℤ). mag z < 2 ^ hbits w') (f ∙ sum) (signed w' (wrap w' (p +ℤ q)))
 
       at : (AllLeast w x y x' y' → ⊥) → (mag (p +ℤ q) < H * H + H * H) ⊎ ((p ≡ pos (H * H)) × (q ≡ pos (H * H)))
           → value S w' (wrap w' (p +ℤ q)) ≡ p +ℤ q

@@ -1,12 +1,16 @@
 -- For callers: "modulo 2^w" and "signed" mean what they say.
-use Rattle.std.proofs.Common.{◌≡◌, ℕ, suc, ◌+◌, ◌-◌, ◌*◌, ◌/◌, ◌%◌, ◌^◌, ◌<◌, ◌≤◌, ℤ, pos, negsuc, ◌+ℤ◌, ◌-ℤ◌, ◌*ℤ◌, sym, ap, ◌∙◌, subst, mod-lt, suc-mul, div-add-mod', arith, pow_pos}
+use Rattle.std.proofs.Common.{◌≡◌, refl, ℕ, zero, suc, ◌+◌, ◌-◌, ◌*◌, ◌/◌, ◌%◌, ◌^◌, ◌<◌, ◌≤◌, ℤ, pos, negsuc, ◌+ℤ◌, ◌-ℤ◌, ◌*ℤ◌, sym, ap, ◌∙◌, subst, mod-lt, suc-mul, div-add-mod', arith, pow_pos}
 use mir.Syntax.{Width}
 use mir.Val.{bits}
 use mir.ValLaws.{to_z_pos}
 use Rattle.scalar.specs.Bounds.{all_ones}
 use Rattle.scalar.specs.Scalar.{S, value, wrap}
-use Rattle.scalar.proofs.Laws.Saturate.{minus-lt}
 use Rattle.scalar.proofs.Laws.Twos.{half-power, high_is}
+use Rattle.scalar.proofs.Laws.Wrap.{sub_cases}
+
+minus-lt : (x y : ℕ) → x < y → pos x -ℤ pos y ≡ negsuc (y - suc x)
+minus-lt x zero h = absurd (omega arith)
+minus-lt x (suc y) h = sub_cases x (suc y) (λ z. z ≡ negsuc (suc y - suc x)) (λ l. absurd (omega arith)) (λ l. refl)
 
 -- `wrap` is the reduction modulo 2^w: below 2^w, and a multiple of 2^w away
 pub wrap-lt : (w : Width) (z : ℤ) → wrap w z < 2 ^ bits w

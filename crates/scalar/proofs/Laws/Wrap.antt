@@ -1,13 +1,13 @@
 -- An integer modulo 2^w: what the code computes for it.
-use Rattle.std.proofs.Common.{◌≡◌, ℕ, zero, suc, ◌+◌, ◌-◌, ◌*◌, ◌/◌, ◌%◌, ◌^◌, ◌<◌, ◌≤◌, Bool, true, false, cond, ltb, ℤ, pos, negsuc, ◌+ℤ◌, ◌-ℤ◌, sym, refl, ap, ◌∙◌, add-zero, mod-lt, mod-eq_of_lt, suc-mul, add-mul, add_comm, div-add-mod', arith, pow_pos, of_z, ltb-false, ltb-true}
-use native.Mathlib.Nat.{sub-zero, mod_self, zero-mod, add-mod, add-mod_right, add-mul-mod_self_right}
+use Rattle.std.proofs.Common.{◌≡◌, ℕ, zero, suc, ◌+◌, ◌-◌, ◌*◌, ◌/◌, ◌%◌, ◌^◌, ◌<◌, ◌≤◌, Bool, true, false, cond, ltb, ℤ, pos, negsuc, ◌+ℤ◌, ◌-ℤ◌, neg_ℤ, sym, refl, ap, ◌∙◌, mod-lt, mod-eq_of_lt, suc-mul, add-mul, add_comm, div-add-mod', arith, pow_pos, of_z, ltb-false, ltb-true}
+use native.Mathlib.Nat.{sub-zero, mod_self, zero-mod, add-mod, add-mul-mod_self_right, add-mod-mod}
 use lib.IntN.{sub_ℕ}
 use lib.Signed.{mag}
 use mir.Syntax.{Width}
 use mir.Val.{bits, hbits}
 use mir.ValLaws.{half_full}
 use Rattle.scalar.specs.Bounds.{all_ones}
-use Rattle.scalar.specs.Scalar.{wrap, ineg}
+use Rattle.scalar.specs.Scalar.{wrap}
 
 -- by the order of the two
 pub sub_cases : (a b : ℕ) (P : ℤ → Type 0) → (b ≤ a → P (pos (a - b))) → (a < b → P (negsuc (b - suc a))) → P (sub_ℕ a b)
@@ -24,44 +24,6 @@ wrap-nat w n h = mod-eq_of_lt h
 pub wrap-held : (w : Width) (z : ℤ) → mag z < 2 ^ hbits w → wrap w z ≡ of_z w z
 wrap-held w (pos n) h = mod-eq_of_lt (half_full w h)
 wrap-held w (negsuc n) h = ap (λ (m : ℕ). all_ones w - m) (mod-eq_of_lt (half_full w h)) ∙ omega arith
-
--- a difference: 2^w - y in place of -y
-pub wrap-minus : (w : Width) (x y : ℕ) → y ≤ 2 ^ bits w → wrap w (pos x -ℤ pos y) ≡ (x + (2 ^ bits w - y)) % 2 ^ bits w
-wrap-minus w x zero h = ap (λ (n : ℕ). n % 2 ^ bits w) (add-zero x) ∙ sym (ap (λ (n : ℕ). (x + n) % 2 ^ bits w) (sub-zero (2 ^ bits w)) ∙ add-mod_right x (2 ^ bits w))
-wrap-minus w x (suc y) h =
-    sub_cases x (suc y) (λ z. wrap w z ≡ (x + (2 ^ bits w - suc y)) % 2 ^ bits w)
-    (λ l. sym (ap (λ (n : ℕ). n % 2 ^ bits w) (over l) ∙ add-mod_right (x - suc y) (2 ^ bits w)))
-    (λ l. ap (λ (n : ℕ). all_ones w - n) (mod-eq_of_lt (small l)) ∙ under l ∙ sym (mod-eq_of_lt (least l)))
-  where
-    over : suc y ≤ x → x + (2 ^ bits w - suc y) ≡ x - suc y + 2 ^ bits w
-    over l = omega arith
-
-    small : x < suc y → suc y - suc x < 2 ^ bits w
-    small l = omega arith
-
-    under : x < suc y → all_ones w - (suc y - suc x) ≡ x + (2 ^ bits w - suc y)
-    under l = omega arith
-
-    least : x < suc y → x + (2 ^ bits w - suc y) < 2 ^ bits w
-    least l = omega arith
-
--- the bits of -x
-unfoldable pub neg_bits : Width → ℕ → ℕ
-neg_bits w x = (2 ^ bits w - x) % 2 ^ bits w
-
-pub wrap-neg : (w : Width) (x : ℕ) → x < 2 ^ bits w → ineg w x ≡ neg_bits w x
-unfolding ineg neg_bits
-wrap-neg w zero h = zero-mod (2 ^ bits w) ∙ sym (ap (λ (n : ℕ). n % 2 ^ bits w) (sub-zero (2 ^ bits w)) ∙ mod_self (2 ^ bits w))
-wrap-neg w (suc x) h = ap (λ (n : ℕ). all_ones w - n) (mod-eq_of_lt (smaller x h)) ∙ turned x ∙ sym (mod-eq_of_lt (below x))
-  where
-    smaller : (x : ℕ) → suc x < 2 ^ bits w → x < 2 ^ bits w
-    smaller x h = omega arith
-
-    turned : (x : ℕ) → all_ones w - x ≡ 2 ^ bits w - suc x
-    turned x = omega arith
-
-    below : (x : ℕ) → 2 ^ bits w - suc x < 2 ^ bits w
-    below x = omega (arith, pow_pos (bits w))
 
 -- two numbers that differ by multiples of m
 cross : (m x y p q : ℕ) → x + p * m ≡ y + q * m → x % m ≡ y % m
@@ -112,3 +74,27 @@ wrap-add w (pos a) (pos b) = add-mod a b (2 ^ bits w)
 wrap-add w (pos a) (negsuc b) = mixed w a b
 wrap-add w (negsuc a) (pos b) = mixed w b a ∙ ap (λ (n : ℕ). n % 2 ^ bits w) (add_comm (b % 2 ^ bits w) (all_ones w - a % 2 ^ bits w))
 wrap-add w (negsuc a) (negsuc b) = minus-both (2 ^ bits w) (pow_pos (bits w)) a b
+
+-- the opposite
+pub wrap-opposite : (w : Width) (q : ℤ) → wrap w (neg_ℤ q) ≡ (2 ^ bits w - wrap w q) % 2 ^ bits w
+wrap-opposite w (pos zero) =
+    zero-mod (2 ^ bits w) ∙ sym (ap (λ (n : ℕ). (2 ^ bits w - n) % 2 ^ bits w) (zero-mod (2 ^ bits w)) ∙ ap (λ (n : ℕ). n % 2 ^ bits w) (sub-zero (2 ^ bits w)) ∙ mod_self (2 ^ bits w))
+wrap-opposite w (pos (suc n)) =
+    sym (mod-eq_of_lt (omega (arith, pow_pos (bits w))))
+    ∙ cross (2 ^ bits w) (all_ones w - n % 2 ^ bits w) (2 ^ bits w - suc n % 2 ^ bits w) (suc n / 2 ^ bits w) (n / 2 ^ bits w)
+    (omega (
+      arith,
+      div-add-mod' n (2 ^ bits w),
+      div-add-mod' (suc n) (2 ^ bits w),
+      mod-lt n (pow_pos (bits w)),
+      mod-lt (suc n) (pow_pos (bits w)),
+    ))
+wrap-opposite w (negsuc n) =
+    cross (2 ^ bits w) (suc n) (2 ^ bits w - (all_ones w - n % 2 ^ bits w)) 0 (n / 2 ^ bits w)
+    (omega (arith, div-add-mod' n (2 ^ bits w), mod-lt n (pow_pos (bits w))))
+
+-- a difference modulo 2^w is that of its parts
+pub wrap-sub : (w : Width) (p q : ℤ) → wrap w (p -ℤ q) ≡ (wrap w p + (2 ^ bits w - wrap w q)) % 2 ^ bits w
+wrap-sub w p q =
+    wrap-add w p (neg_ℤ q) ∙ ap (λ (n : ℕ). (wrap w p + n) % 2 ^ bits w) (wrap-opposite w q)
+    ∙ add-mod-mod (wrap w p) (2 ^ bits w - wrap w q) (2 ^ bits w)

@@ -1,6 +1,7 @@
 -- All four, or none.
 use mathlib.Core.Path.{◌≡◌, sym, ap}
 use mathlib.Core.Bool.{Bool, true, false, cond}
+use Rattle.std.specs.Prelude.{Some}
 use Rattle.checker.proofs.body.note.Goals as goal
 
 chosen : {A : Type 0} (x y : A) (t : Bool) {b : Bool} → b ≡ t → cond t x y ≡ cond b x y
@@ -13,7 +14,7 @@ returns-then-here c =
       chosen a.kinds.now a.held.now true e,
       chosen a.blocks.now a.words.now true e,
       chosen a.bodies.now a.begun.now true e,
-      chosen a.state a.there true e,
+      chosen (Some a.state) a.there true e,
     )
 
 pub returns : goal.returns
@@ -23,5 +24,5 @@ returns c =
       chosen a.kinds.now a.held.now false e,
       chosen a.blocks.now a.words.now false e,
       chosen a.bodies.now a.begun.now false e,
-      chosen a.state a.there false e,
+      chosen (Some a.state) a.there false e,
     )

@@ -1,27 +1,29 @@
-use Prim.Native.Nat.{ℕ, ◌+◌, ◌*◌, ◌%◌, ◌^◌}
-use mathlib.Core.Path.{sym, subst}
+use Prim.Native.Nat.{◌+◌, ◌-◌, ◌<◌}
+use mathlib.Core.Path.{◌≡◌, ◌∙◌}
 use native.Mathlib.Omega.{arith}
-use Rattle.checker.proofs.Digits.{Reading, reads_none, reads_more, reads_all}
+use lib.ListN.{length, take, drop, length-drop}
+use lib.Seq.{length-take-le, get_or-take, get_or-drop}
+use Rattle.checker.proofs.Digits.{reads_none, reads_more, reads_all}
 use Rattle.checker.proofs.numbers.top_first.Goals as goal
 
-pub loop-k-init : goal.loop-k-init
-loop-k-init c = reads_none c.args.strip.now c.args.from c.args.n
+pub loop-kind-init : goal.loop-kind-init
+loop-kind-init c = reads_none c.args.strip.now c.args.from c.args.n
 
-pub overflow_add-from : goal.overflow_add-from
-overflow_add-from c = omega (arith, c.requires.0, c.loop-k-test.true)
-
-pub bounds-strip-from : goal.bounds-strip-from
-bounds-strip-from c = omega (arith, c.requires.0, c.loop-k-test.true)
-
-pub overflow_add-all : goal.overflow_add-all
-overflow_add-all c = omega (arith, c.wide.ensures, (c.shared_slice_known-in-loop-k-1.given (c.args.from + c.loop-k.k)).fits)
-
-pub loop-k-preserved : goal.loop-k-preserved
-loop-k-preserved c =
-    let a = c.args in let l = c.loop-k in
-    subst (λ (x : ℕ). Reading a.strip.now a.from a.n (l.k + 1) (l.all % 2 ^ 24 * 256 + x)) (sym c.wide.ensures)
-    (reads_more a.strip.now a.from a.n l.invariant c.requires.1 c.loop-k-test.true
-    (c.shared_slice_known-in-loop-k-1.given (a.from + l.k)).fits)
+pub loop-kind-preserved : goal.loop-kind-preserved
+loop-kind-preserved c =
+    let a = c.args in
+    let s = a.strip.now in
+    let k = c.loop-kind.kind-index in
+    let n = a.from + a.n - a.from in
+    let long : length (take n (drop a.from s)) ≡ n = length-take-le n (drop a.from s) (omega (arith, c.requires.0, length-drop a.from s)) in
+    let h : k < n = omega (arith, c.loop-kind-test.true, long) in
+    rw (c.from.ensures ∙ get_or-take n (drop a.from s) k 0 h ∙ get_or-drop a.from s k 0)
+    (reads_more s a.from a.n c.loop-kind.invariant c.requires.1 (omega arith) (c.type_inv.strip (a.from + k)).fits)
 
 pub returns : goal.returns
-returns c = (c.loop-k.invariant.small, reads_all c.args.strip.now c.args.from c.args.n c.loop-k.invariant c.loop-k-test.false)
+returns c =
+    let a = c.args in
+    let s = a.strip.now in
+    let n = a.from + a.n - a.from in
+    let long : length (take n (drop a.from s)) ≡ n = length-take-le n (drop a.from s) (omega (arith, c.requires.0, length-drop a.from s)) in
+    (c.loop-kind.invariant.small, reads_all s a.from a.n c.loop-kind.invariant (omega (arith, c.loop-kind-test.false, long)))

@@ -1,5 +1,5 @@
 -- Each open block's word says whether the code around it is dead.
-use Prim.Native.Nat.{ℕ, ◌≤◌}
+use Prim.Native.Nat.{ℕ}
 use mathlib.Core.List.{List}
 use Rattle.opcode.specs.Kind.{Kind}
 use Rattle.rules.specs.Typing.{Frame}
@@ -8,7 +8,4 @@ use Rattle.checker.proofs.Marks.{Outward}
 use Rattle.checker.proofs.place.is_dead.Given as goal
 
 abbrev pub invariant-loop-k : goal.invariant-loop-k
-invariant-loop-k l = (l.k ≤ l.nest) × ((rs : List Kind) (fs : List Frame) (floor : ℕ) → OpenBlocks rs l.words l.nest floor l.dead fs → Outward rs l.words l.k fs)
-
-abbrev pub decreases-loop-k : goal.decreases-loop-k
-decreases-loop-k l = l.k
+invariant-loop-k l = (rs : List Kind) (fs : List Frame) (floor : ℕ) → OpenBlocks rs l.words l.nest floor l.dead fs → Outward rs l.words l.k fs

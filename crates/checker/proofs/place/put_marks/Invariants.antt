@@ -1,5 +1,5 @@
 -- Three numbers a turn, from the innermost block outward.
-use Prim.Native.Nat.{ℕ, ◌+◌, ◌*◌, ◌≤◌}
+use Prim.Native.Nat.{ℕ, ◌+◌, ◌*◌}
 use mathlib.Core.Path.{◌≡◌}
 use mathlib.Core.Bool.{Bool}
 use mathlib.Core.List.{List}
@@ -14,9 +14,6 @@ use Rattle.checker.proofs.Marks.{Unmarked}
 use Rattle.checker.proofs.place.put_marks.Given as goal
 
 abbrev pub invariant-loop-k : goal.invariant-loop-k
-invariant-loop-k l = (l.k ≤ l.nest) × (length l.marks ≡ 3 * nest_limit + 1)
+invariant-loop-k l = (length l.marks ≡ 3 * nest_limit + 1)
     × ((rs : List Kind) (fs : List Frame) (bs : List ℕ) (dead : Bool) → OpenBlocks rs l.words l.nest l.floor dead fs
     → length bs ≡ l.nest → Noted l.bodies bs → Unmarked rs l.words l.bodies l.k l.height l.marks (fronted (marks_of fs bs) l.initial.marks))
-
-abbrev pub decreases-loop-k : goal.decreases-loop-k
-decreases-loop-k l = l.k

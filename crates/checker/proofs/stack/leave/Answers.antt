@@ -13,7 +13,7 @@ returns-then-depth-eq-STACK c =
     record {
       leaves =
           λ below outs h e. left_over c.loop-left.invariant below outs h e c.loop-left-test.true c.if-depth-eq-STACK.true;
-      keeps = λ z. absurd (let never : ⊥ = omega arith in never);
+      keeps = tt;
     }
 
 pub bounds-kinds-depth : goal.bounds-kinds-depth
@@ -36,5 +36,5 @@ returns c =
     record {
       leaves =
           λ below outs h e. left-now c.loop-left.invariant below outs h e c.loop-left-test.false;
-      keeps = λ z. c.loop-left.invariant.kept;
+      keeps = c.loop-left.invariant.kept;
     }

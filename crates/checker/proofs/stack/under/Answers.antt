@@ -1,6 +1,4 @@
-use Prim.Native.Nat.{suc}
 use native.Mathlib.Omega.{arith}
-use Rattle.limits.specs.Limits.{stack_limit}
 use Rattle.checker.proofs.Operands.{pops, pops-on, any-there, none-there, other-there, all-popped}
 use Rattle.checker.proofs.stack.under.Goals as goal
 
@@ -8,10 +6,10 @@ pub loop-left-init : goal.loop-left-init
 loop-left-init c = let a = c.args in pops a.operands a.kinds.now a.depth a.floor a.dead c.requires.0
 
 pub returns-then-dead : goal.returns-then-dead
-returns-then-dead c = λ outer ins f t e. any-there c.loop-left.invariant outer ins f t e c.loop-left-test.true c.if-base-floor.true c.if-dead.true
+returns-then-dead c = record { most = c.requires.0; under = λ outer ins f t e. any-there c.loop-left.invariant outer ins f t e c.loop-left-test.true c.if-base-floor.true c.if-dead.true }
 
 pub returns-then-base-floor : goal.returns-then-base-floor
-returns-then-base-floor c = λ outer ins f t e. none-there c.loop-left.invariant outer ins f t e c.loop-left-test.true c.if-base-floor.true c.if-dead.false (suc stack_limit) (omega arith)
+returns-then-base-floor c = record { most = tt; under = λ outer ins f t e. none-there c.loop-left.invariant outer ins f t e c.loop-left-test.true c.if-base-floor.true c.if-dead.false }
 
 pub overflow_sub-base : goal.overflow_sub-base
 overflow_sub-base c = omega (arith, c.loop-left.invariant.least, c.if-base-floor.false)
@@ -20,7 +18,7 @@ pub bounds-kinds-base : goal.bounds-kinds-base
 bounds-kinds-base c = omega (arith, c.loop-left.invariant.least, c.loop-left.invariant.most, c.if-base-floor.false, c.requires.1)
 
 pub returns-then-kinds-base : goal.returns-then-kinds-base
-returns-then-kinds-base c = λ outer ins f t e. other-there c.loop-left.invariant outer ins f t e c.loop-left-test.true c.if-base-floor.false c.if-kinds-base.true (suc stack_limit) (omega arith)
+returns-then-kinds-base c = record { most = tt; under = λ outer ins f t e. other-there c.loop-left.invariant outer ins f t e c.loop-left-test.true c.if-base-floor.false c.if-kinds-base.true }
 
 pub overflow_sub-base-in-loop-left : goal.overflow_sub-base-in-loop-left
 overflow_sub-base-in-loop-left c = omega (arith, c.loop-left.invariant.least, c.if-base-floor.false)
@@ -32,4 +30,4 @@ pub loop-left-preserved : goal.loop-left-preserved
 loop-left-preserved c = pops-on c.loop-left.invariant c.loop-left-test.true c.if-base-floor.false c.if-kinds-base.false
 
 pub returns : goal.returns
-returns c = λ outer ins f t e. all-popped c.loop-left.invariant outer ins f t e c.loop-left-test.false
+returns c = record { most = c.loop-left.invariant.most; under = λ outer ins f t e. all-popped c.loop-left.invariant outer ins f t e c.loop-left-test.false }

@@ -14,13 +14,9 @@ close-requires c =
       r.kinds_long,
     )
 
-pub returns-then-group-eq-GROUP_END : goal.returns-then-group-eq-GROUP_END
-returns-then-group-eq-GROUP_END c =
-    record {
-      by_index =
-          λ s n v i ls rs fs x. as-end x c.group-group.ensures c.if-group-eq-GROUP_END.true (c.close.ensures.judges i ls rs fs x.framed);
-      keeps = (c.close.ensures.keeps, λ z. refl);
-    }
+pub returns-then-group-eq-GROUP_END-clause-by_index : goal.returns-then-group-eq-GROUP_END-clause-by_index
+returns-then-group-eq-GROUP_END-clause-by_index c =
+    λ s n v i ls rs fs x. as-end x c.group-group.ensures c.if-group-eq-GROUP_END.true (c.close.ensures.judges i ls rs fs x.framed)
 
 pub begin-requires : goal.begin-requires
 begin-requires c =
@@ -31,21 +27,13 @@ begin-requires c =
       r.blocks_long,
     )
 
-pub returns-then-group-lt-GROUP_BR : goal.returns-then-group-lt-GROUP_BR
-returns-then-group-lt-GROUP_BR c =
-    record {
-      by_index =
-          λ s n v i ls rs fs x. as-opener x c.group-group.ensures
-          (let m = c.requires.0.turns refl (omega (arith, c.group-group.ensures, c.if-group-eq-GROUP_END.false)) in omega (arith, m, c.group-group.ensures)) c.if-group-lt-GROUP_BR.true
-          (λ e t. c.begin.ensures.judges i ls rs fs _ e t x.framed);
-      keeps = (λ z. refl, c.begin.ensures.keeps);
-    }
+pub returns-then-group-lt-GROUP_BR-clause-by_index : goal.returns-then-group-lt-GROUP_BR-clause-by_index
+returns-then-group-lt-GROUP_BR-clause-by_index c =
+    λ s n v i ls rs fs x. as-opener x c.group-group.ensures
+    (let m = c.requires.0.turns refl (omega (arith, c.group-group.ensures, c.if-group-eq-GROUP_END.false)) in omega (arith, m, c.group-group.ensures)) c.if-group-lt-GROUP_BR.true
+    (λ e t. c.begin.ensures.judges i ls rs fs _ e t x.framed)
 
-pub returns : goal.returns
-returns c =
-    record {
-      by_index =
-          λ s n v i ls rs fs x. as-brancher x c.group-group.ensures c.if-group-lt-GROUP_BR.false
-          (λ e. c.jump.ensures.judges i ls rs fs e x.results_are x.few x.framed);
-      keeps = (c.jump.ensures.keeps, λ z. refl);
-    }
+pub returns-clause-by_index : goal.returns-clause-by_index
+returns-clause-by_index c =
+    λ s n v i ls rs fs x. as-brancher x c.group-group.ensures c.if-group-lt-GROUP_BR.false
+    (λ e. c.jump.ensures.judges i ls rs fs e x.results_are x.few x.framed)

@@ -1,12 +1,11 @@
 -- Each class has its fields; the class is the row's.
-use Prim.Native.Nat.{ℕ, ◌≤◌}
-use mathlib.Core.Path.{sym, ap, subst, ◌∙◌}
-use native.Mathlib.Omega.{arith}
+use Prim.Native.Nat.{ℕ}
+use mathlib.Core.Path.{sym, ap, ◌∙◌}
 use Rattle.opcode.specs.Immediate.{nothing, index, block_type, word, long, memory, memory_lane, lane_index, sixteen_bytes, sixteen_lanes}
 use Rattle.opcode.proofs.Entries.{class-in}
 use Rattle.instr.specs.Layout.{immediate_fields}
 use Rattle.closing.specs.Search.{past_number, past_bytes}
-use Rattle.closing.proofs.Passes.{past-class, past-other}
+use Rattle.closing.proofs.Passes.{past-class}
 use Rattle.closing.proofs.passing.past_immediates.Goals as goal
 
 pub returns-in-0 : goal.returns-in-0
@@ -68,6 +67,3 @@ unfolding immediate_fields
 returns-in-9 c =
     λ row is.
     c.past_bytes-in-9.ensures.0 ∙ sym (past-class row _ _ block_type (sym (c.immediates.ensures ∙ class-in row is) ∙ c.in-9.is))
-
-pub returns-in_default : goal.returns-in_default
-returns-in_default c = λ row is. sym (past-other row _ _ (subst (λ (k : ℕ). 10 ≤ k) (c.immediates.ensures ∙ class-in row is) (omega arith)))

@@ -1,17 +1,16 @@
-use mathlib.Core.Path.{refl, sym, ◌∙◌}
+-- The first byte below 128, or none.
 use native.Mathlib.Omega.{arith}
-use borrow.Author.Rules.{rules}
-use Rattle.closing.proofs.Fields.{stops, goes, ends}
+use lib.ListN.{length-drop}
+use mathlib.Core.Path.{sym}
+use Rattle.std.proofs.lemmas.List.{take_rest}
+use Rattle.closing.proofs.Fields.{past-last, past-all}
 use Rattle.closing.proofs.passing.past_number.Goals as goal
 
-pub loop-i-init : goal.loop-i-init
-loop-i-init c = (c.requires, refl)
+pub returns-in-Some : goal.returns-in-Some
+returns-in-Some c =
+    let e = rw take_rest at c.in-Some.ensures in
+    let p = past-last c.args.s.now c.args.p c.in-Some.last c.requires e in
+    (sym p, omega (arith, e.inside, length-drop c.args.p c.args.s.now))
 
-pub returns-then-s-i-lt128 : goal.returns-then-s-i-lt128
-returns-then-s-i-lt128 c = let l = c.loop-i in (sym (l.invariant.1 ∙ stops _ l.i c.loop-i-test.true c.if-s-i-lt128.true), omega arith)
-
-pub loop-i-preserved : goal.loop-i-preserved
-loop-i-preserved c = let l = c.loop-i in (search rules, l.invariant.1 ∙ goes _ l.i c.loop-i-test.true c.if-s-i-lt128.false)
-
-pub returns : goal.returns
-returns c = let l = c.loop-i in (sym (l.invariant.1 ∙ ends _ l.i c.loop-i-test.false), l.invariant.0)
+pub returns-in-None : goal.returns-in-None
+returns-in-None c = (sym (past-all c.args.s.now c.args.p c.requires (rw take_rest at c.in-None.ensures)), omega arith)

@@ -1,10 +1,7 @@
-use Rattle.std.proofs.Common.{length, ◌-◌, take}
+use Rattle.std.proofs.Common.{length, take}
 use Rattle.text.proofs.Appending.{Growing}
 use Rattle.gevurlat.specs.Text.{hexadecimal}
 use Rattle.gevurlat.proofs.ascii.line.Given as goal
 
-abbrev pub invariant-loop-i : goal.invariant-loop-i
-invariant-loop-i l = Growing (λ i. hexadecimal (take i l.bytes)) (length l.bytes) l.initial.out l.at l.to l.out l.i
-
-abbrev pub decreases-loop-i : goal.decreases-loop-i
-decreases-loop-i l = length l.bytes - l.i
+abbrev pub invariant-loop-b : goal.invariant-loop-b
+invariant-loop-b l = Growing (λ i. hexadecimal (take i l.bytes)) (length l.bytes) l.initial.out l.at l.to l.out l.b-index

@@ -10,6 +10,6 @@ pub returns : goal.returns
 returns c =
     let a = c.args in
     let e = c.copy.ensures in
-    fill-all a.image.now a.slots.now a.at a.room _
+    fill-all a.image.now a.slots.now a.at a.room _ c.requires.0 c.requires.1
     (part-copied a.image.now a.slots.now a.at _ (omega (arith, c.requires)) refl (omega (arith, c.requires)) e.1) (ap (λ (n : ℕ). a.at + n) e.0)
-    c.clear.ensures
+    (c.fill.ensures.after (λ y h. h))

@@ -1,20 +1,12 @@
 -- One question after the other.
-use native.Mathlib.Omega.{arith}
 use mathlib.Core.Path.{◌∙◌}
 use Rattle.image.specs.Slots.{no}
-use Rattle.image.proofs.Pieces.{mark-read, version-read, fronts-told}
+use Rattle.image.proofs.Pieces.{not-marked, version-read, fronts-told}
 use Rattle.image.proofs.picture.fronts.Goals as goal
 
-pub returns-then-image-ne87 : goal.returns-then-image-ne87
-returns-then-image-ne87 c = let a = c.args in no (λ f. c.if-image-ne87.true (mark-read a.image.now a.depth f 0 (omega arith)))
-
-pub returns-then-image-ne71 : goal.returns-then-image-ne71
-returns-then-image-ne71 c = let a = c.args in no (λ f. c.if-image-ne71.true (mark-read a.image.now a.depth f 1 (omega arith)))
-
-pub returns-then-image-ne83 : goal.returns-then-image-ne83
-returns-then-image-ne83 c =
-    let a = c.args in
-    no (λ f. c.if-image-ne83.true (mark-read a.image.now a.depth f 2 (omega arith)))
+pub returns-then-not-starts_with : goal.returns-then-not-starts_with
+returns-then-not-starts_with c =
+    no (not-marked c.args.image.now c.args.depth c.starts_with.ensures.value c.if-not-starts_with.true)
 
 pub returns-then-word-ne-VERSION : goal.returns-then-word-ne-VERSION
 returns-then-word-ne-VERSION c =
@@ -24,5 +16,5 @@ returns-then-word-ne-VERSION c =
 pub returns : goal.returns
 returns c =
     fronts-told c.args.image.now c.args.depth c.requires.0 (λ k. c.type_inv.image k) c.requires.1
-    c.if-image-ne87.false c.if-image-ne71.false c.if-image-ne83.false _ c.word.ensures
+    c.starts_with.ensures.value c.if-not-starts_with.false _ c.word.ensures
     c.if-word-ne-VERSION.false _ c.word-deep.ensures

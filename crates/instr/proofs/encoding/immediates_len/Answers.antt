@@ -19,8 +19,8 @@ pub overflow_add-result : goal.overflow_add-result
 overflow_add-result c =
     omega (
       arith,
-      c.len_u32-in-4.ensures.answer,
-      c.len_u32-in-4-2.ensures.answer,
+      c.len-in-4.ensures.answer,
+      c.len-in-4-2.ensures.answer,
       form-32 false c.args.i.align (search rules),
       form-32 false
           c.args.i.offset (search rules),
@@ -30,8 +30,8 @@ pub overflow_add-result-in-5 : goal.overflow_add-result-in-5
 overflow_add-result-in-5 c =
     omega (
       arith,
-      c.len_u32-in-5.ensures.answer,
-      c.len_u32-in-5-2.ensures.answer,
+      c.len-in-5.ensures.answer,
+      c.len-in-5-2.ensures.answer,
       form-32 false c.args.i.align (search rules),
       form-32 false
           c.args.i.offset (search rules),
@@ -41,8 +41,8 @@ pub overflow_add-result-in-5-2 : goal.overflow_add-result-in-5-2
 overflow_add-result-in-5-2 c =
     omega (
       arith,
-      c.len_u32-in-5.ensures.answer,
-      c.len_u32-in-5-2.ensures.answer,
+      c.len-in-5.ensures.answer,
+      c.len-in-5-2.ensures.answer,
       form-32 false c.args.i.align (search rules),
       form-32 false
           c.args.i.offset (search rules),
@@ -50,20 +50,20 @@ overflow_add-result-in-5-2 c =
 
 pub returns-in-1 : goal.returns-in-1
 returns-in-1 c = (
-  omega (arith, ap length (bytes-index (row_in latest c.args.i) c.args.i (sym c.requires ∙ c.in-1.is)), c.len_u32.ensures.answer),
-  omega (arith, c.len_u32.ensures.answer, form-32 false c.args.i.index (search rules)),
+  omega (arith, ap length (bytes-index (row_in latest c.args.i) c.args.i (sym c.requires ∙ c.in-1.is)), c.len.ensures.answer),
+  omega (arith, c.len.ensures.answer, form-32 false c.args.i.index (search rules)),
 )
 
 pub returns-in-2 : goal.returns-in-2
 returns-in-2 c = (
-  omega (arith, ap length (bytes_word (row_in latest c.args.i) c.args.i (sym c.requires ∙ c.in-2.is)), c.len_s32.ensures.answer),
-  omega (arith, c.len_s32.ensures.answer, form-32 true c.args.i.word (search rules)),
+  omega (arith, ap length (bytes_word (row_in latest c.args.i) c.args.i (sym c.requires ∙ c.in-2.is)), c.len-in-2.ensures.answer),
+  omega (arith, c.len-in-2.ensures.answer, form-32 true c.args.i.word (search rules)),
 )
 
 pub returns-in-3 : goal.returns-in-3
 returns-in-3 c = (
-  omega (arith, ap length (bytes-long (row_in latest c.args.i) c.args.i (sym c.requires ∙ c.in-3.is)), c.len_s64.ensures.answer),
-  omega (arith, c.len_s64.ensures.answer, form-64 true c.args.i.long (search rules)),
+  omega (arith, ap length (bytes-long (row_in latest c.args.i) c.args.i (sym c.requires ∙ c.in-3.is)), c.len-in-3.ensures.answer),
+  omega (arith, c.len-in-3.ensures.answer, form-64 true c.args.i.long (search rules)),
 )
 
 pub returns-in-4 : goal.returns-in-4
@@ -73,13 +73,13 @@ returns-in-4 c = (
     ap length (bytes-memory (row_in latest c.args.i) c.args.i (sym c.requires ∙ c.in-4.is)),
     length-append
         (bytes_of false 32 c.args.i.align) (bytes_of false 32 c.args.i.offset),
-    c.len_u32-in-4.ensures.answer,
-    c.len_u32-in-4-2.ensures.answer,
+    c.len-in-4.ensures.answer,
+    c.len-in-4-2.ensures.answer,
   ),
   omega (
     arith,
-    c.len_u32-in-4.ensures.answer,
-    c.len_u32-in-4-2.ensures.answer,
+    c.len-in-4.ensures.answer,
+    c.len-in-4-2.ensures.answer,
     form-32 false c.args.i.align (search rules),
     form-32 false
         c.args.i.offset (search rules),
@@ -92,13 +92,13 @@ returns-in-5 c = (
     arith,
     simp length-append at (ap length (bytes-memory-lane (row_in latest c.args.i) c.args.i
         (sym c.requires ∙ c.in-5.is))),
-    c.len_u32-in-5.ensures.answer,
-    c.len_u32-in-5-2.ensures.answer,
+    c.len-in-5.ensures.answer,
+    c.len-in-5-2.ensures.answer,
   ),
   omega (
     arith,
-    c.len_u32-in-5.ensures.answer,
-    c.len_u32-in-5-2.ensures.answer,
+    c.len-in-5.ensures.answer,
+    c.len-in-5-2.ensures.answer,
     form-32 false c.args.i.align (search rules),
     form-32 false
         c.args.i.offset (search rules),

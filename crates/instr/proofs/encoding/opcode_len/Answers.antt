@@ -5,18 +5,15 @@ use mathlib.Core.Path.{ap}
 use native.Mathlib.Omega.{arith}
 use lib.ListN.{length}
 use Rattle.leb128.proofs.Bounds.{form-32}
-use Rattle.instr.proofs.Sets.{opcode-vector, opcode-plain}
+use Rattle.instr.proofs.Sets.{opcode-vector}
 use Rattle.instr.proofs.encoding.opcode_len.Goals as goal
 
 pub overflow_add-result : goal.overflow_add-result
-overflow_add-result c = omega (arith, c.len_u32.ensures.answer, form-32 false c.args.number (search rules))
+overflow_add-result c = omega (arith, c.len.ensures.answer, form-32 false c.args.number (search rules))
 
 pub returns-then-first-eq-PREFIX : goal.returns-then-first-eq-PREFIX
 returns-then-first-eq-PREFIX c = (
-  omega (arith, ap length (opcode-vector c.args.first c.args.number c.if-first-eq-PREFIX.true), c.len_u32.ensures.answer),
+  omega (arith, ap length (opcode-vector c.args.first c.args.number c.if-first-eq-PREFIX.true), c.len.ensures.answer),
   omega
-      (arith, c.len_u32.ensures.answer, form-32 false c.args.number (search rules)),
+      (arith, c.len.ensures.answer, form-32 false c.args.number (search rules)),
 )
-
-pub returns-else-first-eq-PREFIX : goal.returns-else-first-eq-PREFIX
-returns-else-first-eq-PREFIX c = (omega (arith, ap length (opcode-plain c.args.first c.args.number c.if-first-eq-PREFIX.false)), omega arith)

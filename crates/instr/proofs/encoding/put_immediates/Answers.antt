@@ -12,17 +12,17 @@ use Rattle.instr.proofs.Forms.{bytes-index, bytes_word, bytes-long, bytes-memory
 use Rattle.instr.proofs.Sets.{put-none, put_then, put_same}
 use Rattle.instr.proofs.encoding.put_immediates.Goals as goal
 
-pub put_u32-requires : goal.put_u32-requires
-put_u32-requires c = omega (arith, c.requires.1, ap length (bytes-index (row_in latest c.args.i) c.args.i (sym c.requires.0 ∙ c.in-1.is)))
+pub put_number-requires : goal.put_number-requires
+put_number-requires c = omega (arith, c.requires.1, ap length (bytes-index (row_in latest c.args.i) c.args.i (sym c.requires.0 ∙ c.in-1.is)))
 
-pub put_s32-requires : goal.put_s32-requires
-put_s32-requires c = omega (arith, c.requires.1, ap length (bytes_word (row_in latest c.args.i) c.args.i (sym c.requires.0 ∙ c.in-2.is)))
+pub put_number-requires-in-2 : goal.put_number-requires-in-2
+put_number-requires-in-2 c = omega (arith, c.requires.1, ap length (bytes_word (row_in latest c.args.i) c.args.i (sym c.requires.0 ∙ c.in-2.is)))
 
-pub put_s64-requires : goal.put_s64-requires
-put_s64-requires c = omega (arith, c.requires.1, ap length (bytes-long (row_in latest c.args.i) c.args.i (sym c.requires.0 ∙ c.in-3.is)))
+pub put_number-requires-in-3 : goal.put_number-requires-in-3
+put_number-requires-in-3 c = omega (arith, c.requires.1, ap length (bytes-long (row_in latest c.args.i) c.args.i (sym c.requires.0 ∙ c.in-3.is)))
 
-pub put_u32-p-requires : goal.put_u32-p-requires
-put_u32-p-requires c =
+pub put_number-p-requires : goal.put_number-p-requires
+put_number-p-requires c =
     omega (
       arith,
       c.requires.1,
@@ -30,19 +30,19 @@ put_u32-p-requires c =
           (bytes-memory (row_in latest c.args.i) c.args.i (sym c.requires.0 ∙ c.in-4.is))),
     )
 
-pub put_u32-requires-in-4 : goal.put_u32-requires-in-4
-put_u32-requires-in-4 c =
+pub put_number-requires-in-4 : goal.put_number-requires-in-4
+put_number-requires-in-4 c =
     omega (
       arith,
       c.requires.1,
       simp length-append at (ap length
           (bytes-memory (row_in latest c.args.i) c.args.i (sym c.requires.0 ∙ c.in-4.is))),
-      c.put_u32-p.ensures.to,
-      c.put_u32-p.auto.out,
+      c.put_number-p.ensures.to,
+      c.put_number-p.auto.out,
     )
 
-pub put_u32-p-requires-in-5 : goal.put_u32-p-requires-in-5
-put_u32-p-requires-in-5 c =
+pub put_number-p-requires-in-5 : goal.put_number-p-requires-in-5
+put_number-p-requires-in-5 c =
     omega (
       arith,
       c.requires.1,
@@ -50,15 +50,15 @@ put_u32-p-requires-in-5 c =
           (bytes-memory-lane (row_in latest c.args.i) c.args.i (sym c.requires.0 ∙ c.in-5.is))),
     )
 
-pub put_u32-q-requires : goal.put_u32-q-requires
-put_u32-q-requires c =
+pub put_number-q-requires : goal.put_number-q-requires
+put_number-q-requires c =
     omega (
       arith,
       c.requires.1,
       simp length-append at (ap length
           (bytes-memory-lane (row_in latest c.args.i) c.args.i (sym c.requires.0 ∙ c.in-5.is))),
-      c.put_u32-p-in-5.ensures.to,
-      c.put_u32-p-in-5.auto.out,
+      c.put_number-p-in-5.ensures.to,
+      c.put_number-p-in-5.auto.out,
     )
 
 pub put_byte-requires : goal.put_byte-requires
@@ -68,10 +68,10 @@ put_byte-requires c =
       c.requires.1,
       simp length-append at (ap length
           (bytes-memory-lane (row_in latest c.args.i) c.args.i (sym c.requires.0 ∙ c.in-5.is))),
-      c.put_u32-p-in-5.ensures.to,
-      c.put_u32-p-in-5.auto.out,
-      c.put_u32-q.ensures.to,
-      c.put_u32-q.auto.out,
+      c.put_number-p-in-5.ensures.to,
+      c.put_number-p-in-5.auto.out,
+      c.put_number-q.ensures.to,
+      c.put_number-q.auto.out,
     )
 
 pub put_byte-requires-in-6 : goal.put_byte-requires-in-6
@@ -91,23 +91,23 @@ pub put_byte-requires-in-9 : goal.put_byte-requires-in-9
 put_byte-requires-in-9 c = omega (arith, c.requires.1, ap length (bytes-block (row_in latest c.args.i) c.args.i (sym c.requires.0 ∙ c.in-9.is)))
 
 pub returns-in-1 : goal.returns-in-1
-returns-in-1 c = put_same (bytes-index (row_in latest c.args.i) c.args.i (sym c.requires.0 ∙ c.in-1.is)) c.put_u32.ensures
+returns-in-1 c = put_same (bytes-index (row_in latest c.args.i) c.args.i (sym c.requires.0 ∙ c.in-1.is)) c.put_number.ensures
 
 pub returns-in-2 : goal.returns-in-2
-returns-in-2 c = put_same (bytes_word (row_in latest c.args.i) c.args.i (sym c.requires.0 ∙ c.in-2.is)) c.put_s32.ensures
+returns-in-2 c = put_same (bytes_word (row_in latest c.args.i) c.args.i (sym c.requires.0 ∙ c.in-2.is)) c.put_number-in-2.ensures
 
 pub returns-in-3 : goal.returns-in-3
-returns-in-3 c = put_same (bytes-long (row_in latest c.args.i) c.args.i (sym c.requires.0 ∙ c.in-3.is)) c.put_s64.ensures
+returns-in-3 c = put_same (bytes-long (row_in latest c.args.i) c.args.i (sym c.requires.0 ∙ c.in-3.is)) c.put_number-in-3.ensures
 
 pub returns-in-4 : goal.returns-in-4
 returns-in-4 c =
     put_same (bytes-memory (row_in latest c.args.i) c.args.i (sym c.requires.0 ∙ c.in-4.is))
-    (put_then c.put_u32-p.ensures c.put_u32-in-4.ensures)
+    (put_then c.put_number-p.ensures c.put_number-in-4.ensures)
 
 pub returns-in-5 : goal.returns-in-5
 returns-in-5 c =
     put_same (bytes-memory-lane (row_in latest c.args.i) c.args.i (sym c.requires.0 ∙ c.in-5.is))
-    (put_then c.put_u32-p-in-5.ensures (put_then c.put_u32-q.ensures c.put_byte.ensures))
+    (put_then c.put_number-p-in-5.ensures (put_then c.put_number-q.ensures c.put_byte.ensures))
 
 pub returns-in-6 : goal.returns-in-6
 returns-in-6 c = put_same (bytes-lane (row_in latest c.args.i) c.args.i (sym c.requires.0 ∙ c.in-6.is)) c.put_byte-in-6.ensures
@@ -126,4 +126,5 @@ pub returns-in-9 : goal.returns-in-9
 returns-in-9 c = put_same (bytes-block (row_in latest c.args.i) c.args.i (sym c.requires.0 ∙ c.in-9.is)) c.put_byte-in-9.ensures
 
 pub returns-in_default : goal.returns-in_default
-returns-in_default c = put_same (ap written (fields-other (row_in latest c.args.i) (subst (AllBut carrying) c.requires.0 c.in_default.in_default-own.rest) c.args.i)) (put-none _ _)
+returns-in_default c =
+    put_same (ap written (fields-other (row_in latest c.args.i) (subst (AllBut carrying) c.requires.0 c.in_default.in_default-own.rest) c.args.i)) (put-none _ _)

@@ -1,17 +1,14 @@
--- Sixteen bytes are there, or not.
-use Prim.Native.Nat.{◌+◌}
-use native.Mathlib.Omega.{arith}
-use lib.ListN.{length}
-use borrow.Author.Tests.{le-leb, lt-leb}
-use Rattle.instr.specs.Decode.{sixteen_at, immediates_at}
+-- Sixteen bytes, or their refusal.
+use Rattle.std.proofs.lemmas.Result.{err_from_is_err_and}
+use Rattle.instr.specs.Decode.{immediates_at}
 use Rattle.instr.proofs.immediates.with_bytes.Goals as goal
 
-pub returns-then-s-p-lt16 : goal.returns-then-s-p-lt16
-unfolding immediates_at sixteen_at
-returns-then-s-p-lt16 c = simp (lt-leb (c.args.p + 16) (length c.args.s.now) (omega (arith, c.if-s-p-lt16.true))) c.refused.ensures
+pub returns-in_err-next-clause-is : goal.returns-in_err-next-clause-is
+unfolding immediates_at
+returns-in_err-next-clause-is c h at e =
+    let p = err_from_is_err_and c.from_residual.result c.from_residual.ensures.1 in
+    rw (p.1, p.2, ← c.in_err-next.ensures.is)
 
-pub returns : goal.returns
-unfolding immediates_at sixteen_at
-returns c =
-    simp (le-leb (c.args.p + 16) (length c.args.s.now) (omega (arith, c.if-s-p-lt16.false)), ← c.sixteen.ensures)
-    c.whole.ensures
+pub returns-clause-is : goal.returns-clause-is
+unfolding immediates_at
+returns-clause-is c h at e = rw (e, c.sixteen.ensures, ← c.in_ok-next.ensures.is)

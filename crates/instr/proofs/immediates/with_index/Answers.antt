@@ -1,29 +1,14 @@
--- The number and its two answers.
-use mathlib.Core.Path.{sym, ap, ◌∙◌}
-use native.Mathlib.Omega.{arith}
+-- The number, or its refusal.
+use Rattle.std.proofs.lemmas.Result.{err_from_is_err_and}
 use Rattle.instr.specs.Decode.{immediates_at}
-use Rattle.instr.specs.Inner.Steps.{item}
-use Rattle.instr.proofs.Numbers.{number-32}
 use Rattle.instr.proofs.immediates.with_index.Goals as goal
 
-pub overflow_cast-v : goal.overflow_cast-v
-overflow_cast-v c =
-    omega (
-      arith,
-      number-32 _ _ _ (λ j. (c.type_inv.s j).fits) _ _ (sym c.u32_at.ensures ∙ ap item c.in-Got.is),
-    )
-
-pub whole-requires : goal.whole-requires
-whole-requires c =
-    omega (
-      arith,
-      number-32 _ _ _ (λ j. (c.type_inv.s j).fits) _ _ (sym c.u32_at.ensures ∙ ap item c.in-Got.is),
-    )
-
-pub returns-in-Got : goal.returns-in-Got
+pub returns-in_err-index-clause-is : goal.returns-in_err-index-clause-is
 unfolding immediates_at
-returns-in-Got c = simp (sym c.u32_at.ensures ∙ ap item c.in-Got.is) c.whole.ensures
+returns-in_err-index-clause-is c h at e =
+    let p = err_from_is_err_and c.from_residual.result c.from_residual.ensures.1 in
+    rw (p.1, p.2, ← c.in_err-index.ensures.is)
 
-pub returns-in-No : goal.returns-in-No
+pub returns-clause-is : goal.returns-clause-is
 unfolding immediates_at
-returns-in-No c = simp (sym c.u32_at.ensures ∙ ap item c.in-No.is) c.refused.ensures
+returns-clause-is c h at e = rw (e, ← c.in_ok-index.ensures.is)

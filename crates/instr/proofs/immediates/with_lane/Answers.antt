@@ -1,20 +1,14 @@
--- A byte below the count, one that is not, or none.
+-- A byte below the count, or the refusal of one that is not.
+use Rattle.std.proofs.lemmas.Result.{err_from_is_err_and}
 use Rattle.instr.specs.Inner.Steps.{lane_ends}
-use Rattle.instr.proofs.Items.{lane-good, lane-bad, lane-cut}
 use Rattle.instr.proofs.immediates.with_lane.Goals as goal
 
-pub returns-then-s-p : goal.returns-then-s-p
+pub returns-in_err-lane-clause-is : goal.returns-in_err-lane-clause-is
 unfolding lane_ends
-returns-then-s-p c = simp (lane-cut c.args.s.now c.args.p c.args.lanes c.if-s-p.true) c.refused.ensures
+returns-in_err-lane-clause-is c at =
+    let p = err_from_is_err_and c.from_residual.result c.from_residual.ensures.1 in
+    rw (p.1, p.2, ← c.in_err-lane.ensures.is)
 
-pub returns-then-wide-lanes : goal.returns-then-wide-lanes
+pub returns-clause-is : goal.returns-clause-is
 unfolding lane_ends
-returns-then-wide-lanes c =
-    simp (lane-good c.args.s.now c.args.p c.args.lanes c.if-s-p.false
-    (rw c.wide.ensures at c.if-wide-lanes.true)) c.whole.ensures
-
-pub returns-else-wide-lanes : goal.returns-else-wide-lanes
-unfolding lane_ends
-returns-else-wide-lanes c =
-    simp (lane-bad c.args.s.now c.args.p c.args.lanes c.if-s-p.false
-    (rw c.wide.ensures at c.if-wide-lanes.false)) c.refused-else-wide-lanes.ensures
+returns-clause-is c at = rw (← c.in_ok-lane.ensures.is)

@@ -1,16 +1,14 @@
--- What the scan leaves is one answer of `lanes_at`.
+-- Sixteen bytes, or their refusal.
+use Rattle.std.proofs.lemmas.Result.{err_from_is_err_and}
 use Rattle.instr.specs.Decode.{immediates_at}
-use Rattle.instr.proofs.Sixteens.{scanned-all, scanned-bad, scanned-cut}
 use Rattle.instr.proofs.immediates.with_lanes.Goals as goal
 
-pub returns-then-p-k : goal.returns-then-p-k
+pub returns-in_err-next-clause-is : goal.returns-in_err-next-clause-is
 unfolding immediates_at
-returns-then-p-k c = simp (scanned-bad c.good_lanes-k.ensures c.if-k-lt16.true c.if-p-k.true) c.refused.ensures
+returns-in_err-next-clause-is c h at e =
+    let p = err_from_is_err_and c.from_residual.result c.from_residual.ensures.1 in
+    rw (p.1, p.2, ← c.in_err-next.ensures.is)
 
-pub returns-then-k-lt16 : goal.returns-then-k-lt16
+pub returns-clause-is : goal.returns-clause-is
 unfolding immediates_at
-returns-then-k-lt16 c = simp (scanned-cut c.good_lanes-k.ensures c.if-k-lt16.true c.if-p-k.false) c.refused-then-k-lt16.ensures
-
-pub returns : goal.returns
-unfolding immediates_at
-returns c = simp (scanned-all c.good_lanes-k.ensures c.if-k-lt16.false, ← c.sixteen.ensures) c.whole.ensures
+returns-clause-is c h at e = rw (e, c.sixteen.ensures, ← c.in_ok-next.ensures.is)

@@ -1,22 +1,14 @@
--- The number and its two answers.
-use mathlib.Core.Path.{sym, ap, ◌∙◌}
-use native.Mathlib.Omega.{arith}
+-- The number, or its refusal.
+use Rattle.std.proofs.lemmas.Result.{err_from_is_err_and}
 use Rattle.instr.specs.Decode.{immediates_at}
-use Rattle.instr.specs.Inner.Steps.{item}
-use Rattle.instr.proofs.Numbers.{number-64}
 use Rattle.instr.proofs.immediates.with_long.Goals as goal
 
-pub whole-requires : goal.whole-requires
-whole-requires c =
-    omega (
-      arith,
-      number-64 _ _ _ (λ j. (c.type_inv.s j).fits) _ _ (sym c.s64_at.ensures ∙ ap item c.in-Got.is),
-    )
-
-pub returns-in-Got : goal.returns-in-Got
+pub returns-in_err-long-clause-is : goal.returns-in_err-long-clause-is
 unfolding immediates_at
-returns-in-Got c = simp (sym c.s64_at.ensures ∙ ap item c.in-Got.is) c.whole.ensures
+returns-in_err-long-clause-is c h at e =
+    let p = err_from_is_err_and c.from_residual.result c.from_residual.ensures.1 in
+    rw (p.1, p.2, ← c.in_err-long.ensures.is)
 
-pub returns-in-No : goal.returns-in-No
+pub returns-clause-is : goal.returns-clause-is
 unfolding immediates_at
-returns-in-No c = simp (sym c.s64_at.ensures ∙ ap item c.in-No.is) c.refused.ensures
+returns-clause-is c h at e = rw (e, ← c.in_ok-long.ensures.is)

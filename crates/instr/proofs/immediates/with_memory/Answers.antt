@@ -1,72 +1,24 @@
--- The exponent and its three answers, then the offset and its two.
-use mathlib.Core.Path.{sym, ap, ◌∙◌}
-use native.Mathlib.Omega.{arith}
-use Rattle.instr.specs.Inner.Steps.{item}
-use Rattle.instr.proofs.Numbers.{number-32, exponent-good, exponent-bad, exponent-none}
+-- The exponent and its refusal, then the offset and its own.
+use mathlib.Core.Path.{sym, ◌∙◌}
+use Rattle.std.proofs.lemmas.Result.{err_from_is_err_and}
 use Rattle.instr.proofs.Memory.{no-exponent, no-offset, no-lane, a-lane}
 use Rattle.instr.proofs.immediates.with_memory.Goals as goal
 
-pub overflow_cast-align : goal.overflow_cast-align
-overflow_cast-align c =
-    omega (
-      arith,
-      number-32 _ _ _ (λ j. (c.type_inv.s j).fits) _ _ (sym c.u32_at.ensures ∙ ap item c.in-Got.is),
-    )
+pub returns-in_err-align-clause-is : goal.returns-in_err-align-clause-is
+returns-in_err-align-clause-is c h at e =
+    let p = err_from_is_err_and c.from_residual.result c.from_residual.ensures.1 in
+    rw (p.1, p.2) (sym (no-exponent _ _ _ _ _ _ c.args.laned _ _ (sym c.in_err-align.ensures.is)))
 
-pub returns-then-not-exponent_fits : goal.returns-then-not-exponent_fits
-returns-then-not-exponent_fits c =
-    c.refused.ensures ∙ sym (no-exponent _ _ _ _ _ _ c.args.laned _ _
-    (exponent-bad _ _ _ _ _ (sym c.u32_at.ensures ∙ ap item c.in-Got.is)
-    (sym c.exponent_fits.ensures ∙ c.if-not-exponent_fits.true)))
+pub returns-in_err-offset-clause-is : goal.returns-in_err-offset-clause-is
+returns-in_err-offset-clause-is c h at e =
+    let p = err_from_is_err_and c.from_residual-in_err-offset.result c.from_residual-in_err-offset.ensures.1 in
+    rw (p.1, p.2) (sym (no-offset _ _ _ _ _ _ _ _ (sym c.in_ok-align.ensures.is) c.args.laned _ _ (sym c.in_err-offset.ensures.is)))
 
-pub overflow_cast-offset : goal.overflow_cast-offset
-overflow_cast-offset c =
-    omega (
-      arith,
-      number-32 _ _ _ (λ j. (c.type_inv.s j).fits) _ _
-          (sym c.u32_at-in-Got.ensures ∙ ap item c.in-Got-u32_at.is),
-    )
+pub returns-then-laned-clause-is : goal.returns-then-laned-clause-is
+returns-then-laned-clause-is c h at e =
+    rw e at (c.with_lane.ensures.is at)
+    ∙ sym (a-lane _ _ _ _ _ _ _ _ (sym c.in_ok-align.ensures.is) _ _ (sym c.in_ok-offset.ensures.is) c.args.laned c.if-laned.true)
 
-pub with_lane-requires : goal.with_lane-requires
-with_lane-requires c =
-    omega (
-      arith,
-      c.requires.0,
-      number-32 _ _ _ (λ j. (c.type_inv.s j).fits) _ _ (sym c.u32_at.ensures ∙ ap item c.in-Got.is),
-      number-32 _ _ _ (λ j. (c.type_inv.s j).fits) _ _ (sym c.u32_at-in-Got.ensures ∙ ap item c.in-Got-u32_at.is),
-    )
-
-pub whole-requires : goal.whole-requires
-whole-requires c =
-    omega (
-      arith,
-      c.requires.0,
-      number-32 _ _ _ (λ j. (c.type_inv.s j).fits) _ _ (sym c.u32_at.ensures ∙ ap item c.in-Got.is),
-      number-32 _ _ _ (λ j. (c.type_inv.s j).fits) _ _ (sym c.u32_at-in-Got.ensures ∙ ap item c.in-Got-u32_at.is),
-    )
-
-pub returns-then-laned : goal.returns-then-laned
-returns-then-laned c =
-    c.with_lane.ensures ∙ sym (a-lane _ _ _ _ _ _ _ _
-    (exponent-good _ _ _ _ _ (sym c.u32_at.ensures ∙ ap item c.in-Got.is)
-    (sym c.exponent_fits.ensures ∙ c.if-not-exponent_fits.false)) _ _
-    (sym c.u32_at-in-Got.ensures ∙ ap item c.in-Got-u32_at.is) c.args.laned c.if-laned.true)
-
-pub returns-else-laned : goal.returns-else-laned
-returns-else-laned c =
-    c.whole.ensures ∙ sym (no-lane _ c.args.lanes _ _ _ _ _ _
-    (exponent-good _ _ _ _ _ (sym c.u32_at.ensures ∙ ap item c.in-Got.is)
-    (sym c.exponent_fits.ensures ∙ c.if-not-exponent_fits.false)) _ _
-    (sym c.u32_at-in-Got.ensures ∙ ap item c.in-Got-u32_at.is) c.args.laned c.if-laned.false)
-
-pub returns-in-No-u32_at : goal.returns-in-No-u32_at
-returns-in-No-u32_at c =
-    c.refused-in-No-u32_at.ensures ∙ sym (no-offset _ _ _ _ _ _ _ _
-    (exponent-good _ _ _ _ _ (sym c.u32_at.ensures ∙ ap item c.in-Got.is)
-    (sym c.exponent_fits.ensures ∙ c.if-not-exponent_fits.false)) c.args.laned _ _
-    (sym c.u32_at-in-Got.ensures ∙ ap item c.in-No-u32_at.is))
-
-pub returns-in-No : goal.returns-in-No
-returns-in-No c =
-    c.refused-in-No.ensures ∙ sym (no-exponent _ _ _ _ _ _ c.args.laned _ _
-    (exponent-none _ _ _ _ _ (sym c.u32_at.ensures ∙ ap item c.in-No.is)))
+pub returns-else-laned-clause-is : goal.returns-else-laned-clause-is
+returns-else-laned-clause-is c h at e =
+    rw e (sym (no-lane _ c.args.lanes _ _ _ _ _ _ (sym c.in_ok-align.ensures.is) _ _ (sym c.in_ok-offset.ensures.is) c.args.laned c.if-laned.false))

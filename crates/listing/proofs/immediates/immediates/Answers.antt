@@ -22,7 +22,7 @@ number-requires-in-5 c =
     let q = adds-ends c.number-q.ensures (omega (arith, p, c.requires.1)) in omega (arith, p, q, c.requires.1)
 
 pub returns-in-1 : goal.returns-in-1
-returns-in-1 c = adds-most (omega arith) (adds_same (shown-index c.args.i (sym c.requires.0 ∙ c.in-1.is)) c.number.ensures)
+returns-in-1 c = adds-most (omega arith) (adds_same (shown-index c.args.i (sym c.requires.0 ∙ c.in-1.is)) (rw c.from.ensures at c.number.ensures))
 
 pub returns-in-2 : goal.returns-in-2
 returns-in-2 c = adds-most (omega arith) (adds_same (shown-word c.args.i (sym c.requires.0 ∙ c.in-2.is)) c.word.ensures)
@@ -33,17 +33,17 @@ returns-in-3 c = adds-most (omega arith) (adds_same (shown-long c.args.i (sym c.
 pub returns-in-4 : goal.returns-in-4
 returns-in-4 c =
     adds-most (omega arith) (adds_same (shown-memory c.args.i (sym c.requires.0 ∙ c.in-4.is))
-    (adds-both c.number-p.ensures c.number-in-4.ensures (omega (arith, c.requires.1))))
+    (adds-both (rw c.from-in-4.ensures at c.number-p.ensures) (rw c.from-in-4-2.ensures at c.number-in-4.ensures) (omega (arith, c.requires.1))))
 
 pub returns-in-5 : goal.returns-in-5
 returns-in-5 c =
     let p = adds-ends c.number-p-in-5.ensures (omega (arith, c.requires.1)) in
     adds-most (omega arith)
-    (adds_same (shown-memory-lane c.args.i (sym c.requires.0 ∙ c.in-5.is)) (adds-both c.number-p-in-5.ensures
-    (adds-both c.number-q.ensures c.number-in-5.ensures (omega (arith, p, c.requires.1))) (omega (arith, c.requires.1))))
+    (adds_same (shown-memory-lane c.args.i (sym c.requires.0 ∙ c.in-5.is)) (adds-both (rw c.from-in-5.ensures at c.number-p-in-5.ensures)
+    (adds-both (rw c.from-in-5-2.ensures at c.number-q.ensures) (rw c.from-in-5-3.ensures at c.number-in-5.ensures) (omega (arith, p, c.requires.1))) (omega (arith, c.requires.1))))
 
 pub returns-in-6 : goal.returns-in-6
-returns-in-6 c = adds-most (omega arith) (adds_same (shown-lane c.args.i (sym c.requires.0 ∙ c.in-6.is)) c.number-in-6.ensures)
+returns-in-6 c = adds-most (omega arith) (adds_same (shown-lane c.args.i (sym c.requires.0 ∙ c.in-6.is)) (rw c.from-in-6.ensures at c.number-in-6.ensures))
 
 pub returns-in-7 : goal.returns-in-7
 returns-in-7 c = adds_same (shown-sixteen c.args.i (inl (sym c.requires.0 ∙ c.in-7.is))) c.bytes.ensures
@@ -52,7 +52,7 @@ pub returns-in-8 : goal.returns-in-8
 returns-in-8 c = adds_same (shown-sixteen c.args.i (inr (sym c.requires.0 ∙ c.in-8.is))) c.bytes-in-8.ensures
 
 pub returns-in-9 : goal.returns-in-9
-returns-in-9 c = adds-most (omega arith) (adds_same (shown-block c.args.i (sym c.requires.0 ∙ c.in-9.is)) c.number-in-9.ensures)
+returns-in-9 c = adds-most (omega arith) (adds_same (shown-block c.args.i (sym c.requires.0 ∙ c.in-9.is)) (rw c.from-in-9.ensures at c.number-in-9.ensures))
 
 pub returns-in_default : goal.returns-in_default
 returns-in_default c =

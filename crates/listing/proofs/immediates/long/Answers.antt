@@ -3,4 +3,4 @@ use Rattle.listing.proofs.Shown.{long-told}
 use Rattle.listing.proofs.immediates.long.Goals as goal
 
 pub returns : goal.returns
-returns c = long-told c.args.v c.ranges.v c.signed64.ensures c.push-to.ensures c.signed.ensures c.requires
+returns c = long-told c.args.v c.ranges.v c.cast_signed.ensures c.push-to.ensures c.signed.ensures c.requires

@@ -1,6 +1,5 @@
 use Prim.Native.Nat.{ℕ, ◌+◌, ◌<◌}
 use mathlib.Core.Path.{◌≡◌, ap, sym, ◌∙◌}
-use native.Mathlib.Nat.{le_antisymm}
 use native.Mathlib.Omega.{arith}
 use borrow.Author.Rules.{rules}
 use lib.ListN.{replicate, length, get_or, set, drop, length-set, length-drop}
@@ -9,20 +8,19 @@ use Rattle.machine.proofs.Laws.Copy.{turn, copied}
 use Rattle.machine.proofs.span.read.Goals as goal
 
 pub loop-k-init : goal.loop-k-init
-loop-k-init c = (omega arith, search rules, paste-zero (replicate 16 0) 0 (drop c.args.at c.args.s.now))
+loop-k-init c = (search rules, paste-zero (replicate 16 0) 0 (drop c.args.at c.args.s.now))
 
 pub loop-k-preserved : goal.loop-k-preserved
 loop-k-preserved c =
     let a = c.args in let l = c.loop-k in
     let h : l.k < length (drop a.at a.s.now) = simp length-drop (omega arith) in let z : 0 + l.k ≡ l.k = omega arith in (
-      omega arith,
       simp length-set (omega arith),
       ap (λ (i : ℕ). set l.b i (get_or a.s.now (a.at + l.k) 0)) (sym z)
-          ∙ turn (replicate 16 0) 0 (drop a.at a.s.now) l.b l.k _ l.invariant.2 (sym (get_or-drop a.at a.s.now l.k 0)) (omega arith) h,
+          ∙ turn (replicate 16 0) 0 (drop a.at a.s.now) l.b l.k _ l.invariant.1 (sym (get_or-drop a.at a.s.now l.k 0)) (omega arith) h,
     )
 
 pub returns : goal.returns
 returns c =
-    let l = c.loop-k in
-    l.invariant.2 ∙ ap (paste (replicate 16 0) 0 (drop c.args.at c.args.s.now)) (le_antisymm l.invariant.0 c.loop-k-test.false)
+    let l = c.loop-k in let all : l.k ≡ c.args.n = omega arith in
+    l.invariant.1 ∙ ap (paste (replicate 16 0) 0 (drop c.args.at c.args.s.now)) all
     ∙ copied c.args.s.now c.args.at c.args.n c.requires.0 c.requires.1

@@ -1,5 +1,4 @@
 use mathlib.Core.Path.{refl, ap, ◌∙◌}
-use native.Mathlib.Nat.{le_antisymm}
 use native.Mathlib.Omega.{arith}
 use borrow.Author.Rules.{rules}
 use lib.ListN.{length-set}
@@ -8,19 +7,18 @@ use Rattle.machine.proofs.Laws.Copy.{turn, overwritten}
 use Rattle.machine.proofs.span.write.Goals as goal
 
 pub loop-k-init : goal.loop-k-init
-loop-k-init c = let a = c.args in (omega arith, refl, search rules, paste-zero a.s.now a.at a.v.bytes)
+loop-k-init c = let a = c.args in (refl, search rules, paste-zero a.s.now a.at a.v.bytes)
 
 pub loop-k-preserved : goal.loop-k-preserved
 loop-k-preserved c =
     let a = c.args in let l = c.loop-k in (
-      omega arith,
       simp length-set (omega arith),
-      l.invariant.2,
-      turn a.s.now a.at a.v.bytes l.s l.k _ l.invariant.3 refl (omega arith) (omega arith),
+      l.invariant.1,
+      turn a.s.now a.at a.v.bytes l.s l.k _ l.invariant.2 refl (omega arith) (omega arith),
     )
 
 pub returns : goal.returns
 returns c =
     let l = c.loop-k in
-    l.invariant.3 ∙ ap (paste c.args.s.now c.args.at c.args.v.bytes) (le_antisymm l.invariant.0 c.loop-k-test.false)
+    l.invariant.2 ∙ ap (paste c.args.s.now c.args.at c.args.v.bytes) (omega arith)
     ∙ overwritten c.args.s.now c.args.at c.args.v.bytes c.args.n (omega arith)

@@ -1,12 +1,8 @@
 -- The first k bytes are copied.
-use Prim.Native.Nat.{◌-◌, ◌≤◌}
 use mathlib.Core.Path.{◌≡◌}
 use lib.ListN.{length}
 use lib.Seq.{paste}
 use Rattle.machine.proofs.span.write.Given as goal
 
 abbrev pub invariant-loop-k : goal.invariant-loop-k
-invariant-loop-k l = (l.k ≤ l.n) × (length l.s ≡ length l.initial.s) × (length l.b ≡ 16) × (l.s ≡ paste l.initial.s l.at l.b l.k)
-
-abbrev pub decreases-loop-k : goal.decreases-loop-k
-decreases-loop-k l = l.n - l.k
+invariant-loop-k l = (length l.s ≡ length l.initial.s) × (length l.b ≡ 16) × (l.s ≡ paste l.initial.s l.at l.b l.k)

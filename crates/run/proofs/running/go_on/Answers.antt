@@ -80,32 +80,32 @@ pub bounds-requires : goal.bounds-requires
 bounds-requires c = let D = c.loop-left.invariant.0 c.requires.0.held.valid c.requires.0.held.config c.requires.0.held.carries in bounds-fits D c.fetch-f.result c.fetch-f.ensures c.group-group.result c.group-group.ensures c.turns.ensures c.if-turns.false
 
 pub exec-depth-requires : goal.exec-depth-requires
-exec-depth-requires c = let D = c.loop-left.invariant.0 c.requires.0.held.valid c.requires.0.held.config c.requires.0.held.carries in exec-apt D c.fetch-f.result c.fetch-f.ensures c.group-group.result c.group-group.ensures c.turns.ensures c.if-turns.false c.bounds.result c.bounds.ensures c.in-Clear.is
+exec-depth-requires c = let D = c.loop-left.invariant.0 c.requires.0.held.valid c.requires.0.held.config c.requires.0.held.carries in exec-apt D c.fetch-f.result c.fetch-f.ensures c.group-group.result c.group-group.ensures c.turns.ensures c.if-turns.false c.bounds.result c.bounds.ensures c.in-Ok.is
 
 pub overflow_add-at : goal.overflow_add-at
 overflow_add-at c = let D = c.loop-left.invariant.0 c.requires.0.held.valid c.requires.0.held.config c.requires.0.held.carries in omega (arith, inside D c.fetch-f.result c.fetch-f.ensures)
 
-pub overflow_sub-left-in-Clear : goal.overflow_sub-left-in-Clear
-overflow_sub-left-in-Clear c = pos_of_ne-zero c.if-left-eq0.false
+pub overflow_sub-left-in-Ok : goal.overflow_sub-left-in-Ok
+overflow_sub-left-in-Ok c = pos_of_ne-zero c.if-left-eq0.false
 
 pub loop-left-smaller : goal.loop-left-smaller
 loop-left-smaller c = omega (arith, pos_of_ne-zero c.if-left-eq0.false)
 
 pub loop-left-preserved : goal.loop-left-preserved
-loop-left-preserved c = (λ v c₀ C. let D = c.loop-left.invariant.0 v c₀ C in onward D c.fetch-f.result c.fetch-f.ensures c.group-group.result c.group-group.ensures c.turns.ensures c.if-turns.false c.bounds.result c.bounds.ensures c.in-Clear.is (pos_of_ne-zero c.if-left-eq0.false) c.exec-depth.ensures c.exec-depth.auto.mem, c.loop-left.invariant.1)
+loop-left-preserved c = (λ v c₀ C. let D = c.loop-left.invariant.0 v c₀ C in onward D c.fetch-f.result c.fetch-f.ensures c.group-group.result c.group-group.ensures c.turns.ensures c.if-turns.false c.bounds.result c.bounds.ensures c.in-Ok.is (pos_of_ne-zero c.if-left-eq0.false) c.exec-depth.ensures c.exec-depth.auto.mem, c.loop-left.invariant.1)
 
-pub overflow_sub-result-in-Past : goal.overflow_sub-result-in-Past
-overflow_sub-result-in-Past c = omega (arith, (c.loop-left.invariant.0 c.requires.0.held.valid c.requires.0.held.config c.requires.0.held.carries).within)
+pub overflow_sub-result-in-Err : goal.overflow_sub-result-in-Err
+overflow_sub-result-in-Err c = omega (arith, (c.loop-left.invariant.0 c.requires.0.held.valid c.requires.0.held.config c.requires.0.held.carries).within)
 
-pub shape_of-mem-in-Past : goal.shape_of-mem-in-Past
-shape_of-mem-in-Past c = (c.loop-left.invariant.0 c.requires.0.held.valid c.requires.0.held.config c.requires.0.held.carries).long
+pub shape_of-mem-in-Err : goal.shape_of-mem-in-Err
+shape_of-mem-in-Err c = (c.loop-left.invariant.0 c.requires.0.held.valid c.requires.0.held.config c.requires.0.held.carries).long
 
-pub shape_of-results-in-Past : goal.shape_of-results-in-Past
-shape_of-results-in-Past c = ap length (c.loop-left.invariant.0 c.requires.0.held.valid c.requires.0.held.config c.requires.0.held.carries).untouched
+pub shape_of-results-in-Err : goal.shape_of-results-in-Err
+shape_of-results-in-Err c = ap length (c.loop-left.invariant.0 c.requires.0.held.valid c.requires.0.held.config c.requires.0.held.carries).untouched
 
-pub returns-in-Past : goal.returns-in-Past
-returns-in-Past c =
+pub returns-in-Err : goal.returns-in-Err
+returns-in-Err c =
     λ v c₀ C. let D = c.loop-left.invariant.0 v c₀ C in stops (λ e. omega (arith, e)) (strayed D c.fetch-f.result c.fetch-f.ensures
     c.group-group.result c.group-group.ensures c.turns.ensures c.if-turns.false
     c.bounds.result c.bounds.ensures (pos_of_ne-zero c.if-left-eq0.false)
-    (not-clear c.in-Past.is))
+    (not-clear c.in-Err.is))

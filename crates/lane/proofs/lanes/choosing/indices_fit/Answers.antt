@@ -17,7 +17,7 @@ pub loop-i-preserved : goal.loop-i-preserved
 loop-i-preserved c =
     let l = c.loop-i in let v = c.args.s.bytes in (
       omega arith,
-      all_more l.i (λ n. ltb (lane i8x16 v n) 32) l.invariant.1 (lt-ltb (lane i8x16 v l.i) 32 (omega (arith, c.get8.ensures))),
+      all_more l.i (λ n. ltb (lane i8x16 v n) 32) l.invariant.1 (lt-ltb (lane i8x16 v l.i) 32 (omega (arith, c.get.ensures))),
     )
 
 pub returns-then-i-ge-LANES : goal.returns-then-i-ge-LANES
@@ -25,7 +25,7 @@ returns-then-i-ge-LANES c =
     let l = c.loop-i in let v = c.args.s.bytes in
     sym (subst (λ j. all j (λ n. ltb (lane i8x16 v n) 32) ≡ true) (le_antisymm l.invariant.0 c.if-i-ge-LANES.true) l.invariant.1)
 
-pub returns-then-get8-ge32 : goal.returns-then-get8-ge32
-returns-then-get8-ge32 c =
+pub returns-then-get-ge32 : goal.returns-then-get-ge32
+returns-then-get-ge32 c =
     let l = c.loop-i in let v = c.args.s.bytes in
-    sym (all-false 16 l.i (λ n. ltb (lane i8x16 v n) 32) c.if-i-ge-LANES.false (le-ltb (lane i8x16 v l.i) 32 (omega (arith, c.get8.ensures))))
+    sym (all-false 16 l.i (λ n. ltb (lane i8x16 v n) 32) c.if-i-ge-LANES.false (le-ltb (lane i8x16 v l.i) 32 (omega (arith, c.get.ensures))))

@@ -7,150 +7,6 @@ use Rattle.machine.proofs.Rows.{binaries, on-two, past-between}
 use Rattle.machine.proofs.vector.binary.arith32.Code.{function}
 use Rattle.machine.proofs.vector.binary.arith32.Goals as goal
 
-pub left-requires : goal.left-requires
-unfolding row_of plain_at vector_at vectors
-left-requires c = c.requires
-
-pub right-requires : goal.right-requires
-unfolding row_of plain_at vector_at vectors
-right-requires c = c.requires
-
-pub add-requires : goal.add-requires
-unfolding row_of plain_at vector_at vectors
-add-requires c = tt
-
-pub left-requires-in-433 : goal.left-requires-in-433
-unfolding row_of plain_at vector_at vectors
-left-requires-in-433 c = c.requires
-
-pub right-requires-in-433 : goal.right-requires-in-433
-unfolding row_of plain_at vector_at vectors
-right-requires-in-433 c = c.requires
-
-pub sub-requires : goal.sub-requires
-unfolding row_of plain_at vector_at vectors
-sub-requires c = tt
-
-pub left-requires-in-437 : goal.left-requires-in-437
-unfolding row_of plain_at vector_at vectors
-left-requires-in-437 c = c.requires
-
-pub right-requires-in-437 : goal.right-requires-in-437
-unfolding row_of plain_at vector_at vectors
-right-requires-in-437 c = c.requires
-
-pub mul-requires : goal.mul-requires
-unfolding row_of plain_at vector_at vectors
-mul-requires c = tt
-
-pub left-requires-in-438 : goal.left-requires-in-438
-unfolding row_of plain_at vector_at vectors
-left-requires-in-438 c = c.requires
-
-pub right-requires-in-438 : goal.right-requires-in-438
-unfolding row_of plain_at vector_at vectors
-right-requires-in-438 c = c.requires
-
-pub min_s-requires : goal.min_s-requires
-unfolding row_of plain_at vector_at vectors
-min_s-requires c = tt
-
-pub left-requires-in-439 : goal.left-requires-in-439
-unfolding row_of plain_at vector_at vectors
-left-requires-in-439 c = c.requires
-
-pub right-requires-in-439 : goal.right-requires-in-439
-unfolding row_of plain_at vector_at vectors
-right-requires-in-439 c = c.requires
-
-pub min_u-requires : goal.min_u-requires
-unfolding row_of plain_at vector_at vectors
-min_u-requires c = tt
-
-pub left-requires-in-440 : goal.left-requires-in-440
-unfolding row_of plain_at vector_at vectors
-left-requires-in-440 c = c.requires
-
-pub right-requires-in-440 : goal.right-requires-in-440
-unfolding row_of plain_at vector_at vectors
-right-requires-in-440 c = c.requires
-
-pub max_s-requires : goal.max_s-requires
-unfolding row_of plain_at vector_at vectors
-max_s-requires c = tt
-
-pub left-requires-in-441 : goal.left-requires-in-441
-unfolding row_of plain_at vector_at vectors
-left-requires-in-441 c = c.requires
-
-pub right-requires-in-441 : goal.right-requires-in-441
-unfolding row_of plain_at vector_at vectors
-right-requires-in-441 c = c.requires
-
-pub max_u-requires : goal.max_u-requires
-unfolding row_of plain_at vector_at vectors
-max_u-requires c = tt
-
-pub left-requires-in-442 : goal.left-requires-in-442
-unfolding row_of plain_at vector_at vectors
-left-requires-in-442 c = c.requires
-
-pub right-requires-in-442 : goal.right-requires-in-442
-unfolding row_of plain_at vector_at vectors
-right-requires-in-442 c = c.requires
-
-pub dot_i16x8_s-requires : goal.dot_i16x8_s-requires
-unfolding row_of plain_at vector_at vectors
-dot_i16x8_s-requires c = tt
-
-pub left-requires-in-444 : goal.left-requires-in-444
-unfolding row_of plain_at vector_at vectors
-left-requires-in-444 c = c.requires
-
-pub right-requires-in-444 : goal.right-requires-in-444
-unfolding row_of plain_at vector_at vectors
-right-requires-in-444 c = c.requires
-
-pub extmul_low_i16x8_s-requires : goal.extmul_low_i16x8_s-requires
-unfolding row_of plain_at vector_at vectors
-extmul_low_i16x8_s-requires c = tt
-
-pub left-requires-in-445 : goal.left-requires-in-445
-unfolding row_of plain_at vector_at vectors
-left-requires-in-445 c = c.requires
-
-pub right-requires-in-445 : goal.right-requires-in-445
-unfolding row_of plain_at vector_at vectors
-right-requires-in-445 c = c.requires
-
-pub extmul_high_i16x8_s-requires : goal.extmul_high_i16x8_s-requires
-unfolding row_of plain_at vector_at vectors
-extmul_high_i16x8_s-requires c = tt
-
-pub left-requires-in-446 : goal.left-requires-in-446
-unfolding row_of plain_at vector_at vectors
-left-requires-in-446 c = c.requires
-
-pub right-requires-in-446 : goal.right-requires-in-446
-unfolding row_of plain_at vector_at vectors
-right-requires-in-446 c = c.requires
-
-pub extmul_low_i16x8_u-requires : goal.extmul_low_i16x8_u-requires
-unfolding row_of plain_at vector_at vectors
-extmul_low_i16x8_u-requires c = tt
-
-pub left-requires-in-447 : goal.left-requires-in-447
-unfolding row_of plain_at vector_at vectors
-left-requires-in-447 c = c.requires
-
-pub right-requires-in-447 : goal.right-requires-in-447
-unfolding row_of plain_at vector_at vectors
-right-requires-in-447 c = c.requires
-
-pub extmul_high_i16x8_u-requires : goal.extmul_high_i16x8_u-requires
-unfolding row_of plain_at vector_at vectors
-extmul_high_i16x8_u-requires c = tt
-
 pub returns-in-430 : goal.returns-in-430
 unfolding row_of plain_at vector_at vectors
 returns-in-430 c low high = on-two binaries binary c.in-430.is refl c.left.ensures c.right.ensures c.add.ensures
@@ -185,19 +41,19 @@ returns-in-442 c low high = on-two binaries binary c.in-442.is refl c.left-in-44
 
 pub returns-in-444 : goal.returns-in-444
 unfolding row_of plain_at vector_at vectors
-returns-in-444 c low high = on-two binaries binary c.in-444.is refl c.left-in-444.ensures c.right-in-444.ensures c.extmul_low_i16x8_s.ensures
+returns-in-444 c low high = on-two binaries binary c.in-444.is refl c.left-in-444.ensures c.right-in-444.ensures c.extmul_low_s.ensures
 
 pub returns-in-445 : goal.returns-in-445
 unfolding row_of plain_at vector_at vectors
-returns-in-445 c low high = on-two binaries binary c.in-445.is refl c.left-in-445.ensures c.right-in-445.ensures c.extmul_high_i16x8_s.ensures
+returns-in-445 c low high = on-two binaries binary c.in-445.is refl c.left-in-445.ensures c.right-in-445.ensures c.extmul_high_s.ensures
 
 pub returns-in-446 : goal.returns-in-446
 unfolding row_of plain_at vector_at vectors
-returns-in-446 c low high = on-two binaries binary c.in-446.is refl c.left-in-446.ensures c.right-in-446.ensures c.extmul_low_i16x8_u.ensures
+returns-in-446 c low high = on-two binaries binary c.in-446.is refl c.left-in-446.ensures c.right-in-446.ensures c.extmul_low_u.ensures
 
 pub returns-in-447 : goal.returns-in-447
 unfolding row_of plain_at vector_at vectors
-returns-in-447 c low high = on-two binaries binary c.in-447.is refl c.left-in-447.ensures c.right-in-447.ensures c.extmul_high_i16x8_u.ensures
+returns-in-447 c low high = on-two binaries binary c.in-447.is refl c.left-in-447.ensures c.right-in-447.ensures c.extmul_high_u.ensures
 
 pub returns-in_default : goal.returns-in_default
 unfolding row_of plain_at vector_at vectors

@@ -7,54 +7,6 @@ use Rattle.machine.proofs.Rows.{binaries, on-two, past-between}
 use Rattle.machine.proofs.vector.binary.bits.Code.{function}
 use Rattle.machine.proofs.vector.binary.bits.Goals as goal
 
-pub left-requires : goal.left-requires
-unfolding row_of plain_at vector_at vectors
-left-requires c = c.requires
-
-pub right-requires : goal.right-requires
-unfolding row_of plain_at vector_at vectors
-right-requires c = c.requires
-
-pub and-requires : goal.and-requires
-unfolding row_of plain_at vector_at vectors
-and-requires c = tt
-
-pub left-requires-in-335 : goal.left-requires-in-335
-unfolding row_of plain_at vector_at vectors
-left-requires-in-335 c = c.requires
-
-pub right-requires-in-335 : goal.right-requires-in-335
-unfolding row_of plain_at vector_at vectors
-right-requires-in-335 c = c.requires
-
-pub andnot-requires : goal.andnot-requires
-unfolding row_of plain_at vector_at vectors
-andnot-requires c = tt
-
-pub left-requires-in-336 : goal.left-requires-in-336
-unfolding row_of plain_at vector_at vectors
-left-requires-in-336 c = c.requires
-
-pub right-requires-in-336 : goal.right-requires-in-336
-unfolding row_of plain_at vector_at vectors
-right-requires-in-336 c = c.requires
-
-pub or-requires : goal.or-requires
-unfolding row_of plain_at vector_at vectors
-or-requires c = tt
-
-pub left-requires-in-337 : goal.left-requires-in-337
-unfolding row_of plain_at vector_at vectors
-left-requires-in-337 c = c.requires
-
-pub right-requires-in-337 : goal.right-requires-in-337
-unfolding row_of plain_at vector_at vectors
-right-requires-in-337 c = c.requires
-
-pub xor-requires : goal.xor-requires
-unfolding row_of plain_at vector_at vectors
-xor-requires c = tt
-
 pub returns-in-334 : goal.returns-in-334
 unfolding row_of plain_at vector_at vectors
 returns-in-334 c low high = on-two binaries binary c.in-334.is refl c.left.ensures c.right.ensures c.and.ensures

@@ -14,29 +14,13 @@ pub overflow_cast-x : goal.overflow_cast-x
 unfolding row_of plain_at vector_at vectors
 overflow_cast-x c = omega arith
 
-pub splat-requires : goal.splat-requires
-unfolding row_of plain_at vector_at vectors
-splat-requires c = tt
-
 pub overflow_cast-x-in-272 : goal.overflow_cast-x-in-272
 unfolding row_of plain_at vector_at vectors
 overflow_cast-x-in-272 c = omega arith
 
-pub splat-requires-in-272 : goal.splat-requires-in-272
-unfolding row_of plain_at vector_at vectors
-splat-requires-in-272 c = tt
-
 pub overflow_cast-x-in-273 : goal.overflow_cast-x-in-273
 unfolding row_of plain_at vector_at vectors
 overflow_cast-x-in-273 c = omega arith
-
-pub splat-requires-in-273 : goal.splat-requires-in-273
-unfolding row_of plain_at vector_at vectors
-splat-requires-in-273 c = tt
-
-pub splat-requires-in-274 : goal.splat-requires-in-274
-unfolding row_of plain_at vector_at vectors
-splat-requires-in-274 c = tt
 
 pub returns-in-271 : goal.returns-in-271
 unfolding row_of plain_at vector_at vectors

@@ -7,214 +7,6 @@ use Rattle.machine.proofs.Rows.{unaries, on_one, past-arms}
 use Rattle.machine.proofs.vector.unary.unary.Code.{function}
 use Rattle.machine.proofs.vector.unary.unary.Goals as goal
 
-pub only-requires : goal.only-requires
-unfolding row_of plain_at vector_at vectors
-only-requires c = c.requires
-
-pub not-requires : goal.not-requires
-unfolding row_of plain_at vector_at vectors
-not-requires c = tt
-
-pub only-requires-in-352 : goal.only-requires-in-352
-unfolding row_of plain_at vector_at vectors
-only-requires-in-352 c = c.requires
-
-pub abs-requires : goal.abs-requires
-unfolding row_of plain_at vector_at vectors
-abs-requires c = tt
-
-pub only-requires-in-353 : goal.only-requires-in-353
-unfolding row_of plain_at vector_at vectors
-only-requires-in-353 c = c.requires
-
-pub neg-requires : goal.neg-requires
-unfolding row_of plain_at vector_at vectors
-neg-requires c = tt
-
-pub only-requires-in-354 : goal.only-requires-in-354
-unfolding row_of plain_at vector_at vectors
-only-requires-in-354 c = c.requires
-
-pub popcnt-requires : goal.popcnt-requires
-unfolding row_of plain_at vector_at vectors
-popcnt-requires c = tt
-
-pub only-requires-in-380 : goal.only-requires-in-380
-unfolding row_of plain_at vector_at vectors
-only-requires-in-380 c = c.requires
-
-pub extadd_pairwise_i8x16_s-requires : goal.extadd_pairwise_i8x16_s-requires
-unfolding row_of plain_at vector_at vectors
-extadd_pairwise_i8x16_s-requires c = tt
-
-pub only-requires-in-381 : goal.only-requires-in-381
-unfolding row_of plain_at vector_at vectors
-only-requires-in-381 c = c.requires
-
-pub extadd_pairwise_i8x16_u-requires : goal.extadd_pairwise_i8x16_u-requires
-unfolding row_of plain_at vector_at vectors
-extadd_pairwise_i8x16_u-requires c = tt
-
-pub only-requires-in-382 : goal.only-requires-in-382
-unfolding row_of plain_at vector_at vectors
-only-requires-in-382 c = c.requires
-
-pub extadd_pairwise_i16x8_s-requires : goal.extadd_pairwise_i16x8_s-requires
-unfolding row_of plain_at vector_at vectors
-extadd_pairwise_i16x8_s-requires c = tt
-
-pub only-requires-in-383 : goal.only-requires-in-383
-unfolding row_of plain_at vector_at vectors
-only-requires-in-383 c = c.requires
-
-pub extadd_pairwise_i16x8_u-requires : goal.extadd_pairwise_i16x8_u-requires
-unfolding row_of plain_at vector_at vectors
-extadd_pairwise_i16x8_u-requires c = tt
-
-pub only-requires-in-384 : goal.only-requires-in-384
-unfolding row_of plain_at vector_at vectors
-only-requires-in-384 c = c.requires
-
-pub abs-requires-in-384 : goal.abs-requires-in-384
-unfolding row_of plain_at vector_at vectors
-abs-requires-in-384 c = tt
-
-pub only-requires-in-385 : goal.only-requires-in-385
-unfolding row_of plain_at vector_at vectors
-only-requires-in-385 c = c.requires
-
-pub neg-requires-in-385 : goal.neg-requires-in-385
-unfolding row_of plain_at vector_at vectors
-neg-requires-in-385 c = tt
-
-pub only-requires-in-391 : goal.only-requires-in-391
-unfolding row_of plain_at vector_at vectors
-only-requires-in-391 c = c.requires
-
-pub extend_low_i8x16_s-requires : goal.extend_low_i8x16_s-requires
-unfolding row_of plain_at vector_at vectors
-extend_low_i8x16_s-requires c = tt
-
-pub only-requires-in-392 : goal.only-requires-in-392
-unfolding row_of plain_at vector_at vectors
-only-requires-in-392 c = c.requires
-
-pub extend_high_i8x16_s-requires : goal.extend_high_i8x16_s-requires
-unfolding row_of plain_at vector_at vectors
-extend_high_i8x16_s-requires c = tt
-
-pub only-requires-in-393 : goal.only-requires-in-393
-unfolding row_of plain_at vector_at vectors
-only-requires-in-393 c = c.requires
-
-pub extend_low_i8x16_u-requires : goal.extend_low_i8x16_u-requires
-unfolding row_of plain_at vector_at vectors
-extend_low_i8x16_u-requires c = tt
-
-pub only-requires-in-394 : goal.only-requires-in-394
-unfolding row_of plain_at vector_at vectors
-only-requires-in-394 c = c.requires
-
-pub extend_high_i8x16_u-requires : goal.extend_high_i8x16_u-requires
-unfolding row_of plain_at vector_at vectors
-extend_high_i8x16_u-requires c = tt
-
-pub only-requires-in-416 : goal.only-requires-in-416
-unfolding row_of plain_at vector_at vectors
-only-requires-in-416 c = c.requires
-
-pub abs-requires-in-416 : goal.abs-requires-in-416
-unfolding row_of plain_at vector_at vectors
-abs-requires-in-416 c = tt
-
-pub only-requires-in-417 : goal.only-requires-in-417
-unfolding row_of plain_at vector_at vectors
-only-requires-in-417 c = c.requires
-
-pub neg-requires-in-417 : goal.neg-requires-in-417
-unfolding row_of plain_at vector_at vectors
-neg-requires-in-417 c = tt
-
-pub only-requires-in-423 : goal.only-requires-in-423
-unfolding row_of plain_at vector_at vectors
-only-requires-in-423 c = c.requires
-
-pub extend_low_i16x8_s-requires : goal.extend_low_i16x8_s-requires
-unfolding row_of plain_at vector_at vectors
-extend_low_i16x8_s-requires c = tt
-
-pub only-requires-in-424 : goal.only-requires-in-424
-unfolding row_of plain_at vector_at vectors
-only-requires-in-424 c = c.requires
-
-pub extend_high_i16x8_s-requires : goal.extend_high_i16x8_s-requires
-unfolding row_of plain_at vector_at vectors
-extend_high_i16x8_s-requires c = tt
-
-pub only-requires-in-425 : goal.only-requires-in-425
-unfolding row_of plain_at vector_at vectors
-only-requires-in-425 c = c.requires
-
-pub extend_low_i16x8_u-requires : goal.extend_low_i16x8_u-requires
-unfolding row_of plain_at vector_at vectors
-extend_low_i16x8_u-requires c = tt
-
-pub only-requires-in-426 : goal.only-requires-in-426
-unfolding row_of plain_at vector_at vectors
-only-requires-in-426 c = c.requires
-
-pub extend_high_i16x8_u-requires : goal.extend_high_i16x8_u-requires
-unfolding row_of plain_at vector_at vectors
-extend_high_i16x8_u-requires c = tt
-
-pub only-requires-in-448 : goal.only-requires-in-448
-unfolding row_of plain_at vector_at vectors
-only-requires-in-448 c = c.requires
-
-pub abs-requires-in-448 : goal.abs-requires-in-448
-unfolding row_of plain_at vector_at vectors
-abs-requires-in-448 c = tt
-
-pub only-requires-in-449 : goal.only-requires-in-449
-unfolding row_of plain_at vector_at vectors
-only-requires-in-449 c = c.requires
-
-pub neg-requires-in-449 : goal.neg-requires-in-449
-unfolding row_of plain_at vector_at vectors
-neg-requires-in-449 c = tt
-
-pub only-requires-in-455 : goal.only-requires-in-455
-unfolding row_of plain_at vector_at vectors
-only-requires-in-455 c = c.requires
-
-pub extend_low_i32x4_s-requires : goal.extend_low_i32x4_s-requires
-unfolding row_of plain_at vector_at vectors
-extend_low_i32x4_s-requires c = tt
-
-pub only-requires-in-456 : goal.only-requires-in-456
-unfolding row_of plain_at vector_at vectors
-only-requires-in-456 c = c.requires
-
-pub extend_high_i32x4_s-requires : goal.extend_high_i32x4_s-requires
-unfolding row_of plain_at vector_at vectors
-extend_high_i32x4_s-requires c = tt
-
-pub only-requires-in-457 : goal.only-requires-in-457
-unfolding row_of plain_at vector_at vectors
-only-requires-in-457 c = c.requires
-
-pub extend_low_i32x4_u-requires : goal.extend_low_i32x4_u-requires
-unfolding row_of plain_at vector_at vectors
-extend_low_i32x4_u-requires c = tt
-
-pub only-requires-in-458 : goal.only-requires-in-458
-unfolding row_of plain_at vector_at vectors
-only-requires-in-458 c = c.requires
-
-pub extend_high_i32x4_u-requires : goal.extend_high_i32x4_u-requires
-unfolding row_of plain_at vector_at vectors
-extend_high_i32x4_u-requires c = tt
-
 pub returns-in-333 : goal.returns-in-333
 unfolding row_of plain_at vector_at vectors
 returns-in-333 c = on_one unaries unary c.in-333.is refl c.only.ensures c.not.ensures
@@ -233,19 +25,19 @@ returns-in-354 c = on_one unaries unary c.in-354.is refl c.only-in-354.ensures c
 
 pub returns-in-380 : goal.returns-in-380
 unfolding row_of plain_at vector_at vectors
-returns-in-380 c = on_one unaries unary c.in-380.is refl c.only-in-380.ensures c.extadd_pairwise_i8x16_s.ensures
+returns-in-380 c = on_one unaries unary c.in-380.is refl c.only-in-380.ensures c.extadd_pairwise_s.ensures
 
 pub returns-in-381 : goal.returns-in-381
 unfolding row_of plain_at vector_at vectors
-returns-in-381 c = on_one unaries unary c.in-381.is refl c.only-in-381.ensures c.extadd_pairwise_i8x16_u.ensures
+returns-in-381 c = on_one unaries unary c.in-381.is refl c.only-in-381.ensures c.extadd_pairwise_u.ensures
 
 pub returns-in-382 : goal.returns-in-382
 unfolding row_of plain_at vector_at vectors
-returns-in-382 c = on_one unaries unary c.in-382.is refl c.only-in-382.ensures c.extadd_pairwise_i16x8_s.ensures
+returns-in-382 c = on_one unaries unary c.in-382.is refl c.only-in-382.ensures c.extadd_pairwise_s-in-382.ensures
 
 pub returns-in-383 : goal.returns-in-383
 unfolding row_of plain_at vector_at vectors
-returns-in-383 c = on_one unaries unary c.in-383.is refl c.only-in-383.ensures c.extadd_pairwise_i16x8_u.ensures
+returns-in-383 c = on_one unaries unary c.in-383.is refl c.only-in-383.ensures c.extadd_pairwise_u-in-383.ensures
 
 pub returns-in-384 : goal.returns-in-384
 unfolding row_of plain_at vector_at vectors
@@ -257,19 +49,19 @@ returns-in-385 c = on_one unaries unary c.in-385.is refl c.only-in-385.ensures c
 
 pub returns-in-391 : goal.returns-in-391
 unfolding row_of plain_at vector_at vectors
-returns-in-391 c = on_one unaries unary c.in-391.is refl c.only-in-391.ensures c.extend_low_i8x16_s.ensures
+returns-in-391 c = on_one unaries unary c.in-391.is refl c.only-in-391.ensures c.extend_low_s.ensures
 
 pub returns-in-392 : goal.returns-in-392
 unfolding row_of plain_at vector_at vectors
-returns-in-392 c = on_one unaries unary c.in-392.is refl c.only-in-392.ensures c.extend_high_i8x16_s.ensures
+returns-in-392 c = on_one unaries unary c.in-392.is refl c.only-in-392.ensures c.extend_high_s.ensures
 
 pub returns-in-393 : goal.returns-in-393
 unfolding row_of plain_at vector_at vectors
-returns-in-393 c = on_one unaries unary c.in-393.is refl c.only-in-393.ensures c.extend_low_i8x16_u.ensures
+returns-in-393 c = on_one unaries unary c.in-393.is refl c.only-in-393.ensures c.extend_low_u.ensures
 
 pub returns-in-394 : goal.returns-in-394
 unfolding row_of plain_at vector_at vectors
-returns-in-394 c = on_one unaries unary c.in-394.is refl c.only-in-394.ensures c.extend_high_i8x16_u.ensures
+returns-in-394 c = on_one unaries unary c.in-394.is refl c.only-in-394.ensures c.extend_high_u.ensures
 
 pub returns-in-416 : goal.returns-in-416
 unfolding row_of plain_at vector_at vectors
@@ -281,19 +73,19 @@ returns-in-417 c = on_one unaries unary c.in-417.is refl c.only-in-417.ensures c
 
 pub returns-in-423 : goal.returns-in-423
 unfolding row_of plain_at vector_at vectors
-returns-in-423 c = on_one unaries unary c.in-423.is refl c.only-in-423.ensures c.extend_low_i16x8_s.ensures
+returns-in-423 c = on_one unaries unary c.in-423.is refl c.only-in-423.ensures c.extend_low_s-in-423.ensures
 
 pub returns-in-424 : goal.returns-in-424
 unfolding row_of plain_at vector_at vectors
-returns-in-424 c = on_one unaries unary c.in-424.is refl c.only-in-424.ensures c.extend_high_i16x8_s.ensures
+returns-in-424 c = on_one unaries unary c.in-424.is refl c.only-in-424.ensures c.extend_high_s-in-424.ensures
 
 pub returns-in-425 : goal.returns-in-425
 unfolding row_of plain_at vector_at vectors
-returns-in-425 c = on_one unaries unary c.in-425.is refl c.only-in-425.ensures c.extend_low_i16x8_u.ensures
+returns-in-425 c = on_one unaries unary c.in-425.is refl c.only-in-425.ensures c.extend_low_u-in-425.ensures
 
 pub returns-in-426 : goal.returns-in-426
 unfolding row_of plain_at vector_at vectors
-returns-in-426 c = on_one unaries unary c.in-426.is refl c.only-in-426.ensures c.extend_high_i16x8_u.ensures
+returns-in-426 c = on_one unaries unary c.in-426.is refl c.only-in-426.ensures c.extend_high_u-in-426.ensures
 
 pub returns-in-448 : goal.returns-in-448
 unfolding row_of plain_at vector_at vectors
@@ -305,19 +97,19 @@ returns-in-449 c = on_one unaries unary c.in-449.is refl c.only-in-449.ensures c
 
 pub returns-in-455 : goal.returns-in-455
 unfolding row_of plain_at vector_at vectors
-returns-in-455 c = on_one unaries unary c.in-455.is refl c.only-in-455.ensures c.extend_low_i32x4_s.ensures
+returns-in-455 c = on_one unaries unary c.in-455.is refl c.only-in-455.ensures c.extend_low_s-in-455.ensures
 
 pub returns-in-456 : goal.returns-in-456
 unfolding row_of plain_at vector_at vectors
-returns-in-456 c = on_one unaries unary c.in-456.is refl c.only-in-456.ensures c.extend_high_i32x4_s.ensures
+returns-in-456 c = on_one unaries unary c.in-456.is refl c.only-in-456.ensures c.extend_high_s-in-456.ensures
 
 pub returns-in-457 : goal.returns-in-457
 unfolding row_of plain_at vector_at vectors
-returns-in-457 c = on_one unaries unary c.in-457.is refl c.only-in-457.ensures c.extend_low_i32x4_u.ensures
+returns-in-457 c = on_one unaries unary c.in-457.is refl c.only-in-457.ensures c.extend_low_u-in-457.ensures
 
 pub returns-in-458 : goal.returns-in-458
 unfolding row_of plain_at vector_at vectors
-returns-in-458 c = on_one unaries unary c.in-458.is refl c.only-in-458.ensures c.extend_high_i32x4_u.ensures
+returns-in-458 c = on_one unaries unary c.in-458.is refl c.only-in-458.ensures c.extend_high_u-in-458.ensures
 
 pub returns-in_default : goal.returns-in_default
 unfolding row_of plain_at vector_at vectors

@@ -1,0 +1,11 @@
+-- A lane of 16 bits is two of 8, the low one first.
+use native.Mathlib.Omega.{arith}
+use Rattle.operation.specs.Vector.{number, lane}
+use Rattle.operation.proofs.Laws.Number.{field-join}
+use Rattle.lane.proofs.laid.I16x8Laid.get.Goals as goal
+
+pub returns : goal.returns
+unfolding lane
+returns c =
+    let a = c.args in
+    omega (arith, field-join 8 (number a.v.now) a.i)

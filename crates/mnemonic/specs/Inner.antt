@@ -1,3 +1,0 @@
--- What only contracts inside the crate cite; no promise to a user does.
-pub mod Row
-pub mod Block
