@@ -21,6 +21,3 @@ returns-then-group-lt-GROUP_I32_EQZ c =
       in_version = row-early a.version a.first a.number (search rules)
           (known-range a.version c.requires).0 (omega (arith, c.if-group-lt-GROUP_I32_EQZ.true, c.group.ensures, group-in (row_at latest a.first a.number) is));
     }
-
-pub returns : goal.returns
-returns c = record { row = row_of c.id_in.result; entry = c.entry.ensures; in_version = c.id_in.ensures }

@@ -1,10 +1,7 @@
 use mathlib.Core.Path.{refl}
 use native.Mathlib.Omega.{arith}
-use Rattle.checker.proofs.Marks.{tells-live, tells-dead, outward, dead-inner, all_live, one-dead, one-outward}
+use Rattle.checker.proofs.Marks.{tells-live, tells-dead, outward, all_live, one-dead, one-outward}
 use Rattle.checker.proofs.place.is_dead.Goals as goal
-
-pub returns-then-dead : goal.returns-then-dead
-returns-then-dead c = λ rs fs floor n. tells-dead refl (dead-inner c.if-dead.true n)
 
 pub loop-k-init : goal.loop-k-init
 loop-k-init c = λ rs fs floor n. outward c.if-dead.false n

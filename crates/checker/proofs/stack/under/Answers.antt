@@ -1,4 +1,3 @@
-use native.Mathlib.Omega.{arith}
 use Rattle.checker.proofs.Operands.{pops, pops-on, any-there, none-there, other-there, all-popped}
 use Rattle.checker.proofs.stack.under.Goals as goal
 
@@ -11,20 +10,8 @@ returns-then-dead c = record { most = c.requires.0; under = λ outer ins f t e. 
 pub returns-then-base-floor : goal.returns-then-base-floor
 returns-then-base-floor c = record { most = tt; under = λ outer ins f t e. none-there c.loop-left.invariant outer ins f t e c.loop-left-test.true c.if-base-floor.true c.if-dead.false }
 
-pub overflow_sub-base : goal.overflow_sub-base
-overflow_sub-base c = omega (arith, c.loop-left.invariant.least, c.if-base-floor.false)
-
-pub bounds-kinds-base : goal.bounds-kinds-base
-bounds-kinds-base c = omega (arith, c.loop-left.invariant.least, c.loop-left.invariant.most, c.if-base-floor.false, c.requires.1)
-
 pub returns-then-kinds-base : goal.returns-then-kinds-base
 returns-then-kinds-base c = record { most = tt; under = λ outer ins f t e. other-there c.loop-left.invariant outer ins f t e c.loop-left-test.true c.if-base-floor.false c.if-kinds-base.true }
-
-pub overflow_sub-base-in-loop-left : goal.overflow_sub-base-in-loop-left
-overflow_sub-base-in-loop-left c = omega (arith, c.loop-left.invariant.least, c.if-base-floor.false)
-
-pub loop-left-smaller : goal.loop-left-smaller
-loop-left-smaller c = omega (arith, c.loop-left.invariant.least, c.if-base-floor.false)
 
 pub loop-left-preserved : goal.loop-left-preserved
 loop-left-preserved c = pops-on c.loop-left.invariant c.loop-left-test.true c.if-base-floor.false c.if-kinds-base.false

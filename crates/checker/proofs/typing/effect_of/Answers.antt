@@ -1,7 +1,5 @@
 -- By the signature, by the value on top, or by the local.
-use Prim.Native.Nat.{◌+◌, ◌-◌}
 use mathlib.Core.Path.{refl, sym, ◌∙◌}
-use native.Mathlib.Omega.{arith}
 use Rattle.opcode.specs.Table.{carried}
 use Rattle.opcode.proofs.Entries.{group-in, effect-in}
 use Rattle.checker.proofs.Effects.{effected-signature, effected-none, effected-drop, names-local, effected-undeclared, effected-get, effected-set, effected-tee}
@@ -15,9 +13,6 @@ returns-then-depth-floor c =
     λ v ls outer f row o h t. effected-none ls c.args.index f _ t v _ (c.group-group.ensures ∙ group-in (carried v) row)
     c.if-group-eq-GROUP_DROP.true c.if-depth-floor.true refl
 
-pub overflow_cast-result-then-group-eq-GROUP_DROP : goal.overflow_cast-result-then-group-eq-GROUP_DROP
-overflow_cast-result-then-group-eq-GROUP_DROP c = omega (arith, c.shared_slice_known-then-group-eq-GROUP_DROP-1.given (c.args.depth - 1))
-
 pub returns-then-group-eq-GROUP_DROP : goal.returns-then-group-eq-GROUP_DROP
 returns-then-group-eq-GROUP_DROP c =
     λ v ls outer f row o h t. effected-drop ls c.args.index f _ t v _ (c.group-group.ensures ∙ group-in (carried v) row)
@@ -29,18 +24,6 @@ returns-then-locals-n c =
     let names = names-local v _ _ o (c.effect-effect.ensures ∙ effect-in (carried v) row) c.if-effect-ne0.false
     (c.group-group.ensures ∙ group-in (carried v) row) c.if-group-eq-GROUP_DROP.false in
     effected-undeclared ls c.args.index f _ c.args.strip.now h v names c.if-locals-n.true refl
-
-pub overflow_cast-k : goal.overflow_cast-k
-overflow_cast-k c = omega (arith, c.shared_slice_known-3-1.given (8 + c.args.index))
-
-pub overflow_mul-result : goal.overflow_mul-result
-overflow_mul-result c = omega (arith, c.shared_slice_known-3-1.given (8 + c.args.index))
-
-pub overflow_mul-result-in_default : goal.overflow_mul-result-in_default
-overflow_mul-result-in_default c = omega (arith, c.shared_slice_known-3-1.given (8 + c.args.index))
-
-pub overflow_add-result : goal.overflow_add-result
-overflow_add-result c = omega (arith, c.shared_slice_known-3-1.given (8 + c.args.index))
 
 pub returns-in-2 : goal.returns-in-2
 returns-in-2 c =

@@ -10,17 +10,6 @@ use Rattle.listing.proofs.Shown.{shown-index, shown-word, shown-long, shown-memo
 use Rattle.listing.proofs.Shown.{shown-none}
 use Rattle.listing.proofs.immediates.immediates.Goals as goal
 
-pub number-requires-in-4 : goal.number-requires-in-4
-number-requires-in-4 c = omega (arith, adds-ends c.number-p.ensures (omega (arith, c.requires.1)), c.requires.1)
-
-pub number-q-requires : goal.number-q-requires
-number-q-requires c = omega (arith, adds-ends c.number-p-in-5.ensures (omega (arith, c.requires.1)), c.requires.1)
-
-pub number-requires-in-5 : goal.number-requires-in-5
-number-requires-in-5 c =
-    let p = adds-ends c.number-p-in-5.ensures (omega (arith, c.requires.1)) in
-    let q = adds-ends c.number-q.ensures (omega (arith, p, c.requires.1)) in omega (arith, p, q, c.requires.1)
-
 pub returns-in-1 : goal.returns-in-1
 returns-in-1 c = adds-most (omega arith) (adds_same (shown-index c.args.i (sym c.requires.0 ∙ c.in-1.is)) (rw c.from.ensures at c.number.ensures))
 

@@ -1,10 +1,7 @@
 -- The parts, one after the other.
 use native.Mathlib.Omega.{arith}
-use Rattle.listing.proofs.Chain.{class-is, kinds_long, after-place, after-name, is-line}
+use Rattle.listing.proofs.Chain.{class-is, after-name, is-line}
 use Rattle.listing.proofs.line.line.Goals as goal
-
-pub stack-after_stack-requires : goal.stack-after_stack-requires
-stack-after_stack-requires c = (kinds_long c.requires, omega (arith, after-place c.args.at c.requires c.place-after_place.ensures, c.requires.most, c.requires.enough))
 
 pub immediates-after_all-requires : goal.immediates-after_all-requires
 immediates-after_all-requires c = (

@@ -1,14 +1,10 @@
 use Prim.Native.Nat.{ℕ, ◌+◌, ◌<◌}
 use mathlib.Core.Path.{◌≡◌, ap, sym, ◌∙◌}
 use native.Mathlib.Omega.{arith}
-use borrow.Author.Rules.{rules}
 use lib.ListN.{replicate, length, get_or, set, drop, length-set, length-drop}
-use lib.Seq.{paste, paste-zero, get_or-drop}
-use Rattle.machine.proofs.Laws.Copy.{turn, copied}
+use lib.Seq.{get_or-drop}
+use Rattle.machine.proofs.Laws.Copy.{turn}
 use Rattle.machine.proofs.span.read.Goals as goal
-
-pub loop-k-init : goal.loop-k-init
-loop-k-init c = (search rules, paste-zero (replicate 16 0) 0 (drop c.args.at c.args.s.now))
 
 pub loop-k-preserved : goal.loop-k-preserved
 loop-k-preserved c =
@@ -18,9 +14,3 @@ loop-k-preserved c =
       ap (λ (i : ℕ). set l.b i (get_or a.s.now (a.at + l.k) 0)) (sym z)
           ∙ turn (replicate 16 0) 0 (drop a.at a.s.now) l.b l.k _ l.invariant.1 (sym (get_or-drop a.at a.s.now l.k 0)) (omega arith) h,
     )
-
-pub returns : goal.returns
-returns c =
-    let l = c.loop-k in let all : l.k ≡ c.args.n = omega arith in
-    l.invariant.1 ∙ ap (paste (replicate 16 0) 0 (drop c.args.at c.args.s.now)) all
-    ∙ copied c.args.s.now c.args.at c.args.n c.requires.0 c.requires.1

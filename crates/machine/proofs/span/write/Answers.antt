@@ -1,13 +1,9 @@
 use mathlib.Core.Path.{refl, ap, ◌∙◌}
 use native.Mathlib.Omega.{arith}
-use borrow.Author.Rules.{rules}
 use lib.ListN.{length-set}
-use lib.Seq.{paste, paste-zero}
+use lib.Seq.{paste}
 use Rattle.machine.proofs.Laws.Copy.{turn, overwritten}
 use Rattle.machine.proofs.span.write.Goals as goal
-
-pub loop-k-init : goal.loop-k-init
-loop-k-init c = let a = c.args in (refl, search rules, paste-zero a.s.now a.at a.v.bytes)
 
 pub loop-k-preserved : goal.loop-k-preserved
 loop-k-preserved c =

@@ -7,9 +7,6 @@ use Rattle.run.proofs.blocks.branch.Goals as goal
 pub bounds-strip-7 : goal.bounds-strip-7
 bounds-strip-7 c = omega (arith, counts c.requires.0.valid c.requires.0.leads)
 
-pub overflow_cast-result : goal.overflow_cast-result
-overflow_cast-result c = omega (arith, counts c.requires.0.valid c.requires.0.leads)
-
 pub overflow_sub-result : goal.overflow_sub-result
 overflow_sub-result c = omega (arith, results-there c.requires.0.valid c.requires.0.leads c.if-index-nest.true)
 

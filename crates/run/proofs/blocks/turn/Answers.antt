@@ -29,14 +29,6 @@ mark-requires-then-group-eq-GROUP_LOOP c = room-for-loop c.requires.0.held.valid
 pub returns-then-group-eq-GROUP_LOOP : goal.returns-then-group-eq-GROUP_LOOP
 returns-then-group-eq-GROUP_LOOP c = (λ v c' locals mem C. recounted c.mark-then-group-eq-GROUP_LOOP.ensures (loop-begins v C c.requires.1 c.if-group-eq-GROUP_LOOP.true refl), c.requires.2)
 
-pub overflow_sub-top : goal.overflow_sub-top
-overflow_sub-top c =
-    omega (
-      arith,
-      pops c.requires.0.held.valid c.requires.0.held.carries c.requires.1 c.if-group-eq-GROUP_END.false
-          c.if-group-eq-GROUP_BLOCK.false c.if-group-eq-GROUP_LOOP.false,
-    )
-
 pub overflow_sub-top-2 : goal.overflow_sub-top-2
 overflow_sub-top-2 c =
     omega (

@@ -12,29 +12,14 @@ returns-then-memory-gt-MEMORY c = λ mem out lm lo. no_room c.check-verdict.ensu
 pub bounds-strip-5 : goal.bounds-strip-5
 bounds-strip-5 c = omega (arith, counts_of c.check-verdict.ensures c.if-verdict-ne-DONE.false)
 
-pub overflow_cast-parameters : goal.overflow_cast-parameters
-overflow_cast-parameters c = omega (arith, counts_of c.check-verdict.ensures c.if-verdict-ne-DONE.false)
-
-pub overflow_mul-parameters : goal.overflow_mul-parameters
-overflow_mul-parameters c = omega (arith, counts_of c.check-verdict.ensures c.if-verdict-ne-DONE.false)
-
 pub returns-then-args-parameters : goal.returns-then-args-parameters
 returns-then-args-parameters c = λ mem out lm lo. other-args c.check-verdict.ensures c.args.args.now mem out c.if-verdict-ne-DONE.false (omega (arith, lm, c.if-memory-gt-MEMORY.false)) c.refused-then-args-parameters.ensures c.if-args-parameters.true
 
 pub bounds-strip-7 : goal.bounds-strip-7
 bounds-strip-7 c = omega (arith, counts_of c.check-verdict.ensures c.if-verdict-ne-DONE.false)
 
-pub overflow_cast-strip : goal.overflow_cast-strip
-overflow_cast-strip c = omega (arith, counts_of c.check-verdict.ensures c.if-verdict-ne-DONE.false)
-
-pub overflow_mul-strip : goal.overflow_mul-strip
-overflow_mul-strip c = omega (arith, counts_of c.check-verdict.ensures c.if-verdict-ne-DONE.false)
-
 pub returns-then-out-strip : goal.returns-then-out-strip
 returns-then-out-strip c = λ mem out lm lo. other-out c.check-verdict.ensures c.args.args.now mem out c.if-verdict-ne-DONE.false (omega (arith, lm, c.if-memory-gt-MEMORY.false)) c.if-args-parameters.false c.refused-then-out-strip.ensures (λ q. c.if-out-strip.true (sym lo ∙ q))
-
-pub overflow_add-end : goal.overflow_add-end
-overflow_add-end c = omega (arith, counts_of c.check-verdict.ensures c.if-verdict-ne-DONE.false)
 
 pub slice_bounds-formed-end : goal.slice_bounds-formed-end
 slice_bounds-formed-end c = omega (arith, kinds-inside c.check-verdict.ensures c.if-verdict-ne-DONE.false)

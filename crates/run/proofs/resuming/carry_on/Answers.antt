@@ -1,16 +1,10 @@
 use mathlib.Core.Path.{refl}
 use native.Mathlib.Omega.{arith}
 use Rattle.run.proofs.Keeping.{none_kept}
-use Rattle.run.proofs.Restoring.{image-room, few-held, carries-on, may-go-on}
+use Rattle.run.proofs.Restoring.{few-held, carries-on, may-go-on}
 use Rattle.run.proofs.Pausing.{stop-deep, paused-left}
 use borrow.Author.Rules.{rules}
 use Rattle.run.proofs.resuming.carry_on.Goals as goal
-
-pub slots_in-requires : goal.slots_in-requires
-slots_in-requires c = let room = image-room c.requires in omega arith
-
-pub slots_in-requires-2 : goal.slots_in-requires-2
-slots_in-requires-2 c = let room = image-room c.requires in omega arith
 
 pub go_on-stop-requires : goal.go_on-stop-requires
 go_on-stop-requires c = (may-go-on c.requires (λ k. c.slice_known-1.given k) c.slots_in-2.ensures c.slots_in.ensures refl, none_kept _)

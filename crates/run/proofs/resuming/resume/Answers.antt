@@ -1,9 +1,8 @@
-use mathlib.Core.Path.{refl, sym, ap}
+use mathlib.Core.Path.{refl, ap}
 use Rattle.std.specs.Prelude.{Ok}
 use native.Mathlib.Omega.{arith}
-use lib.Seq.{length-take-le}
 use Rattle.checker.proofs.Surveys.{survey-found}
-use Rattle.run.proofs.Surveying.{survey-kinds, survey-marks, survey-counts, survey-inside, survey-deep, checked-first, no_room, other-out, no-image, no_place, other-values, resumable, resumed}
+use Rattle.run.proofs.Surveying.{survey-marks, survey-counts, survey-inside, checked-first, no_room, other-out, no-image, no_place, other-values, resumable, resumed}
 use Rattle.run.proofs.resuming.resume.Goals as goal
 
 pub returns-in-Err : goal.returns-in-Err
@@ -14,12 +13,6 @@ returns-then-mem-gt-MEMORY c = no_room c.in-Ok.ensures c.args.mem.now c.args.res
 
 pub bounds-strip-7 : goal.bounds-strip-7
 bounds-strip-7 c = omega (arith, survey-counts c.in-Ok.ensures refl)
-
-pub overflow_cast-strip : goal.overflow_cast-strip
-overflow_cast-strip c = omega (arith, survey-counts c.in-Ok.ensures refl)
-
-pub overflow_mul-strip : goal.overflow_mul-strip
-overflow_mul-strip c = omega (arith, survey-counts c.in-Ok.ensures refl)
 
 pub returns-then-results-strip : goal.returns-then-results-strip
 returns-then-results-strip c = other-out c.in-Ok.ensures c.args.mem.now c.args.results.now c.args.image.now c.args.budget refl c.if-mem-gt-MEMORY.false _ c.refused-then-results-strip.ensures c.if-results-strip.true
@@ -33,29 +26,11 @@ returns-in_default c = no_place c.in-Ok.ensures c.args.mem.now c.args.results.no
 pub bounds-strip-5 : goal.bounds-strip-5
 bounds-strip-5 c = omega (arith, survey-counts c.in-Ok.ensures refl)
 
-pub overflow_cast-count : goal.overflow_cast-count
-overflow_cast-count c = omega (arith, survey-counts c.in-Ok.ensures refl)
-
 pub bounds-strip-6 : goal.bounds-strip-6
 bounds-strip-6 c = omega (arith, survey-counts c.in-Ok.ensures refl)
 
-pub overflow_cast-count-2 : goal.overflow_cast-count-2
-overflow_cast-count-2 c = omega (arith, survey-counts c.in-Ok.ensures refl)
-
-pub overflow_add-count : goal.overflow_add-count
-overflow_add-count c = omega (arith, survey-counts c.in-Ok.ensures refl)
-
-pub overflow_add-end : goal.overflow_add-end
-overflow_add-end c = omega (arith, survey-counts c.in-Ok.ensures refl)
-
 pub slice_bounds-shows-end : goal.slice_bounds-shows-end
 slice_bounds-shows-end c = omega (arith, survey-inside c.in-Ok.ensures refl)
-
-pub slice_bounds-kinds-end : goal.slice_bounds-kinds-end
-slice_bounds-kinds-end c = let n = survey-kinds c.in-Ok.ensures (ap Ok c.in-Some.is) refl in omega (arith, n, survey-deep c.in-Ok.ensures (ap Ok c.in-Some.is))
-
-pub slice_bounds-shows-end-2 : goal.slice_bounds-shows-end-2
-slice_bounds-shows-end-2 c = let n = survey-kinds c.in-Ok.ensures (ap Ok c.in-Some.is) refl in sym (length-take-le _ _ (omega (arith, n, survey-deep c.in-Ok.ensures (ap Ok c.in-Some.is))))
 
 pub returns-then-not-shows : goal.returns-then-not-shows
 returns-then-not-shows c = other-values c.in-Ok.ensures c.args.mem.now c.args.results.now c.args.image.now c.args.budget refl c.if-mem-gt-MEMORY.false c.if-results-strip.false c.if-image-lt-BYTES.false c.place_in-place.ensures (survey-found c.in-Ok.ensures (ap Ok c.in-Some.is)) c.shows.ensures _ c.refused-then-not-shows.ensures c.if-not-shows.true

@@ -10,32 +10,14 @@ use Rattle.run.proofs.running.drive.Goals as goal
 pub bounds-strip-5 : goal.bounds-strip-5
 bounds-strip-5 c = omega (arith, counts-read (declared c.requires.valid.reached))
 
-pub overflow_cast-count : goal.overflow_cast-count
-overflow_cast-count c = omega (arith, counts-read (declared c.requires.valid.reached))
-
 pub bounds-strip-6 : goal.bounds-strip-6
 bounds-strip-6 c = omega (arith, counts-read (declared c.requires.valid.reached))
-
-pub overflow_cast-count-2 : goal.overflow_cast-count-2
-overflow_cast-count-2 c = omega (arith, counts-read (declared c.requires.valid.reached))
-
-pub overflow_add-count : goal.overflow_add-count
-overflow_add-count c = omega (arith, counts-read (declared c.requires.valid.reached))
 
 pub locals_of-locals-requires : goal.locals_of-locals-requires
 locals_of-locals-requires c = args_fit c.requires
 
-pub overflow_add-at : goal.overflow_add-at
-overflow_add-at c = omega (arith, counts-read (declared c.requires.valid.reached))
-
 pub bounds-strip-7 : goal.bounds-strip-7
 bounds-strip-7 c = omega (arith, counts-read (declared c.requires.valid.reached))
-
-pub overflow_cast-at : goal.overflow_cast-at
-overflow_cast-at c = omega (arith, counts-read (declared c.requires.valid.reached))
-
-pub overflow_add-at-2 : goal.overflow_add-at-2
-overflow_add-at-2 c = omega (arith, counts-read (declared c.requires.valid.reached))
 
 pub go_on-stop-requires : goal.go_on-stop-requires
 go_on-stop-requires c =

@@ -18,15 +18,6 @@ shape_of-results-then-left-eq0 c = ap length (c.loop-left.invariant.0 c.requires
 pub returns-then-left-eq0 : goal.returns-then-left-eq0
 returns-then-left-eq0 c = λ v c₀ C. let D = c.loop-left.invariant.0 v c₀ C in pauses refl D.config D.carries (spent D c.if-left-eq0.true)
 
-pub fetch-f-requires : goal.fetch-f-requires
-fetch-f-requires c = tt
-
-pub group-group-requires : goal.group-group-requires
-group-group-requires c = tt
-
-pub turns-requires : goal.turns-requires
-turns-requires c = tt
-
 pub turn-t-requires : goal.turn-t-requires
 turn-t-requires c =
     let D = c.loop-left.invariant.0 c.requires.0.held.valid c.requires.0.held.config c.requires.0.held.carries in (

@@ -7,12 +7,6 @@ use Rattle.run.proofs.running.pause.Goals as goal
 pub overflow_mul-values : goal.overflow_mul-values
 overflow_mul-values c = omega (arith, c.requires.3 c.if-stop-eq-BUDGET.true)
 
-pub overflow_mul-held : goal.overflow_mul-held
-overflow_mul-held c = omega (arith, c.requires.0)
-
-pub slice_bounds-write-end : goal.slice_bounds-write-end
-slice_bounds-write-end c = sym (length-take-le _ c.args.locals.now (omega (arith, c.requires.0, c.requires.1)))
-
 pub slice_bounds-write-end-then-stop-eq-BUDGET : goal.slice_bounds-write-end-then-stop-eq-BUDGET
 slice_bounds-write-end-then-stop-eq-BUDGET c = sym (length-take-le _ c.args.stack.now (omega (arith, c.requires.2, c.requires.3 c.if-stop-eq-BUDGET.true)))
 
