@@ -1,4 +1,6 @@
 // What the lines of a file of cases are made of: fields with a blank between them, each a word, a number or bytes.
+ghost use Rattle.std.specs.Prelude.{◌≡◌};
+
 use anyhow::Result;
 use std::alloc::Global;
 
@@ -29,11 +31,16 @@ pub struct Fields<'a> {
 }
 
 impl<'a> Fields<'a> {
-    pub fn of(line: &'a str) -> Fields<'a> {
+    pub fn of(line: &'a str) -> Fields<'a>
+        ensures { result.rest.now ≡ line.now }
+    {
         Fields { rest: line }
     }
 
-    pub fn rest(self) -> &'a str {
+    // What has not been read yet.
+    pub fn rest(self) -> &'a str
+        ensures { result.now ≡ self.entry.rest.now }
+    {
         self.rest
     }
 

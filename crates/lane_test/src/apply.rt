@@ -1,5 +1,6 @@
 // One operation of lane by its number (document 002), on three values: a is the first argument, i the lane's index, and a
-// scalar stands in the value in its place. Each shape hands on the numbers that are not its own.
+// scalar stands in the value in its place. Each shape hands on the numbers that are not its own: a function a shape, since each has operations
+// of its own, and one match of all takes twice as long to prove.
 use crate::value::{long, slot, word};
 use lane::{
     I8x16, I16x8, I32x4, I64x2, Integer, NoSuchLane, Ordered, Packed, Paired, Saturating, Unpacked,

@@ -16,7 +16,7 @@ fn main(rt: HostRuntime) -> io::Result<()> {
     lengths(&rt)
 }
 
-// Whole, refused and cut. Padding is welcome.
+// Whole, refused and cut; padding is welcome. A list a format, since what is whole or refused is another in each.
 fn u32s(rt: &HostRuntime) -> io::Result<()> {
     reads::<U32>(
         rt,
