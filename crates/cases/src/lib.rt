@@ -2,7 +2,10 @@
 #![tactic(auto)]
 
 mod reading;
+mod rooms;
 mod showing;
+mod values;
 
-pub use reading::{Case, Fields};
-pub use showing::{Left, UNTOUCHED, memory};
+pub use reading::{Case, Fields, bytes_in, field, find, length_in, number_in};
+pub use rooms::{fill, memory, memory_room, strip_room};
+pub use showing::{Left, UNTOUCHED};

@@ -1,28 +1,11 @@
 // What is printed of a call.
-ghost use Rattle.std.specs.Prelude.{◌≡◌, ◌%◌, IfOk, EachIndex, slice_index, vec_len};
-
+use crate::rooms::before;
 use card::Answer;
 use hexadecimal::Hex;
-use std::alloc::{AllocError, Global};
 use std::fmt;
 
 // What results, images and outputs hold before a call.
 pub const UNTOUCHED: u8 = 0xEE;
-
-// What the memory holds before a run, at each address.
-fn before(address: usize) -> u8
-    ensures { result ≡ address % 256 }
-{
-    (address % 256) as u8
-}
-
-// A memory of so many bytes, as it is before a run.
-pub fn memory(alloc: Global, len: usize) -> Result<Vec<u8>, AllocError>
-    ensures len { IfOk result (λ bytes. vec_len bytes ≡ len) }
-    ensures values { IfOk result (λ bytes. EachIndex bytes.items (λ k. slice_index bytes.items k ≡ k % 256)) }
-{
-    (0..len).map(before).collect(alloc)
-}
 
 // What a call leaves: the answer, the results if there are any, and each part of the memory that is not as it was.
 #[derive(Drop)]

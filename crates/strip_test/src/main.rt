@@ -8,29 +8,40 @@
 mod calls;
 mod outputs;
 
-use anyhow::Result;
 use cases::{Case, Fields};
-use std::fs;
+use std::fs::File;
+use std::io;
 
-fn main(rt: HostRuntime) -> Result<()> {
-    let text = fs::read_to_string(&rt, "cases.txt")?;
-    for line in text.lines() {
-        if !line.starts_with('#') {
-            done(&rt, Fields::of(line))?;
-        }
+// More than the file has. Of a longer one no more is read than that.
+const TEXT: usize = 131072;
+
+fn main(rt: HostRuntime) -> io::Result<()> {
+    let mut file = File::open(&rt, "cases.txt")?;
+    let mut text = [0; TEXT];
+    let Ok(len) = input::read_all(&mut file, &mut text) else {
+        return Err(io::Error::new(io::ErrorKind::Other, "cases.txt cannot be read"));
+    };
+    lines(&rt, &text[..len])
+}
+
+fn lines(rt: &HostRuntime, text: &[u8]) -> io::Result<()> {
+    for line in text.split(|byte| *byte == b'\n') {
+        done(rt, line)?;
     }
     Ok(())
 }
 
-fn done<'a>(rt: &'a HostRuntime, mut line: Fields<'a>) -> Result<()> {
-    let case = Case::of(rt, &mut line)?;
-    match case.task {
-        "check" => calls::check(&case),
-        "run" => calls::run(&case, line),
-        "budgets" => calls::budgets(&case, line),
-        "shorten" => outputs::shorten(&case, line),
-        "list" => outputs::list(&case, line),
-        "rooms" => outputs::rooms(&case, line),
+// A line's first word says what is done; the first letter tells all but two of them apart.
+fn done(rt: &HostRuntime, line: &[u8]) -> io::Result<()> {
+    let mut fields = Fields::of(line);
+    let case = Case::of(rt, &mut fields)?;
+    match line {
+        [b'c', _, ..] => calls::check(&case),
+        [b'r', b'o', ..] => outputs::rooms(&case, fields),
+        [b'r', _, ..] => calls::run(&case, fields),
+        [b'b', _, ..] => calls::budgets(&case, fields),
+        [b's', _, ..] => outputs::shorten(&case, fields),
+        [b'l', _, ..] => outputs::list(&case, fields),
         _ => Ok(()),
     }
 }

@@ -1,50 +1,72 @@
 // Strips rewritten and listed.
-use anyhow::Result;
+ghost use Rattle.std.specs.Prelude.{◌≡◌, length};
+
 use cases::{Case, Fields, UNTOUCHED};
-use hexadecimal::Hex;
+use hexadecimal::{Hex, Unminded};
+use std::io;
+
+// Of a rewriting's output no more is lent, whatever a line says.
+const SHORTENED: usize = 1024;
 
 // Every listing that is to be printed has room here; one that comes to 256 values has over a hundred thousand bytes.
 const LISTING: usize = 262144;
 
+fn listing_room() -> [u8; LISTING]
+    ensures { 262144 ≡ length result }
+{
+    [UNTOUCHED; LISTING]
+}
+
 // shorten NAME STRIP OUTPUT
-pub(crate) fn shorten(case: &Case, mut line: Fields) -> Result<()> {
-    let name = case.name;
-    let mut out = vec![in case.rt.alloc(); UNTOUCHED; line.number() as usize]?;
-    let w = strip::rewrite(&case.strip, &mut out);
-    print!(case.rt; "{name} {} {} {}", w.code, w.place, w.len)?;
-    if !out.is_empty() {
-        print!(case.rt; " {}", Hex(&out))?;
+pub(crate) fn shorten(case: &Case, mut line: Fields) -> io::Result<()> {
+    let out = Unminded(case.rt);
+    let mut room = [UNTOUCHED; SHORTENED];
+    let len = line.length(&room);
+    let output = &mut room[..len];
+    let w = strip::rewrite(&case.strip, output);
+    out.write_all(case.name)?;
+    print!(out; " {} {} {}", w.code, w.place, w.len)?;
+    if !output.is_empty() {
+        print!(out; " {}", Hex(output))?;
     }
-    println!(case.rt; "")?;
-    Ok(())
+    println!(out; "")
 }
 
 // list NAME STRIP OUTPUT OVER: the line ends with `touched` if a byte beyond the listing is not as it was; then the listing's own lines, but
 // for the bytes that are passed over; none are, if OVER is left out.
-pub(crate) fn list(case: &Case, mut line: Fields) -> Result<()> {
-    let name = case.name;
-    let mut out = vec![in case.rt.alloc(); UNTOUCHED; line.number() as usize]?;
-    let w = strip::list(&case.strip, &mut out);
-    let (listing, beyond) = out.split_at(w.len.min(out.len()));
+pub(crate) fn list(case: &Case, mut line: Fields) -> io::Result<()> {
+    let out = Unminded(case.rt);
+    let mut room = listing_room();
+    let len = line.length(&room);
+    let output = &mut room[..len];
+    let w = strip::list(&case.strip, output);
+    let (listing, beyond) = output.split_at(w.len.min(len));
     let touched = if kept(beyond) { "" } else { " touched" };
-    println!(case.rt; "{name} {} {} {}{touched}", w.code, w.place, w.len)?;
+    out.write_all(case.name)?;
+    println!(out; " {} {} {}{touched}", w.code, w.place, w.len)?;
     let over = line.number() as usize;
-    case.rt.write_all(listing.get(over..).unwrap_or(&[]))?;
-    Ok(())
+    out.write_all(listing.get(over..).unwrap_or(&[]))
 }
 
 // rooms NAME STRIP LAST: listed with every room from 0 bytes to the last, a line each.
-pub(crate) fn rooms(case: &Case, mut line: Fields) -> Result<()> {
-    let name = case.name;
-    let mut whole = vec![in case.rt.alloc(); UNTOUCHED; LISTING]?;
+pub(crate) fn rooms(case: &Case, mut line: Fields) -> io::Result<()> {
+    let mut whole = listing_room();
     strip::list(&case.strip, &mut whole);
     for room in 0..=line.number() {
-        let mut out = vec![in case.rt.alloc(); UNTOUCHED; room as usize]?;
-        let w = strip::list(&case.strip, &mut out);
-        let held = held(&out, &whole, w.len);
-        println!(case.rt; "{name} {room} {} {} {} {held}", w.code, w.place, w.len)?;
+        listed_in(case, room, &whole)?;
     }
     Ok(())
+}
+
+fn listed_in(case: &Case, room: u32, whole: &[u8]) -> io::Result<()> {
+    let out = Unminded(case.rt);
+    let mut most = listing_room();
+    let len = LISTING.min(room as usize);
+    let output = &mut most[..len];
+    let w = strip::list(&case.strip, output);
+    let held = held(output, whole, w.len);
+    out.write_all(case.name)?;
+    println!(out; " {room} {} {} {} {held}", w.code, w.place, w.len)
 }
 
 // What the output holds: `kept` is all as it was, `whole` the listing and beyond it all as it was.

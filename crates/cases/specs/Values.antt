@@ -1,0 +1,10 @@
+-- What a field says, byte by byte.
+use Rattle.std.specs.Prelude.{ℕ, ◌+◌, ◌-◌, ◌*◌, List, min, cond, ◌&&◌, nat_le, fold}
+
+-- Hexadecimal digits in lowercase; any other byte is 0.
+abbrev pub digit_of : ℕ → ℕ
+digit_of c = cond (nat_le 48 c && nat_le c 57) (c - 48) (cond (nat_le 97 c && nat_le c 102) (c - 97 + 10) 0)
+
+-- In decimal, of such digits; the largest of 32 bits stands for all beyond.
+abbrev pub number_of : List ℕ → ℕ
+number_of = fold (λ n c. min (10 * n + digit_of c) 4294967295) 0
