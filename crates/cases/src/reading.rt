@@ -1,9 +1,9 @@
 // What the lines of a file of cases are made of: fields with a blank between them, each a word, a number or bytes.
 ghost use Rattle.std.specs.Prelude.{◌≡◌, ◌+◌, ◌-◌, ◌≤◌, ◌<◌, ◌==◌, IfOk, length, drop, vec_len};
-ghost use Rattle.std.specs.List.{position_or_len, before_first, after_first};
+ghost use Rattle.std.specs.List.{position_or_len};
 ghost use Rattle.io.specs.Counts.{IsPrefixLen};
 ghost use Rattle.limits.specs.Limits.{file_limit};
-ghost use Rattle.cases.specs.Values.{number_of};
+ghost use Rattle.cases.specs.Fields.{word_of, after_word, number_of};
 
 use crate::rooms::strip_room;
 use crate::values::{items, number};
@@ -20,7 +20,10 @@ pub struct Case<'a> {
 
 impl<'a> Case<'a> {
     pub fn of(rt: &'a HostRuntime, line: &mut Fields<'a>) -> Result<Case<'a>, AllocError>
-        ensures { IfOk result (λ case. vec_len case.strip ≤ file_limit + 1) }
+        ensures task { IfOk result (λ case. case.task.now ≡ word_of line.old.rest.now) }
+        ensures name { IfOk result (λ case. case.name.now ≡ word_of (after_word line.old.rest.now)) }
+        ensures strip { IfOk result (λ case. vec_len case.strip ≤ file_limit + 1) }
+        ensures rest { line.new.rest.now ≡ after_word (after_word (after_word line.old.rest.now)) }
     {
         let task = line.word();
         let name = line.word();
@@ -53,13 +56,14 @@ impl<'a> Fields<'a> {
     pub fn rest(self) -> &'a [u8]
         ensures { result.now ≡ self.entry.rest.now }
     {
-        self.rest
+        let Fields { rest } = self;
+        rest
     }
 
     // All up to the next blank. The field after it begins beyond.
     pub fn word(&mut self) -> &'a [u8]
-        ensures word { result.now ≡ before_first (λ b. b == 32) self.old.rest.now }
-        ensures rest { self.new.rest.now ≡ after_first (λ b. b == 32) self.old.rest.now }
+        ensures word { result.now ≡ word_of self.old.rest.now }
+        ensures rest { self.new.rest.now ≡ after_word self.old.rest.now }
     {
         let line = self.rest;
         let end = find(line, 0, b' ');
@@ -68,8 +72,8 @@ impl<'a> Fields<'a> {
     }
 
     pub fn number(&mut self) -> u32
-        ensures value { result ≡ number_of (before_first (λ b. b == 32) self.old.rest.now) }
-        ensures rest { self.new.rest.now ≡ after_first (λ b. b == 32) self.old.rest.now }
+        ensures value { result ≡ number_of (word_of self.old.rest.now) }
+        ensures rest { self.new.rest.now ≡ after_word self.old.rest.now }
     {
         number(self.word())
     }
@@ -77,7 +81,7 @@ impl<'a> Fields<'a> {
     // A number of bytes at the start of the room, all of them at most.
     pub fn length(&mut self, room: &[u8]) -> usize
         ensures len { IsPrefixLen result room.now }
-        ensures rest { self.new.rest.now ≡ after_first (λ b. b == 32) self.old.rest.now }
+        ensures rest { self.new.rest.now ≡ after_word self.old.rest.now }
     {
         room.len().min(self.number() as usize)
     }
@@ -85,7 +89,7 @@ impl<'a> Fields<'a> {
     // Items with full stops between them: hexadecimal digits, or a count, `x` and digits that are repeated so often. `-` is none.
     pub fn bytes(&mut self, room: &mut [u8]) -> usize
         ensures len { IsPrefixLen result room.new }
-        ensures rest { self.new.rest.now ≡ after_first (λ b. b == 32) self.old.rest.now }
+        ensures rest { self.new.rest.now ≡ after_word self.old.rest.now }
     {
         items(self.word(), room)
     }

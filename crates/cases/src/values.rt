@@ -1,7 +1,7 @@
 // What a field says, where it is no word: a number, or bytes. Every field says something.
 ghost use Rattle.std.specs.Prelude.{◌≡◌, ◌<◌, fold};
 ghost use Rattle.io.specs.Counts.{IsPrefixLen};
-ghost use Rattle.cases.specs.Values.{digit_of, number_of};
+ghost use Rattle.cases.specs.Fields.{digit_of, number_of};
 
 use crate::reading::find;
 
@@ -10,7 +10,9 @@ pub(crate) fn number(word: &[u8]) -> u32
     ensures { result ≡ number_of word.now }
 {
     word.iter().fold(0u32, |value, c| {
-        value.saturating_mul(10).saturating_add(u32::from(digit(*c)))
+        value
+            .saturating_mul(10)
+            .saturating_add(u32::from(digit(*c)))
     })
 }
 

@@ -1,20 +1,30 @@
 // A budget that is cut into slices: a run, and resumes after it with what the call before left.
 use crate::digest::Digest;
-use crate::lent::Lent;
+use crate::lent::{IMAGE, Lent, RESULTS};
 use crate::picture::Picture;
-use anyhow::Result;
-use cases::{Case, Fields, UNTOUCHED};
+use cases::{Case, Fields, UNTOUCHED, memory, memory_room};
+use hexadecimal::Unminded;
+use std::alloc::AllocError;
+use std::io;
 use strip::Answer;
 
+// Strips that are cut in every way are short, and so are their arguments and memory: no more of these are lent, whatever a line says. Nor are more
+// arguments of any other.
+const SHORT: usize = 512;
+
 // cut NAME STRIP ARGUMENTS MEMORY RESULTS IMAGE BUDGET BUDGET ..
-pub(crate) fn cut(case: &Case, mut line: Fields) -> Result<()> {
-    let args = line.bytes(case.rt.alloc())?;
-    let mut lent = begun(case, line.number(), line.number(), line.number())?;
+pub(crate) fn cut(case: &Case, mut line: Fields) -> io::Result<()> {
+    let mut args = [0; SHORT];
+    let args_len = line.bytes(&mut args);
+    let memory_len = line.length(&memory_room());
+    let results_len = line.length(&[UNTOUCHED; RESULTS]);
+    let image_len = line.length(&[UNTOUCHED; IMAGE]);
+    let mut lent = begun(case, &case.strip, memory_len, results_len, image_len)?;
     let first = line.number();
-    let answer = lent.run(&args, first);
+    let answer = lent.run(&args[..args_len], first);
     print(case, first, answer, &lent)?;
-    for word in line.rest().split_whitespace() {
-        let budget = word.parse::<u32>()?;
+    for field in line.rest().split_inclusive(|byte| *byte == b' ') {
+        let budget = Fields::of(field).number();
         let answer = lent.resume(budget);
         print(case, budget, answer, &lent)?;
     }
@@ -22,44 +32,49 @@ pub(crate) fn cut(case: &Case, mut line: Fields) -> Result<()> {
 }
 
 fn begun<'a>(
-    case: &'a Case,
-    memory_len: u32,
-    results_len: u32,
-    image_len: u32,
-) -> Result<Lent<'a>> {
+    case: &Case,
+    strip: &'a [u8],
+    memory_len: usize,
+    results_len: usize,
+    image_len: usize,
+) -> Result<Lent<'a>, AllocError> {
     let alloc = case.rt.alloc();
-    let image = vec![in alloc; UNTOUCHED; image_len as usize]?;
-    Ok(Lent::of(alloc, &case.strip, memory_len, results_len, image)?)
+    let memory = memory(alloc, memory_len)?;
+    let image = vec![in alloc; UNTOUCHED; image_len]?;
+    Lent::of(alloc, strip, memory, results_len, image)
 }
 
-fn print(case: &Case, budget: u32, answer: Answer, lent: &Lent) -> Result<()> {
-    let name = case.name;
+fn print(case: &Case, budget: u32, answer: Answer, lent: &Lent) -> io::Result<()> {
+    let out = Unminded(case.rt);
     let picture = Picture(lent.image());
-    println!(case.rt; "{name} {budget} {}{picture}", lent.left(answer))?;
-    Ok(())
+    out.write_all(case.name)?;
+    println!(out; " {budget} {}{picture}", lent.left(answer))
 }
 
 // slices NAME STRIP ARGUMENTS MEMORY RESULTS LAST: each way to cut the last budget in three. A line for each first slice: what it leaves, and at
 // its end one number for all that the second and the third leave. They are called also where the one before was not out of budget.
-pub(crate) fn slices(case: &Case, mut line: Fields) -> Result<()> {
-    let args = line.bytes(case.rt.alloc())?;
-    let memory_len = line.number();
-    let results_len = line.number();
-    let before = begun(case, memory_len, results_len, image::BYTES as u32)?;
+pub(crate) fn slices(case: &Case, mut line: Fields) -> io::Result<()> {
+    let out = Unminded(case.rt);
+    let mut args = [0; SHORT];
+    let args_len = line.bytes(&mut args);
+    let memory_len = line.length(&[0; SHORT]);
+    let results_len = line.length(&[UNTOUCHED; RESULTS]);
+    let strip = &case.strip[..SHORT.min(case.strip.len())];
+    let before = begun(case, strip, memory_len, results_len, image::BYTES)?;
     let last = line.number();
     for first in 0..=last {
         let mut lent = before.clone()?;
-        let answer = lent.run(&args, first);
-        let digest = seconds(&lent, last - first)?;
-        let name = case.name;
+        let answer = lent.run(&args[..args_len], first);
         let picture = Picture(lent.image());
-        println!(case.rt; "{name} {first} {}{picture} {digest}", lent.left(answer))?;
+        out.write_all(case.name)?;
+        print!(out; " {first} {}{picture}", lent.left(answer))?;
+        println!(out; " {}", seconds(&lent, last - first)?)?;
     }
     Ok(())
 }
 
 // Of all that the second and the third slice leave, in each way to cut the rest in two.
-fn seconds(after_first: &Lent, rest: u32) -> Result<Digest> {
+fn seconds(after_first: &Lent, rest: u32) -> Result<Digest, AllocError> {
     let mut digest = Digest::EMPTY;
     for second in 0..=rest {
         let mut lent = after_first.clone()?;

@@ -1,87 +1,106 @@
 // Images that are good and images that are not.
-use crate::lent::Lent;
+use crate::lent::{IMAGE, Lent, RESULTS};
 use crate::picture::Picture;
-use anyhow::Result;
-use cases::{Case, Fields};
-use std::fmt;
+use cases::{Case, Fields, UNTOUCHED, memory, memory_room};
+use hexadecimal::Unminded;
+use std::alloc::AllocError;
+use std::{fmt, io};
 use strip::Answer;
 
-// Bytes of memory, where a line does not say how many.
-const MEMORY: u32 = 16;
+// Strips that are resumed from many images are short: no more of one is lent, whatever a line says.
+const SHORT: usize = 2048;
+
+// Bytes of memory, each 0, where a line does not say how many.
+const MEMORY: usize = 16;
 
 // resume NAME STRIP MEMORY RESULTS BUDGET IMAGE: the line ends with the image after the call, or with `kept`.
-pub(crate) fn resume(case: &Case, mut line: Fields) -> Result<()> {
-    let name = case.name;
-    let memory_len = line.number();
-    let results_len = line.number();
+pub(crate) fn resume(case: &Case, mut line: Fields) -> io::Result<()> {
+    let alloc = case.rt.alloc();
+    let out = Unminded(case.rt);
+    let memory = memory(alloc, line.length(&memory_room()))?;
+    let results_len = line.length(&[UNTOUCHED; RESULTS]);
     let budget = line.number();
-    let image = line.bytes(case.rt.alloc())?;
-    let mut lent = paused(case, memory_len, results_len, image.clone()?)?;
+    let image = image_in(case, &mut line)?;
+    let mut lent = Lent::of(alloc, &case.strip, memory, results_len, image.clone()?)?;
     let answer = lent.resume(budget);
-    print!(case.rt; "{name} {budget} {}", lent.left(answer))?;
+    out.write_all(case.name)?;
+    print!(out; " {budget} {}", lent.left(answer))?;
     if lent.image() == image.as_slice() {
-        println!(case.rt; " kept")?;
+        println!(out; " kept")
     } else {
-        println!(case.rt; "{}", Picture(lent.image()))?;
+        println!(out; "{}", Picture(lent.image()))
     }
-    Ok(())
 }
 
 // places NAME STRIP RESULTS DEEPEST IMAGE: the image at every place and with every depth up to the deepest. The line has those that are good.
-pub(crate) fn places(case: &Case, mut line: Fields) -> Result<()> {
-    let results_len = line.number();
+pub(crate) fn places(case: &Case, mut line: Fields) -> io::Result<()> {
+    let out = Unminded(case.rt);
+    let results_len = line.length(&[UNTOUCHED; RESULTS]);
     let deepest = line.number() as usize;
-    let mut lent = paused(case, MEMORY, results_len, line.bytes(case.rt.alloc())?)?;
-    print!(case.rt; "{}", case.name)?;
-    for place in 0..=case.strip.len() {
+    let strip = short(case);
+    let mut lent = paused(case, strip, results_len, image_in(case, &mut line)?)?;
+    out.write_all(case.name)?;
+    for place in 0..=strip.len() {
         lent.put(5, place);
         for depth in 0..=deepest {
             lent.put(9, depth);
-            let answer = at_rest(case, &mut lent)?;
+            let answer = at_rest(out, &mut lent)?;
             if answer.code != card::IMAGE {
-                print!(case.rt; " {}:{depth}{}", answer.place, ButBudget(answer.code))?;
+                print!(out; " {}:{depth}{}", answer.place, ButBudget(answer.code))?;
             }
         }
     }
-    println!(case.rt; "")?;
-    Ok(())
+    println!(out; "")
 }
 
 // bytes NAME STRIP RESULTS FLIP IMAGE: the image with every byte flipped so. The line has the bytes that may be.
-pub(crate) fn bytes(case: &Case, mut line: Fields) -> Result<()> {
-    let results_len = line.number();
+pub(crate) fn bytes(case: &Case, mut line: Fields) -> io::Result<()> {
+    let out = Unminded(case.rt);
+    let results_len = line.length(&[UNTOUCHED; RESULTS]);
     let flip = line.number();
-    let image = line.bytes(case.rt.alloc())?;
+    let image = image_in(case, &mut line)?;
     let len = image.len();
-    let mut lent = paused(case, MEMORY, results_len, image)?;
-    print!(case.rt; "{} {flip}", case.name)?;
+    let mut lent = paused(case, short(case), results_len, image)?;
+    out.write_all(case.name)?;
+    print!(out; " {flip}")?;
     for at in 0..len {
         lent.flip(at, (flip % 256) as u8);
-        let answer = at_rest(case, &mut lent)?;
+        let answer = at_rest(out, &mut lent)?;
         lent.flip(at, (flip % 256) as u8);
         if answer.code != card::IMAGE {
-            print!(case.rt; " {at}{}", ButBudget(answer.code))?;
+            print!(out; " {at}{}", ButBudget(answer.code))?;
         }
     }
-    println!(case.rt; "")?;
-    Ok(())
+    println!(out; "")
+}
+
+fn image_in(case: &Case, line: &mut Fields) -> Result<Vec<u8>, AllocError> {
+    let mut room = [0; IMAGE];
+    let len = line.bytes(&mut room);
+    Vec::from_slice(case.rt.alloc(), &room[..len])
+}
+
+fn short<'a>(case: &'a Case) -> &'a [u8] {
+    &case.strip[..SHORT.min(case.strip.len())]
 }
 
 fn paused<'a>(
-    case: &'a Case,
-    memory_len: u32,
-    results_len: u32,
+    case: &Case,
+    strip: &'a [u8],
+    results_len: usize,
     image: Vec<u8>,
-) -> Result<Lent<'a>> {
-    Ok(Lent::of(case.rt.alloc(), &case.strip, memory_len, results_len, image)?)
+) -> Result<Lent<'a>, AllocError> {
+    let alloc = case.rt.alloc();
+    let memory = vec![in alloc; 0; MEMORY]?;
+    Lent::of(alloc, strip, memory, results_len, image)
 }
 
 // A resume of no steps: whether it is turned away or not, all that is lent stays as it was.
-fn at_rest(case: &Case, lent: &mut Lent) -> Result<Answer> {
+fn at_rest(out: Unminded, lent: &mut Lent) -> io::Result<Answer> {
     let before = lent.clone()?;
     let answer = lent.resume(0);
     if *lent != before {
-        print!(case.rt; " touched")?;
+        print!(out; " touched")?;
     }
     Ok(answer)
 }

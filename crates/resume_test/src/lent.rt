@@ -1,8 +1,13 @@
 // What the calls of a case are lent.
 use crate::digest::Digest;
-use cases::{Left, UNTOUCHED, memory};
+use cases::{Left, UNTOUCHED};
 use std::alloc::{AllocError, Global};
 use strip::Answer;
+
+// Of results and of an image no more are lent, whatever a line says: an image has fewer bytes.
+pub(crate) const RESULTS: usize = 128;
+
+pub(crate) const IMAGE: usize = image::BYTES + 64;
 
 #[derive(Clone, PartialEq, Drop)]
 pub(crate) struct Lent<'a> {
@@ -13,18 +18,18 @@ pub(crate) struct Lent<'a> {
 }
 
 impl<'a> Lent<'a> {
-    // Memory and results of these lengths, as they are before a first call.
+    // So many bytes of results, as they are before a first call.
     pub(crate) fn of(
         alloc: Global,
         strip: &'a [u8],
-        memory_len: u32,
-        results_len: u32,
+        memory: Vec<u8>,
+        results_len: usize,
         image: Vec<u8>,
     ) -> Result<Lent<'a>, AllocError> {
         Ok(Lent {
             strip,
-            memory: memory(alloc, memory_len as usize)?,
-            results: vec![in alloc; UNTOUCHED; results_len as usize]?,
+            memory,
+            results: vec![in alloc; UNTOUCHED; results_len]?,
             image,
         })
     }

@@ -9,28 +9,39 @@ mod judging;
 mod lent;
 mod picture;
 
-use anyhow::Result;
 use cases::{Case, Fields};
-use std::fs;
+use std::fs::File;
+use std::io;
 
-fn main(rt: HostRuntime) -> Result<()> {
-    let text = fs::read_to_string(&rt, "cases.txt")?;
-    for line in text.lines() {
-        if !line.starts_with('#') {
-            done(&rt, Fields::of(line))?;
-        }
+// More than the file has. Of a longer one no more is read than that.
+const TEXT: usize = 65536;
+
+fn main(rt: HostRuntime) -> io::Result<()> {
+    let mut file = File::open(&rt, "cases.txt")?;
+    let mut text = [0; TEXT];
+    let Ok(len) = input::read_all(&mut file, &mut text) else {
+        return Err(io::Error::new(io::ErrorKind::Other, "cases.txt cannot be read"));
+    };
+    lines(&rt, &text[..len])
+}
+
+fn lines(rt: &HostRuntime, text: &[u8]) -> io::Result<()> {
+    for line in text.split(|byte| *byte == b'\n') {
+        done(rt, line)?;
     }
     Ok(())
 }
 
-fn done<'a>(rt: &'a HostRuntime, mut line: Fields<'a>) -> Result<()> {
-    let case = Case::of(rt, &mut line)?;
-    match case.task {
-        "slices" => cutting::slices(&case, line),
-        "cut" => cutting::cut(&case, line),
-        "resume" => judging::resume(&case, line),
-        "places" => judging::places(&case, line),
-        "bytes" => judging::bytes(&case, line),
+// The first letter of a line's first word tells what is done.
+fn done(rt: &HostRuntime, line: &[u8]) -> io::Result<()> {
+    let mut fields = Fields::of(line);
+    let case = Case::of(rt, &mut fields)?;
+    match line {
+        [b's', ..] => cutting::slices(&case, fields),
+        [b'c', ..] => cutting::cut(&case, fields),
+        [b'r', ..] => judging::resume(&case, fields),
+        [b'p', ..] => judging::places(&case, fields),
+        [b'b', ..] => judging::bytes(&case, fields),
         _ => Ok(()),
     }
 }
