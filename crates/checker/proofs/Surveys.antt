@@ -5,7 +5,7 @@ use mathlib.Core.List.{List, [], ◌∷◌, ◌++◌, map, append_assoc}
 use native.Mathlib.Omega.{arith}
 use lib.ListN.{length, get_or}
 use lib.Seq.{get_or-append-add}
-use Rattle.std.specs.Prelude.{Some, None, Ok, Err, MatchResult}
+use Rattle.std.specs.Prelude.{Some, Ok, Err, MatchResult}
 use Rattle.std.specs.declared.option.Option.{Option}
 use Rattle.std.specs.declared.result.Result.{Result}
 use Rattle.opcode.specs.Kind.{kind_byte}
@@ -81,12 +81,12 @@ module _ {s : List ℕ} {at : ℕ} {kinds marks : List ℕ} where
   survey-keeps (finds v {fs} {bs} x l a) f = absurd (f (found (length (all_values fs)) (length bs)) refl)
 
   -- and in a strip that keeps every rule no instruction stands there in live code
-  pub survey-nowhere : {r : Result (Option Surveyed) Refusal} {kinds' marks' : List ℕ} → Surveys s at kinds marks r kinds' marks' → r ≡ Ok None → (v : Valid s) (fs : List Frame)
-      → Reaches s v.header at fs → Live fs → ⊥
+  pub survey-nowhere : {r : Result (Option Surveyed) Refusal} {kinds' marks' : List ℕ} → Surveys s at kinds marks r kinds' marks'
+      → ((known : Surveyed) → r ≡ Ok (Some known) → ⊥) → (v : Valid s) (fs : List Frame) → Reaches s v.header at fs → Live fs → ⊥
   survey-nowhere (breaks b) e v fs x l = valid-no-breach v b
   survey-nowhere (misses w f) e v fs x l =
       f fs (subst (λ (h : Header). Reaches s h at fs) (declares-once s v.header w.header (declared v.reached) (declared w.reached)) x) l
-  survey-nowhere (finds w x l a) e v fs y k = absurd (let z : ◌≡◌ {A = ℕ} 0 1 = cc in omega arith)
+  survey-nowhere (finds w {fs} {bs} x l a) e v gs y k = e (found (length (all_values fs)) (length bs)) refl
 
   -- one answer, and one content of both arrays
   pub survey-once : {r r' : Result (Option Surveyed) Refusal} {k k' m m' : List ℕ} → Surveys s at kinds marks r k m → Surveys s at kinds marks r' k' m' → (k ≡ k') × (m ≡ m') × (r ≡ r')
@@ -95,9 +95,9 @@ module _ {s : List ℕ} {at : ℕ} {kinds marks : List ℕ} where
   survey-once (breaks b) (finds v x l a) = absurd (valid-no-breach v b)
   survey-once (misses v f) (breaks b) = absurd (valid-no-breach v b)
   survey-once (misses v f) (misses w g) = (refl, refl, refl)
-  survey-once (misses v f) (finds w {fs} x l a) = absurd (survey-nowhere (misses v f) refl w fs x l)
+  survey-once (misses v f) (finds w {fs} x l a) = absurd (survey-nowhere (misses v f) (λ known e. let z : ◌≡◌ {A = ℕ} 0 1 = cc in omega arith) w fs x l)
   survey-once (finds v x l a) (breaks b) = absurd (valid-no-breach v b)
-  survey-once (finds v {fs} x l a) (misses w g) = absurd (survey-nowhere (misses w g) refl v fs x l)
+  survey-once (finds v {fs} x l a) (misses w g) = absurd (survey-nowhere (misses w g) (λ known e. let z : ◌≡◌ {A = ℕ} 0 1 = cc in omega arith) v fs x l)
   survey-once (finds v {fs} {bs} x l a) (finds w {fs = gs} {bs = cs} y k b) =
       let header : w.header ≡ v.header = declares-once s w.header v.header (declared w.reached) (declared v.reached) in
       let frames : fs ≡ gs = reached-once x (subst (λ (h : Header). Reaches s h at gs) header y) in

