@@ -5,7 +5,6 @@ mod lines;
 mod refusal;
 
 use anyhow::{Context, Result};
-use std::io;
 use std::process::ExitCode;
 
 // What fails is said on standard error, and is a status of 1.
@@ -19,16 +18,14 @@ fn main(rt: HostRuntime) -> ExitCode {
     }
 }
 
+// The line of a refusal, or else the listing.
 fn listed(rt: &HostRuntime) -> Result<()> {
     let mut strip = [0; input::ENOUGH];
     let n = input::read_all(&mut rt.stdin(), &mut strip).context("cannot read standard input")?;
-    print(rt, &strip[..n]).context("cannot write standard output")
-}
-
-fn print(rt: &impl Print, strip: &[u8]) -> io::Result<()> {
     let mut out = [0; refusal::LONGEST];
-    match refusal::refusal(strip, &mut out) {
+    let printed = match refusal::refusal(&strip[..n], &mut out) {
         Some(len) => rt.write_all(&out[..len]),
-        None => lines::print(rt, strip),
-    }
+        None => lines::print(rt, &strip[..n]),
+    };
+    printed.context("cannot write standard output")
 }
