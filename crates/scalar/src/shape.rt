@@ -1,4 +1,5 @@
-// The four integer shapes of a v128: a type each, with its lane's type and constants.
+// The four integer shapes of a v128: a type each, with its lane's type and constants. The operations are functions of the type; a value of it
+// is one lane by itself.
 ghost use Rattle.std.specs.Prelude.{◌≡◌, refl, ℕ, ℤ, pos, negsuc, ◌*◌};
 ghost use mir.Val.{bits as width_bits};
 ghost use Rattle.scalar.specs.Bounds.{least, largest, all_ones};
@@ -47,8 +48,12 @@ pub trait Shape {
     ghost all_is: { Self.Lane.bits ALL ≡ all_ones Self.Lane.width };
 }
 
+// A value of it is one lane of 8 bits.
 #[derive(Clone, Copy)]
-pub struct I8x16;
+pub struct I8x16 {
+    // The lane's bits.
+    pub bits: u8,
+}
 
 impl Shape for I8x16 {
     type Lane = u8;
@@ -88,8 +93,12 @@ impl Shape for I8x16 {
     ghost all_is = { refl };
 }
 
+// A value of it is one lane of 16 bits.
 #[derive(Clone, Copy)]
-pub struct I16x8;
+pub struct I16x8 {
+    // The lane's bits.
+    pub bits: u16,
+}
 
 impl Shape for I16x8 {
     type Lane = u16;
@@ -129,8 +138,12 @@ impl Shape for I16x8 {
     ghost all_is = { refl };
 }
 
+// A value of it is one lane of 32 bits.
 #[derive(Clone, Copy)]
-pub struct I32x4;
+pub struct I32x4 {
+    // The lane's bits.
+    pub bits: u32,
+}
 
 impl Shape for I32x4 {
     type Lane = u32;
@@ -170,8 +183,12 @@ impl Shape for I32x4 {
     ghost all_is = { refl };
 }
 
+// A value of it is one lane of 64 bits.
 #[derive(Clone, Copy)]
-pub struct I64x2;
+pub struct I64x2 {
+    // The lane's bits.
+    pub bits: u64,
+}
 
 impl Shape for I64x2 {
     type Lane = u64;
