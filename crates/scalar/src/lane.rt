@@ -1,5 +1,5 @@
 // A lane is its bits, an unsigned integer of 8, 16, 32 or 64: what Core does to one (4.3.2), once over the width.
-ghost use Rattle.std.specs.Prelude.{◌≡◌, ℕ, ◌==◌, int_le, int_lt};
+ghost use Rattle.std.specs.Prelude.{◌≡◌, if◌then◌else◌, ℕ, ◌==◌, int_le, int_lt};
 ghost use Rattle.std.specs.Int.{Width};
 ghost use Rattle.scalar.specs.Scalar.{S, U, value, mask, iadd, isub, imul, ineg, iabs, ishl, ishr};
 
@@ -42,7 +42,17 @@ pub trait Lane: Copy {
     fn less_u(self, y: Self) -> bool
         ensures { result ≡ int_lt (value U width (bits self)) (value U width (bits y)) };
 
+    fn at_most_s(self, y: Self) -> bool
+        ensures { result ≡ int_le (value S width (bits self)) (value S width (bits y)) };
+
     // All ones where it holds, else 0.
     fn mask(holds: bool) -> Self
         ensures { bits result ≡ mask width holds };
+
+    // x where it holds, else y.
+    final fn pick(holds: bool, x: Self, y: Self) -> Self
+        ensures { result ≡ (if holds then x else y) }
+    {
+        if holds { x } else { y }
+    }
 }

@@ -58,6 +58,10 @@ impl Lane for u16 {
         self < y
     }
 
+    fn at_most_s(self, y: u16) -> bool {
+        self.cast_signed() <= y.cast_signed()
+    }
+
     fn mask(holds: bool) -> u16 {
         if holds { I16x8::ALL } else { 0 }
     }
@@ -65,6 +69,10 @@ impl Lane for u16 {
 
 impl Narrow for u16 {
     type Wide = u32;
+
+    type Exact = i32;
+
+    ghost number = { λ z. z };
 
     fn extend_s(self) -> u32 {
         i32::from(self.cast_signed()).cast_unsigned()
@@ -74,8 +82,12 @@ impl Narrow for u16 {
         u32::from(self)
     }
 
+    fn product_s(self, y: u16) -> i32 {
+        i32::from(self.cast_signed()) * i32::from(y.cast_signed())
+    }
+
     fn extmul_s(self, y: u16) -> u32 {
-        (i32::from(self.cast_signed()) * i32::from(y.cast_signed())).cast_unsigned()
+        self.product_s(y).cast_unsigned()
     }
 
     ghost twice = { refl };
@@ -94,15 +106,25 @@ impl Small for u16 {
         ((u32::from(self) + u32::from(y) + 1) / 2) as u16
     }
 
+    fn sum_s(self, y: u16) -> i32 {
+        i32::from(self.cast_signed()) + i32::from(y.cast_signed())
+    }
+
+    fn sat_s(z: i32) -> u16 {
+        let kept = z.clamp(i32::from(I16x8::LEAST), i32::from(I16x8::LARGEST));
+        (kept as i16).cast_unsigned()
+    }
+
+    fn sat_u(z: i32) -> u16 {
+        z.clamp(0, i32::from(I16x8::ALL)) as u16
+    }
+
     fn narrow_s(x: u32) -> u16 {
-        let z = x
-            .cast_signed()
-            .clamp(i32::from(I16x8::LEAST), i32::from(I16x8::LARGEST));
-        (z as i16).cast_unsigned()
+        Self::sat_s(x.cast_signed())
     }
 
     fn narrow_u(x: u32) -> u16 {
-        x.cast_signed().clamp(0, i32::from(I16x8::ALL)) as u16
+        Self::sat_u(x.cast_signed())
     }
 
     fn word_s(self) -> u32 {
@@ -118,8 +140,7 @@ impl Small for u16 {
 pub fn q15mulr_sat_s16(x: u16, y: u16) -> u16
     ensures { result ≡ iq15mulrsat w16 x y }
 {
-    let product = i32::from(x.cast_signed()) * i32::from(y.cast_signed());
-    u16::narrow_s(((product + 16384) >> 15).cast_unsigned())
+    u16::sat_s((x.product_s(y) + 16384) >> 15)
 }
 
 // Two exact products, added modulo 2^32.

@@ -57,6 +57,10 @@ impl Lane for u32 {
         self < y
     }
 
+    fn at_most_s(self, y: u32) -> bool {
+        self.cast_signed() <= y.cast_signed()
+    }
+
     fn mask(holds: bool) -> u32 {
         if holds { I32x4::ALL } else { 0 }
     }
@@ -64,6 +68,10 @@ impl Lane for u32 {
 
 impl Narrow for u32 {
     type Wide = u64;
+
+    type Exact = i64;
+
+    ghost number = { λ z. z };
 
     fn extend_s(self) -> u64 {
         i64::from(self.cast_signed()).cast_unsigned()
@@ -73,8 +81,12 @@ impl Narrow for u32 {
         u64::from(self)
     }
 
+    fn product_s(self, y: u32) -> i64 {
+        i64::from(self.cast_signed()) * i64::from(y.cast_signed())
+    }
+
     fn extmul_s(self, y: u32) -> u64 {
-        (i64::from(self.cast_signed()) * i64::from(y.cast_signed())).cast_unsigned()
+        self.product_s(y).cast_unsigned()
     }
 
     ghost twice = { refl };

@@ -55,6 +55,10 @@ impl Lane for u64 {
         self < y
     }
 
+    fn at_most_s(self, y: u64) -> bool {
+        self.cast_signed() <= y.cast_signed()
+    }
+
     fn mask(holds: bool) -> u64 {
         if holds { I64x2::ALL } else { 0 }
     }

@@ -57,6 +57,10 @@ impl Lane for u8 {
         self < y
     }
 
+    fn at_most_s(self, y: u8) -> bool {
+        self.cast_signed() <= y.cast_signed()
+    }
+
     fn mask(holds: bool) -> u8 {
         if holds { I8x16::ALL } else { 0 }
     }
@@ -64,6 +68,10 @@ impl Lane for u8 {
 
 impl Narrow for u8 {
     type Wide = u16;
+
+    type Exact = i16;
+
+    ghost number = { λ z. z };
 
     fn extend_s(self) -> u16 {
         i16::from(self.cast_signed()).cast_unsigned()
@@ -73,8 +81,12 @@ impl Narrow for u8 {
         u16::from(self)
     }
 
+    fn product_s(self, y: u8) -> i16 {
+        i16::from(self.cast_signed()) * i16::from(y.cast_signed())
+    }
+
     fn extmul_s(self, y: u8) -> u16 {
-        (i16::from(self.cast_signed()) * i16::from(y.cast_signed())).cast_unsigned()
+        self.product_s(y).cast_unsigned()
     }
 
     ghost twice = { refl };
@@ -93,15 +105,25 @@ impl Small for u8 {
         ((u16::from(self) + u16::from(y) + 1) / 2) as u8
     }
 
+    fn sum_s(self, y: u8) -> i16 {
+        i16::from(self.cast_signed()) + i16::from(y.cast_signed())
+    }
+
+    fn sat_s(z: i16) -> u8 {
+        let kept = z.clamp(i16::from(I8x16::LEAST), i16::from(I8x16::LARGEST));
+        (kept as i8).cast_unsigned()
+    }
+
+    fn sat_u(z: i16) -> u8 {
+        z.clamp(0, i16::from(I8x16::ALL)) as u8
+    }
+
     fn narrow_s(x: u16) -> u8 {
-        let z = x
-            .cast_signed()
-            .clamp(i16::from(I8x16::LEAST), i16::from(I8x16::LARGEST));
-        (z as i8).cast_unsigned()
+        Self::sat_s(x.cast_signed())
     }
 
     fn narrow_u(x: u16) -> u8 {
-        x.cast_signed().clamp(0, i16::from(I8x16::ALL)) as u8
+        Self::sat_u(x.cast_signed())
     }
 
     fn word_s(self) -> u32 {

@@ -7,7 +7,7 @@ use mir.Syntax.{Width}
 use mir.Val.{bits, hbits}
 use mir.ValLaws.{pow-bits, to_z-of_z}
 use Rattle.scalar.specs.Scalar.{S, U, isub, ineg, iabs, ishr, iextend, iextmul, idot}
-use Rattle.scalar.proofs.Laws.Saturate.{iaddsat_u_is, isubsat_u_is, inarrow_s_is, inarrow_u_is}
+use Rattle.scalar.proofs.Laws.Saturate.{iaddsat_u_is, isubsat_u_is, sat_s_is, sat_u_is, inarrow_s_is, inarrow_u_is}
 use Rattle.scalar.proofs.Laws.Twos.{abs-held, widen-fits, product-fits, signed}
 use Rattle.scalar.proofs.Laws.Wrap.{wrap-nat, wrap-held, wrap-add, wrap-opposite, wrap-sub}
 
@@ -55,4 +55,4 @@ pub idot_is : (w w' : Width) (x y x' y' : ℕ) → idot w w' x y x' y' ≡ (iext
 unfolding idot iextmul
 idot_is w w' x y x' y' = wrap-add w' (to_z w x *ℤ to_z w y) (to_z w x' *ℤ to_z w y')
 
-pub ruleset lanes = (isub_is, ineg_is, iabs_is, ishr_s_is, ishr_u_is, iextend_s_is, iextend_u_is, iextmul_s_is, iaddsat_u_is, isubsat_u_is, inarrow_s_is, inarrow_u_is, idot_is, ints, to_z-of_z)
+pub ruleset lanes = (isub_is, ineg_is, iabs_is, ishr_s_is, ishr_u_is, iextend_s_is, iextend_u_is, iextmul_s_is, iaddsat_u_is, isubsat_u_is, sat_s_is, sat_u_is, inarrow_s_is, inarrow_u_is, idot_is, ints, to_z-of_z)

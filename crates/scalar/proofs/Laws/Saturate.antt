@@ -25,15 +25,22 @@ unfolding clamp sat
 clamped-u w (pos n) = grind (arith, nat_tests, pow_pos (bits w), mod-eq_of_lt)
 clamped-u w (negsuc n) = mod-eq_of_lt (pow_pos (bits w))
 
+pub sat_s_is : (w : Width) (z : ℤ) → sat S w z ≡ of_z w (int_max (least w) (int_min z (largest w)))
+unfolding sat
+sat_s_is w z =
+    wrap-held w (clamp (least w) (largest w) z) (clamped-s w z)
+    ∙ ap (of_z w) (between (least w) (largest w) z (omega (arith, ints)))
+
+pub sat_u_is : (w : Width) (z : ℤ) → sat U w z ≡ nat_abs (int_max (pos 0) (int_min z (pos (all_ones w))))
+sat_u_is w z = clamped-u w z ∙ ap nat_abs (between (pos 0) (pos (all_ones w)) z (omega (arith, ints)))
+
 pub inarrow_s_is : (w w' : Width) (x : ℕ) → inarrow S w w' x ≡ of_z w' (int_max (least w') (int_min (to_z w x) (largest w')))
-unfolding inarrow sat
-inarrow_s_is w w' x =
-    wrap-held w' (clamp (least w') (largest w') (to_z w x)) (clamped-s w' (to_z w x))
-    ∙ ap (of_z w') (between (least w') (largest w') (to_z w x) (omega (arith, ints)))
+unfolding inarrow
+inarrow_s_is w w' x = sat_s_is w' (to_z w x)
 
 pub inarrow_u_is : (w w' : Width) (x : ℕ) → inarrow U w w' x ≡ nat_abs (int_max (pos 0) (int_min (to_z w x) (pos (all_ones w'))))
 unfolding inarrow
-inarrow_u_is w w' x = clamped-u w' (to_z w x) ∙ ap nat_abs (between (pos 0) (pos (all_ones w')) (to_z w x) (omega (arith, ints)))
+inarrow_u_is w w' x = sat_u_is w' (to_z w x)
 
 -- of a natural, and of an integer below 0
 sat-nat : (w : Width) (n : ℕ) → sat U w (pos n) ≡ min n (all_ones w)
