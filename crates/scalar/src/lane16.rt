@@ -5,6 +5,7 @@ ghost use Rattle.std.specs.Prelude.{◌≡◌, refl};
 ghost use Rattle.std.specs.Int.{w16, w32};
 ghost use Rattle.scalar.specs.Scalar.{iq15mulrsat, idot};
 
+use crate::exact::{Exact, Saturated};
 use crate::lane::Lane;
 use crate::shape::{I16x8, Shape};
 use crate::wide::{Narrow, Small};
@@ -67,12 +68,33 @@ impl Lane for u16 {
     }
 }
 
-impl Narrow for u16 {
-    type Wide = u32;
-
-    type Exact = i32;
+impl Exact for u16 {
+    type Number = i32;
 
     ghost number = { λ z. z };
+
+    fn product_s(self, y: u16) -> i32 {
+        i32::from(self.cast_signed()) * i32::from(y.cast_signed())
+    }
+}
+
+impl Saturated for u16 {
+    fn sum_s(self, y: u16) -> i32 {
+        i32::from(self.cast_signed()) + i32::from(y.cast_signed())
+    }
+
+    fn sat_s(z: i32) -> u16 {
+        let kept = z.clamp(i32::from(I16x8::LEAST), i32::from(I16x8::LARGEST));
+        (kept as i16).cast_unsigned()
+    }
+
+    fn sat_u(z: i32) -> u16 {
+        z.clamp(0, i32::from(I16x8::ALL)) as u16
+    }
+}
+
+impl Narrow for u16 {
+    type Wide = u32;
 
     fn extend_s(self) -> u32 {
         i32::from(self.cast_signed()).cast_unsigned()
@@ -80,10 +102,6 @@ impl Narrow for u16 {
 
     fn extend_u(self) -> u32 {
         u32::from(self)
-    }
-
-    fn product_s(self, y: u16) -> i32 {
-        i32::from(self.cast_signed()) * i32::from(y.cast_signed())
     }
 
     fn extmul_s(self, y: u16) -> u32 {
@@ -104,19 +122,6 @@ impl Small for u16 {
 
     fn avgr_u(self, y: u16) -> u16 {
         ((u32::from(self) + u32::from(y) + 1) / 2) as u16
-    }
-
-    fn sum_s(self, y: u16) -> i32 {
-        i32::from(self.cast_signed()) + i32::from(y.cast_signed())
-    }
-
-    fn sat_s(z: i32) -> u16 {
-        let kept = z.clamp(i32::from(I16x8::LEAST), i32::from(I16x8::LARGEST));
-        (kept as i16).cast_unsigned()
-    }
-
-    fn sat_u(z: i32) -> u16 {
-        z.clamp(0, i32::from(I16x8::ALL)) as u16
     }
 
     fn narrow_s(x: u32) -> u16 {

@@ -4,6 +4,7 @@
 ghost use Rattle.std.specs.Prelude.{refl};
 ghost use Rattle.std.specs.Int.{w32};
 
+use crate::exact::Exact;
 use crate::lane::Lane;
 use crate::shape::{I32x4, Shape};
 use crate::wide::Narrow;
@@ -66,12 +67,18 @@ impl Lane for u32 {
     }
 }
 
-impl Narrow for u32 {
-    type Wide = u64;
-
-    type Exact = i64;
+impl Exact for u32 {
+    type Number = i64;
 
     ghost number = { λ z. z };
+
+    fn product_s(self, y: u32) -> i64 {
+        i64::from(self.cast_signed()) * i64::from(y.cast_signed())
+    }
+}
+
+impl Narrow for u32 {
+    type Wide = u64;
 
     fn extend_s(self) -> u64 {
         i64::from(self.cast_signed()).cast_unsigned()
@@ -79,10 +86,6 @@ impl Narrow for u32 {
 
     fn extend_u(self) -> u64 {
         u64::from(self)
-    }
-
-    fn product_s(self, y: u32) -> i64 {
-        i64::from(self.cast_signed()) * i64::from(y.cast_signed())
     }
 
     fn extmul_s(self, y: u32) -> u64 {

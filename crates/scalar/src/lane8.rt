@@ -4,6 +4,7 @@
 ghost use Rattle.std.specs.Prelude.{refl};
 ghost use Rattle.std.specs.Int.{w8};
 
+use crate::exact::{Exact, Saturated};
 use crate::lane::Lane;
 use crate::shape::{I8x16, Shape};
 use crate::wide::{Narrow, Small};
@@ -66,12 +67,33 @@ impl Lane for u8 {
     }
 }
 
-impl Narrow for u8 {
-    type Wide = u16;
-
-    type Exact = i16;
+impl Exact for u8 {
+    type Number = i16;
 
     ghost number = { λ z. z };
+
+    fn product_s(self, y: u8) -> i16 {
+        i16::from(self.cast_signed()) * i16::from(y.cast_signed())
+    }
+}
+
+impl Saturated for u8 {
+    fn sum_s(self, y: u8) -> i16 {
+        i16::from(self.cast_signed()) + i16::from(y.cast_signed())
+    }
+
+    fn sat_s(z: i16) -> u8 {
+        let kept = z.clamp(i16::from(I8x16::LEAST), i16::from(I8x16::LARGEST));
+        (kept as i8).cast_unsigned()
+    }
+
+    fn sat_u(z: i16) -> u8 {
+        z.clamp(0, i16::from(I8x16::ALL)) as u8
+    }
+}
+
+impl Narrow for u8 {
+    type Wide = u16;
 
     fn extend_s(self) -> u16 {
         i16::from(self.cast_signed()).cast_unsigned()
@@ -79,10 +101,6 @@ impl Narrow for u8 {
 
     fn extend_u(self) -> u16 {
         u16::from(self)
-    }
-
-    fn product_s(self, y: u8) -> i16 {
-        i16::from(self.cast_signed()) * i16::from(y.cast_signed())
     }
 
     fn extmul_s(self, y: u8) -> u16 {
@@ -103,19 +121,6 @@ impl Small for u8 {
 
     fn avgr_u(self, y: u8) -> u8 {
         ((u16::from(self) + u16::from(y) + 1) / 2) as u8
-    }
-
-    fn sum_s(self, y: u8) -> i16 {
-        i16::from(self.cast_signed()) + i16::from(y.cast_signed())
-    }
-
-    fn sat_s(z: i16) -> u8 {
-        let kept = z.clamp(i16::from(I8x16::LEAST), i16::from(I8x16::LARGEST));
-        (kept as i8).cast_unsigned()
-    }
-
-    fn sat_u(z: i16) -> u8 {
-        z.clamp(0, i16::from(I8x16::ALL)) as u8
     }
 
     fn narrow_s(x: u16) -> u8 {

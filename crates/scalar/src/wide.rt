@@ -1,10 +1,10 @@
 // Between two widths: a lane read in twice its width, exact sums and products there, and a lane of twice the width kept within this one.
 #![tactic(auto, using(crate::proofs::Laws::Wide::wide))]
 
-ghost use Rattle.std.specs.Prelude.{◌≡◌, ℕ, ◌*◌, ℤ, ◌+ℤ◌, ◌*ℤ◌};
+ghost use Rattle.std.specs.Prelude.{◌≡◌, ℕ, ◌*◌};
 ghost use Rattle.std.specs.Int.{w16, w32};
 ghost use mir.Val.{bits as width_bits};
-ghost use Rattle.scalar.specs.Scalar.{S, U, value, sat, iextend, iextmul, iextadd, inarrow, iaddsat, isubsat, iavgr};
+ghost use Rattle.scalar.specs.Scalar.{S, U, iextend, iextmul, iextadd, inarrow, iaddsat, isubsat, iavgr};
 
 use crate::lane::Lane;
 
@@ -12,19 +12,11 @@ use crate::lane::Lane;
 pub trait Narrow: Lane {
     type Wide: Lane;
 
-    // An integer in twice the width, i16 to i64: it holds each product and each sum of two signed lanes.
-    type Exact: Copy;
-
-    ghost number: { Self.Exact → ℤ };
-
     fn extend_s(self) -> Self::Wide
         ensures { Self.Wide.bits result ≡ iextend S Self.width Self.Wide.width (Self.bits self) };
 
     fn extend_u(self) -> Self::Wide
         ensures { Self.Wide.bits result ≡ iextend U Self.width Self.Wide.width (Self.bits self) };
-
-    fn product_s(self, y: Self) -> Self::Exact
-        ensures { number result ≡ value S Self.width (Self.bits self) *ℤ value S Self.width (Self.bits y) };
 
     fn extmul_s(self, y: Self) -> Self::Wide
         ensures { Self.Wide.bits result ≡ iextmul S Self.width Self.Wide.width (Self.bits self) (Self.bits y) };
@@ -48,16 +40,6 @@ pub trait Small: Narrow {
 
     fn avgr_u(self, y: Self) -> Self
         ensures { Self.bits result ≡ iavgr (Self.bits self) (Self.bits y) };
-
-    fn sum_s(self, y: Self) -> Self::Exact
-        ensures { Self.number result ≡ value S Self.width (Self.bits self) +ℤ value S Self.width (Self.bits y) };
-
-    // The integer itself, where a lane read by the ending holds it, else the least or the largest that one holds.
-    fn sat_s(z: Self::Exact) -> Self
-        ensures { Self.bits result ≡ sat S Self.width (Self.number z) };
-
-    fn sat_u(z: Self::Exact) -> Self
-        ensures { Self.bits result ≡ sat U Self.width (Self.number z) };
 
     fn narrow_s(x: Self::Wide) -> Self
         ensures { Self.bits result ≡ inarrow S Self.Wide.width Self.width (Self.Wide.bits x) };
