@@ -3,23 +3,29 @@
 
 mod rows;
 
+use hexadecimal::Unminded;
 use leb128::{S32, S64, U32};
 use rows::{read, reads, write};
 use std::io;
 
-fn main(rt: HostRuntime) -> io::Result<()> {
-    u32s(&rt)?;
-    s32s(&rt)?;
-    s64s(&rt)?;
-    places(&rt)?;
-    writes(&rt)?;
-    lengths(&rt)
+// It ends well, whatever standard output takes.
+fn main(rt: HostRuntime) {
+    let _ = numbers(Unminded(&rt));
+}
+
+fn numbers(out: Unminded) -> io::Result<()> {
+    u32s(out)?;
+    s32s(out)?;
+    s64s(out)?;
+    places(out)?;
+    writes(out)?;
+    lengths(out)
 }
 
 // Whole, refused and cut; padding is welcome. A list a format, since what is whole or refused is another in each.
-fn u32s(rt: &HostRuntime) -> io::Result<()> {
+fn u32s(out: Unminded) -> io::Result<()> {
     reads::<U32>(
-        rt,
+        out,
         &[
             // whole
             b"\x00",
@@ -44,9 +50,9 @@ fn u32s(rt: &HostRuntime) -> io::Result<()> {
     )
 }
 
-fn s32s(rt: &HostRuntime) -> io::Result<()> {
+fn s32s(out: Unminded) -> io::Result<()> {
     reads::<S32>(
-        rt,
+        out,
         &[
             // whole
             b"\x3F",
@@ -68,9 +74,9 @@ fn s32s(rt: &HostRuntime) -> io::Result<()> {
     )
 }
 
-fn s64s(rt: &HostRuntime) -> io::Result<()> {
+fn s64s(out: Unminded) -> io::Result<()> {
     reads::<S64>(
-        rt,
+        out,
         &[
             // whole
             b"\x7F",
@@ -91,29 +97,29 @@ fn s64s(rt: &HostRuntime) -> io::Result<()> {
 }
 
 // What stands before a number and after it does not matter; a place past the end is SHORT.
-fn places(rt: &HostRuntime) -> io::Result<()> {
-    read::<U32>(rt, b"\xFF\xFF\x05\xFF", 2)?;
-    read::<U32>(rt, b"\x00\x80\x80\x80\x80\x10\x00", 1)?;
-    read::<U32>(rt, b"\x00\x00\x80", 2)?;
-    read::<S64>(rt, b"\x00\x00\x00", 3)?;
-    read::<S64>(rt, b"\x00\x00\x00", usize::MAX)
+fn places(out: Unminded) -> io::Result<()> {
+    read::<U32>(out, b"\xFF\xFF\x05\xFF", 2)?;
+    read::<U32>(out, b"\x00\x80\x80\x80\x80\x10\x00", 1)?;
+    read::<U32>(out, b"\x00\x00\x80", 2)?;
+    read::<S64>(out, b"\x00\x00\x00", 3)?;
+    read::<S64>(out, b"\x00\x00\x00", usize::MAX)
 }
 
 // Each into six bytes of EE: the place after the number, or 24, and the six bytes.
-fn writes(rt: &HostRuntime) -> io::Result<()> {
-    write(rt, 1, U32(142))?;
-    write(rt, 1, U32(4294967295))?;
-    write(rt, 2, U32(4294967295))?;
-    write(rt, 4, S32(4294967232))?;
-    write(rt, 0, S32(64))?;
-    write(rt, 0, S32(2147483648))?;
-    write(rt, 0, S64(9223372036854775808))?;
-    write(rt, 5, S64(18446744073709551615))?;
-    write(rt, 6, U32(0))?;
-    write(rt, usize::MAX, U32(0))
+fn writes(out: Unminded) -> io::Result<()> {
+    write(out, 1, U32(142))?;
+    write(out, 1, U32(4294967295))?;
+    write(out, 2, U32(4294967295))?;
+    write(out, 4, S32(4294967232))?;
+    write(out, 0, S32(64))?;
+    write(out, 0, S32(2147483648))?;
+    write(out, 0, S64(9223372036854775808))?;
+    write(out, 5, S64(18446744073709551615))?;
+    write(out, 6, U32(0))?;
+    write(out, usize::MAX, U32(0))
 }
 
-fn lengths(rt: &HostRuntime) -> io::Result<()> {
+fn lengths(out: Unminded) -> io::Result<()> {
     for len in [
         leb128::len(U32(127)),
         leb128::len(U32(128)),
@@ -123,7 +129,7 @@ fn lengths(rt: &HostRuntime) -> io::Result<()> {
         leb128::len(S32(2147483648)),
         leb128::len(S64(9223372036854775808)),
     ] {
-        print!(rt; "{len} ")?;
+        print!(out; "{len} ")?;
     }
-    println!(rt; "")
+    println!(out; "")
 }
