@@ -1,20 +1,30 @@
 // Strips rewritten; stdout has what documents 01 and 02 say of each, worked out by hand. Each row: code, place, length, the output, which was all EE.
 #![tactic(auto)]
 
-use hexadecimal::Hex;
+ghost use Rattle.std.specs.Prelude.{◌≤◌};
+
+use hexadecimal::{Hex, Unminded};
 use std::io;
 
-fn main(rt: HostRuntime) -> io::Result<()> {
-    shortened(&rt)?;
-    room(&rt)?;
-    refusals(&rt)?;
-    blocks(&rt)?;
-    block_refusals(&rt)
+// The largest room that a strip is rewritten into.
+const LARGEST: usize = 32;
+
+// It ends well, whatever standard output takes.
+fn main(rt: HostRuntime) {
+    let _ = strips(Unminded(&rt));
 }
 
-fn shortened(rt: &HostRuntime) -> io::Result<()> {
+fn strips(out: Unminded) -> io::Result<()> {
+    shortened(out)?;
+    room(out)?;
+    refusals(out)?;
+    blocks(out)?;
+    block_refusals(out)
+}
+
+fn shortened(out: Unminded) -> io::Result<()> {
     rows(
-        rt,
+        out,
         32,
         &[
             // document 01's whole strip, which is shortest as it is
@@ -31,14 +41,14 @@ fn shortened(rt: &HostRuntime) -> io::Result<()> {
 }
 
 // Twelve bytes fit into twelve.
-fn room(rt: &HostRuntime) -> io::Result<()> {
+fn room(out: Unminded) -> io::Result<()> {
     rows(
-        rt,
+        out,
         12,
         &[b"WGP\x01\x00\x00\x00\x01\x7F\x41\x81\x80\x80\x80\x00\x0B"],
     )?;
     rows(
-        rt,
+        out,
         11,
         &[
             b"WGP\x01\x00\x00\x00\x01\x7F\x41\x81\x80\x80\x80\x00\x0B",
@@ -48,9 +58,9 @@ fn room(rt: &HostRuntime) -> io::Result<()> {
 }
 
 // Asked before the room: an empty file, no `end`, a byte after it, bits that s32 does not have.
-fn refusals(rt: &HostRuntime) -> io::Result<()> {
+fn refusals(out: Unminded) -> io::Result<()> {
     rows(
-        rt,
+        out,
         12,
         &[
             b"",
@@ -59,16 +69,16 @@ fn refusals(rt: &HostRuntime) -> io::Result<()> {
         ],
     )?;
     rows(
-        rt,
+        out,
         11,
         &[b"WGP\x01\x00\x00\x00\x01\x7F\x41\x81\x80\x80\x80\x10\x0B"],
     )
 }
 
 // Version 2: labels are numbers, a block type is a byte.
-fn blocks(rt: &HostRuntime) -> io::Result<()> {
+fn blocks(out: Unminded) -> io::Result<()> {
     rows(
-        rt,
+        out,
         32,
         &[
             // block, br 0 with its label in five bytes, end, end
@@ -82,20 +92,20 @@ fn blocks(rt: &HostRuntime) -> io::Result<()> {
         ],
     )?;
     rows(
-        rt,
+        out,
         12,
         &[
             // twelve bytes, into twelve and into eleven
             b"WGP\x02\x00\x00\x00\x00\x02\x40\x0B\x0B",
         ],
     )?;
-    rows(rt, 11, &[b"WGP\x02\x00\x00\x00\x00\x02\x40\x0B\x0B"])
+    rows(out, 11, &[b"WGP\x02\x00\x00\x00\x00\x02\x40\x0B\x0B"])
 }
 
 // A padded label one too far, a block type that is none, a block without its `end`, and version 1, which has no blocks.
-fn block_refusals(rt: &HostRuntime) -> io::Result<()> {
+fn block_refusals(out: Unminded) -> io::Result<()> {
     rows(
-        rt,
+        out,
         12,
         &[
             b"WGP\x02\x00\x00\x00\x00\x0C\x81\x00\x0B",
@@ -107,11 +117,14 @@ fn block_refusals(rt: &HostRuntime) -> io::Result<()> {
 }
 
 // Each strip into as much room.
-fn rows(rt: &HostRuntime, room: usize, strips: &[&[u8]]) -> io::Result<()> {
+fn rows(out: Unminded, room: usize, strips: &[&[u8]]) -> io::Result<()>
+    requires { room ≤ LARGEST }
+{
     for strip in strips {
-        let mut out = vec![in rt.alloc(); 0xEE; room]?;
-        let r = rewrite::rewrite(strip, &mut out);
-        println!(rt; "{} {} {} {}", r.code, r.place, r.len, Hex(&out))?;
+        let mut bytes = [0xEE; LARGEST];
+        let written = &mut bytes[..room];
+        let r = rewrite::rewrite(strip, written);
+        println!(out; "{} {} {} {}", r.code, r.place, r.len, Hex(written))?;
     }
     Ok(())
 }
