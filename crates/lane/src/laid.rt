@@ -46,8 +46,7 @@ impl Laid for I32x4 {
     }
 
     fn put(v: &mut [u8; 16], i: usize, x: u32) {
-        I16x8::put(v, 2 * i, (x % 65536) as u16);
-        I16x8::put(v, 2 * i + 1, (x / 65536) as u16);
+        v[4 * i..4 * i + 4].copy_from_slice(&x.to_le_bytes());
     }
 }
 

@@ -1,19 +1,22 @@
 -- A vector written lane by lane: a lane put into its bytes, and the loop that puts one after the other.
 use mathlib.Core.Path.{◌≡◌, sym, ap, ap₂, ◌∙◌, subst}
-use mathlib.Core.List.{List, ◌∷◌, ◌++◌, append_assoc}
-use Prim.Native.Nat.{ℕ, ◌+◌, ◌*◌, ◌/◌, ◌%◌, ◌^◌, ◌≤◌, ◌<◌}
-use native.Mathlib.Nat.{zero-mul, mul-add, add-mul, two-mul, one-mul, mul-one, add_assoc, le_antisymm, mul-le-mul_right}
+use mathlib.Core.List.{List, [], ◌∷◌, ◌++◌, append_assoc}
+use Prim.Native.Nat.{ℕ, ◌+◌, ◌-◌, ◌*◌, ◌/◌, ◌%◌, ◌^◌, ◌≤◌, ◌<◌}
+use native.Mathlib.Nat.{mul_comm, zero-mul, mul-add, add-mul, two-mul, one-mul, mul-one, add_assoc, le_antisymm, mul-le-mul_right}
 use native.Mathlib.Numerals.{add-one}
 use native.Mathlib.Omega.{arith}
-use lib.ListN.{length, take, drop, set, replicate, length-append}
+use lib.ListN.{length, take, drop, set, replicate, length-append, length-drop}
+use lib.Pow.{shr-shr}
 use lib.Seq.{drop-drop, length-take-le, take_at, drop_at, take_all, set_split}
 use mir.Syntax.{Width, w8, w16, w32, w64, w128}
 use mir.Val.{bits, bytes}
+use borrow.Rule.Slice.PartMut.{put_mid, Post-is}
+use Rattle.std.specs.Int.{to_le_bytes}
 use Rattle.operation.specs.Shape.{lanes}
 use Rattle.operation.specs.Vector.{le, build, vec, Sixteen}
 use Rattle.lane.specs.Inner.Put.{put, Wrote}
 use Rattle.operation.proofs.Laws.Vectors.{sixteen-zeros}
-use Rattle.operation.proofs.Laws.Number.{length-le, le_split, le-mod}
+use Rattle.operation.proofs.Laws.Number.{length-le, le_split, le-mod, bytes_le, bytes-append, bytes_take, bytes_drop}
 
 -- at one byte putting a lane is a store
 pub put_byte : (v : List ℕ) (n x : ℕ) → x < 2 ^ 8 → n < length v → put 1 v n x ≡ set v n x
@@ -61,6 +64,39 @@ put-join k v n x h =
 
     odd : n * (k + k) + k ≡ (2 * n + 1) * k
     odd = ap (λ (m : ℕ). m + k) even ∙ omega (arith, add-mul (2 * n) 1 k, one-mul k)
+
+-- ---- a lane of 32 bits is put at once, its four bytes over a part of the vector
+
+pub le_4 : (x : ℕ) → to_le_bytes w32 x ≡ le 4 x
+le_4 x =
+    ap₂ (λ (a b : ℕ). x % 256 ∷ (x / 256 % 256 ∷ (a % 256 ∷ (b % 256 ∷ [])))) (sym (shr-shr x 8 8))
+    (sym (ap (λ (m : ℕ). m / 2 ^ 8) (shr-shr x 8 8) ∙ shr-shr x 16 8))
+
+module _ (k : ℕ) (v : List ℕ) (n x : ℕ) (ys : List ℕ) (h : n * k + k ≤ 16) (s : Sixteen v) (e : ys ≡ le k x) where
+  pub part-put : put_mid (k * n) (k * n + k - k * n) v ys ≡ put k v n x
+  unfolding put
+  part-put =
+      ap₂ (λ (a b : List ℕ). take (k * n) v ++ (a ++ b)) e (Post-is (k * n) (k * n + k) v (omega arith))
+      ∙ ap (λ (m : ℕ). take m v ++ (le k x ++ drop (m + k) v)) (mul_comm k n)
+
+  put-sixteen : Sixteen (put k v n x)
+  unfolding put
+  put-sixteen = record {
+    long = omega (
+      arith,
+      s.long,
+      length-append (take (n * k) v) (le k x ++ drop (n * k + k) v),
+      length-append (le k x) (drop (n * k + k) v),
+      length-take-le (n * k) v (omega (arith, s.long)),
+      length-le k x,
+      length-drop (n * k + k) v,
+    );
+    bytes = bytes-append (take (n * k) v) (le k x ++ drop (n * k + k) v) (bytes_take (n * k) v s.bytes)
+        (bytes-append (le k x) (drop (n * k + k) v) (bytes_le k x) (bytes_drop (n * k + k) v s.bytes));
+  }
+
+  pub part-sixteen : Sixteen (put_mid (k * n) (k * n + k - k * n) v ys)
+  part-sixteen = subst Sixteen (sym part-put) put-sixteen
 
 -- the first n lanes of v are g 0 to g (n - 1)
 pub record Built (k n : ℕ) (g : ℕ → ℕ) (v : List ℕ) : Type 0 where

@@ -1,18 +1,17 @@
--- A lane of 32 bits is put as two of 16.
-use mathlib.Core.Path.{◌∙◌, sym, ap}
-use mathlib.Core.List.{List}
-use Prim.Native.Nat.{ℕ, ◌+◌, ◌*◌, ◌/◌, ◌^◌}
+-- A lane of 32 bits is put as its four bytes, in their part of the vector.
+use mathlib.Core.Path.{◌∙◌, ◌≡◌}
 use native.Mathlib.Omega.{arith}
-use Rattle.lane.specs.Inner.Put.{put}
-use Rattle.lane.proofs.Laws.Build.{put-join}
+use Prim.Native.Nat.{◌+◌, ◌*◌, ◌≤◌}
+use Rattle.operation.specs.Vector.{le}
+use Rattle.lane.proofs.Laws.Build.{le_4, part-put, part-sixteen}
 use Rattle.lane.proofs.laid.I32x4Laid.put.Goals as goal
 
 pub returns : goal.returns
 returns c =
-    let long = c.requires.1.long in
+    let a = c.args in
+    let h : a.i * 4 + 4 ≤ 16 = omega arith in
+    let e : c.copy_from_slice.new.self ≡ le 4 a.x = c.copy_from_slice.ensures.after ∙ c.to_le_bytes.ensures ∙ le_4 a.x in
     record {
-      sixteen = c.put-2.ensures.sixteen;
-      same =
-          c.put-2.ensures.same ∙ ap (λ (v : List ℕ). put 2 v (2 * c.args.i + 1) (c.args.x / 2 ^ 16)) c.put.ensures.same
-          ∙ sym (put-join 2 c.args.v.now c.args.i c.args.x (omega arith));
+      sixteen = part-sixteen 4 a.v.now a.i a.x c.copy_from_slice.new.self h c.requires.1 e;
+      same = part-put 4 a.v.now a.i a.x c.copy_from_slice.new.self h c.requires.1 e;
     }
