@@ -1,5 +1,6 @@
 // Instructions decoded.
 use crate::row;
+use hexadecimal::Unminded;
 use std::io;
 
 // Each of the 187 once, those with immediates at the largest exponent and lane.
@@ -152,40 +153,40 @@ const UNKNOWN: [(u16, &[u8], usize); 9] = [
     (65535, b"\x02", 0),
 ];
 
-pub(crate) fn version_1(rt: &HostRuntime) -> io::Result<()> {
+pub(crate) fn version_1(out: Unminded) -> io::Result<()> {
     for bytes in STREAMS {
-        stream(rt, bytes)?;
+        stream(out, bytes)?;
     }
     for (bytes, at) in REFUSED {
-        row::decoded(rt, 1, bytes, at)?;
+        row::decoded(out, 1, bytes, at)?;
     }
     for (bytes, at) in PLACES {
-        row::decoded(rt, 1, bytes, at)?;
+        row::decoded(out, 1, bytes, at)?;
     }
     for bytes in CUT {
-        cuts(rt, bytes)?;
+        cuts(out, bytes)?;
     }
     Ok(())
 }
 
-pub(crate) fn version_2(rt: &HostRuntime) -> io::Result<()> {
+pub(crate) fn version_2(out: Unminded) -> io::Result<()> {
     for (bytes, at) in BLOCKS {
-        row::decoded(rt, 2, bytes, at)?;
+        row::decoded(out, 2, bytes, at)?;
     }
     for (bytes, at) in NOT_YET {
-        row::decoded(rt, 1, bytes, at)?;
+        row::decoded(out, 1, bytes, at)?;
     }
     for (version, bytes, at) in UNKNOWN {
-        row::decoded(rt, version, bytes, at)?;
+        row::decoded(out, version, bytes, at)?;
     }
     Ok(())
 }
 
 // Instructions one after the other: the place moves on by as many bytes as each has, so no `for` counts it.
-fn stream(rt: &HostRuntime, bytes: &[u8]) -> io::Result<()> {
+fn stream(out: Unminded, bytes: &[u8]) -> io::Result<()> {
     let mut at = 0;
     while at < bytes.len() {
-        let len = row::decoded(rt, 1, bytes, at)?;
+        let len = row::decoded(out, 1, bytes, at)?;
         if len == 0 || bytes.len() - at < len {
             break;
         }
@@ -194,9 +195,9 @@ fn stream(rt: &HostRuntime, bytes: &[u8]) -> io::Result<()> {
     Ok(())
 }
 
-fn cuts(rt: &HostRuntime, bytes: &[u8]) -> io::Result<()> {
+fn cuts(out: Unminded, bytes: &[u8]) -> io::Result<()> {
     for len in 0..=bytes.len() {
-        row::decoded(rt, 1, &bytes[..len], 0)?;
+        row::decoded(out, 1, &bytes[..len], 0)?;
     }
     Ok(())
 }

@@ -1,5 +1,7 @@
 // Structs encoded.
 use crate::row;
+use crate::row::UNTOUCHED;
+use hexadecimal::Unminded;
 use instr::Instr;
 use std::io;
 
@@ -265,22 +267,24 @@ const WRITTEN: [(u16, u8, u32, u32, u8, u8); 9] = [
     (3, 12, 0, 9, 99, 64),
 ];
 
-pub(crate) fn structs(rt: &HostRuntime) -> io::Result<()> {
+pub(crate) fn structs(out: Unminded) -> io::Result<()> {
     for i in STRUCTS {
-        row::encoded(rt, 24, 1, i)?;
+        row::encoded(out, &mut [UNTOUCHED; 24], 1, i)?;
     }
     for i in SMALL {
-        row::encoded(rt, 2, 1, i)?;
+        row::encoded(out, &mut [UNTOUCHED; 2], 1, i)?;
     }
     Ok(())
 }
 
-pub(crate) fn orders(rt: &HostRuntime) -> io::Result<()> {
+pub(crate) fn orders(out: Unminded) -> io::Result<()> {
     for (version, first, number, align, lane, block) in ORDERS {
-        row::encoded(rt, 1, version, any(first, number, align, lane, block))?;
+        let i = any(first, number, align, lane, block);
+        row::encoded(out, &mut [UNTOUCHED; 1], version, i)?;
     }
     for (version, first, number, align, lane, block) in WRITTEN {
-        row::encoded(rt, 24, version, any(first, number, align, lane, block))?;
+        let i = any(first, number, align, lane, block);
+        row::encoded(out, &mut [UNTOUCHED; 24], version, i)?;
     }
     Ok(())
 }

@@ -8,11 +8,17 @@ mod decoding;
 mod encoding;
 mod row;
 
+use hexadecimal::Unminded;
 use std::io;
 
-fn main(rt: HostRuntime) -> io::Result<()> {
-    decoding::version_1(&rt)?;
-    encoding::structs(&rt)?;
-    decoding::version_2(&rt)?;
-    encoding::orders(&rt)
+// It ends well, whatever standard output takes.
+fn main(rt: HostRuntime) {
+    let _ = cases(Unminded(&rt));
+}
+
+fn cases(out: Unminded) -> io::Result<()> {
+    decoding::version_1(out)?;
+    encoding::structs(out)?;
+    decoding::version_2(out)?;
+    encoding::orders(out)
 }
