@@ -2,10 +2,13 @@
 use crate::count::Count;
 use crate::reason::Reason;
 
-#[derive(Drop)]
+// A room of results in which none is written.
+pub(crate) const UNTOUCHED: [u8; 64] = [0xEE; 64];
+
+#[derive(Clone, Copy)]
 pub(crate) enum Expected {
-    // DONE, with these results.
-    Results(Vec<u8>),
+    // DONE, with these results, and none written beyond them.
+    Results([u8; 64]),
     // TRAP, and no result is written.
     Trap,
     // The check turns it away for that reason, and so does the run.

@@ -1,16 +1,13 @@
 // A strip checked and run, and the answers compared with what the case's line says.
 ghost use Rattle.std.specs.Prelude.{◌≤◌};
 
-use crate::expected::Expected;
+use crate::expected::{Expected, UNTOUCHED};
 use card::Answer;
 use hexadecimal::Hex;
 use std::fmt;
 
 // More than any strip of the texts has instructions.
 const BUDGET: u32 = 1000000;
-
-// What stands in the results before a run.
-const UNTOUCHED: u8 = 0xEE;
 
 // What the check answered and the strip's byte at that place, what the run did, and the results after it.
 #[derive(Clone, Copy)]
@@ -23,7 +20,7 @@ pub(crate) struct Outcome {
 
 impl Outcome {
     pub(crate) fn of(strip: &[u8], args: &[u8], memory: &mut [u8]) -> Outcome {
-        let mut results = [UNTOUCHED; 64];
+        let mut results = UNTOUCHED;
         let verdict = strip::check(strip);
         let lent = &mut results[..results_len(strip)];
         let answer = strip::run_once(strip, args, memory, lent, BUDGET);
@@ -37,28 +34,18 @@ impl Outcome {
 
     pub(crate) fn is(&self, expected: &Expected) -> bool {
         match expected {
-            Expected::Results(values) => {
-                done(self.verdict) && done(self.answer) && self.has_results(values)
+            Expected::Results(results) => {
+                done(self.verdict) && done(self.answer) && self.results == *results
             }
             Expected::Trap => {
-                done(self.verdict) && self.answer.code == card::TRAP && self.has_results(&[])
+                done(self.verdict) && self.answer.code == card::TRAP && self.results == UNTOUCHED
             }
             Expected::Refusal(None) => false,
             Expected::Refusal(Some(reason)) => {
                 reason.is_told(self.verdict.code, self.named)
                     && self.verdict == self.answer
-                    && self.has_results(&[])
+                    && self.results == UNTOUCHED
             }
-        }
-    }
-
-    // These, and beyond them none is written.
-    fn has_results(&self, values: &[u8]) -> bool {
-        match self.results.split_at_checked(values.len()) {
-            Some((written, beyond)) => {
-                written == values && beyond.iter().all(|byte| *byte == UNTOUCHED)
-            }
-            None => false,
         }
     }
 }

@@ -1,5 +1,5 @@
 // Why the check turns a strip away, which the suite gives in its own words.
-use cases::Fields;
+use crate::field::Field;
 
 #[derive(Clone, Copy)]
 pub(crate) enum Reason {
@@ -11,16 +11,17 @@ pub(crate) enum Reason {
 }
 
 impl Reason {
-    // Of the suite's words two tell the reasons apart.
-    pub(crate) fn said(mut words: Fields) -> Option<Reason> {
-        let first = words.word();
-        let second = words.word();
-        match (first, second) {
-            ("alignment", _) => Some(Reason::Alignment),
-            ("invalid", "lane") => Some(Reason::Lane),
-            ("type", "mismatch") => Some(Reason::Mismatch),
-            ("unknown", "label") => Some(Reason::Label),
-            ("unknown", "local") => Some(Reason::Local),
+    // Of the suite's words a letter or two tell the reasons apart: alignment, invalid lane, type mismatch, unknown label, unknown local.
+    pub(crate) fn said(words: Field) -> Option<Reason> {
+        match words.text {
+            [b'a', ..] => Some(Reason::Alignment),
+            [b'i', ..] => Some(Reason::Lane),
+            [b't', ..] => Some(Reason::Mismatch),
+            [b'u', ..] => match words.field(1).text {
+                [_, b'a', ..] => Some(Reason::Label),
+                [_, b'o', ..] => Some(Reason::Local),
+                _ => None,
+            },
             _ => None,
         }
     }

@@ -1,128 +1,153 @@
 // A text of the suite, line by line.
+ghost use Rattle.std.specs.Prelude.{◌≤◌, length};
+
 use crate::count::Count;
-use crate::expected::Expected;
+use crate::expected::{Expected, UNTOUCHED};
+use crate::field::Field;
 use crate::outcome::Outcome;
 use crate::reason::Reason;
-use anyhow::{Context, Result};
-use cases::Fields;
-use std::collections::BTreeMap;
+use hexadecimal::Unminded;
+use std::io;
 
-// The strips by their numbers, the memory of the group of cases at hand, how many cases there were so far of the file at hand, and of those before it.
+// As many strips are kept.
+const STRIPS: usize = 2048;
+
+// The bytes of memory that a group of cases can share.
+const MEMORY: usize = 65536;
+
+// For the bytes of a strip, and for those of a call's arguments.
+const ROOM: usize = 256;
+
+// The strips by their numbers, of the memory how much the group of cases at hand is lent, whether a line has been read, how many cases there
+// were so far of the file at hand, and of those before it.
 #[derive(Drop)]
 pub(crate) struct Suite<'a> {
-    rt: &'a HostRuntime,
-    strips: BTreeMap<u32, Vec<u8>>,
-    memory: Vec<u8>,
-    file: Option<Count>,
+    out: Unminded<'a>,
+    strips: [Field<'a>; STRIPS],
+    memory: [u8; MEMORY],
+    lent: usize,
+    begun: bool,
+    file: Count,
     before: Count,
 }
 
 impl<'a> Suite<'a> {
-    pub(crate) fn of(rt: &'a HostRuntime) -> Suite<'a> {
+    // A strip that no line has is what the text begins with.
+    pub(crate) fn of(out: Unminded<'a>, text: &'a [u8]) -> Suite<'a> {
         Suite {
-            rt,
-            strips: BTreeMap::new(rt.alloc()),
-            memory: Vec::new(rt.alloc()),
-            file: None,
+            out,
+            strips: [Field { text }; STRIPS],
+            memory: [0; MEMORY],
+            lent: 0,
+            begun: false,
+            file: Count::default(),
             before: Count::default(),
         }
     }
 
-    pub(crate) fn line(&mut self, line: &str) -> Result<()> {
-        let mut fields = Fields::of(line);
-        match fields.word() {
-            "file" => self.file(fields.word()),
-            "memory" => self.memory(fields.number()),
-            "data" => self.data(fields),
-            "strip" => self.strip(fields),
-            "call" => self.call(line, fields),
-            "trap" => self.trap(line, fields),
-            "refuse" => self.refuse(line, fields),
-            _ => Ok(()),
+    // A line's first letter tells its sort.
+    pub(crate) fn line(&mut self, line: Field<'a>) -> io::Result<()> {
+        match line.text {
+            [b'f', ..] => self.file(line.field(1))?,
+            [b'm', ..] => self.memory(line.field(1)),
+            [b'd', ..] => self.data(line),
+            [b's', ..] => self.strip(line),
+            [b'c', ..] => self.call(line)?,
+            [b't', ..] => self.case(line, Expected::Trap)?,
+            [b'r', ..] => self.refuse(line)?,
+            _ => (),
         }
+        self.begun = true;
+        Ok(())
     }
 
     // Ends the line of the last file, and prints that of all.
-    pub(crate) fn end(&mut self) -> Result<()> {
+    pub(crate) fn end(&self) -> io::Result<()> {
         self.end_file()?;
-        println!(self.rt; "all {}", self.before)?;
-        Ok(())
+        println!(self.out; "all {}", self.before + self.file)
     }
 
-    // file NAME: ends the line of the file before, if there is one, and begins its own.
-    fn file(&mut self, name: &str) -> Result<()> {
-        self.end_file()?;
-        self.file = Some(Count::default());
-        print!(self.rt; "{name}")?;
-        Ok(())
+    fn end_file(&self) -> io::Result<()> {
+        println!(self.out; " {}", self.file)
     }
 
-    fn end_file(&mut self) -> Result<()> {
-        if let Some(count) = self.file.take() {
-            println!(self.rt; " {count}")?;
-            self.before = self.before + count;
+    // file NAME: ends the line of the file before, unless the text begins here, and begins its own.
+    fn file(&mut self, name: Field) -> io::Result<()> {
+        if self.begun {
+            self.end_file()?;
         }
-        Ok(())
+        self.before = self.before + self.file;
+        self.file = Count::default();
+        match name.line().split_last() {
+            Some((_, name)) => self.out.write_all(name),
+            None => Ok(()),
+        }
     }
 
     // memory N: that many bytes, all zero; `memory skip` is none.
-    fn memory(&mut self, len: u32) -> Result<()> {
-        self.memory = vec![in self.rt.alloc(); 0; len as usize]?;
-        Ok(())
+    fn memory(&mut self, len: Field) {
+        let len = len.number().min(MEMORY);
+        self.memory[..len].fill(0);
+        self.lent = len;
     }
 
     // data OFFSET BYTES
-    fn data(&mut self, mut fields: Fields) -> Result<()> {
-        let offset = fields.number() as usize;
-        let bytes = fields.bytes(self.rt.alloc())?;
-        for (byte, new) in self.memory.iter_mut().skip(offset).zip(bytes.iter()) {
-            *byte = *new;
-        }
-        Ok(())
+    fn data(&mut self, line: Field) {
+        let offset = line.field(1).number().min(MEMORY);
+        line.field(2).bytes(&mut self.memory[offset..]);
     }
 
     // strip ID BYTES
-    fn strip(&mut self, mut fields: Fields) -> Result<()> {
-        let id = fields.number();
-        self.strips.insert(id, fields.bytes(self.rt.alloc())?)?;
-        Ok(())
+    fn strip(&mut self, line: Field<'a>) {
+        let id = line.field(1).number();
+        if id < STRIPS {
+            self.strips[id] = line.field(2);
+        }
     }
 
     // call ID ARGS RESULTS
-    fn call(&mut self, line: &str, mut fields: Fields) -> Result<()> {
-        let id = fields.number();
-        let args = fields.bytes(self.rt.alloc())?;
-        let results = fields.bytes(self.rt.alloc())?;
-        self.case(line, id, &args, Expected::Results(results))
-    }
-
-    // trap ID ARGS
-    fn trap(&mut self, line: &str, mut fields: Fields) -> Result<()> {
-        let id = fields.number();
-        let args = fields.bytes(self.rt.alloc())?;
-        self.case(line, id, &args, Expected::Trap)
+    fn call(&mut self, line: Field) -> io::Result<()> {
+        let mut results = UNTOUCHED;
+        line.field(3).bytes(&mut results);
+        self.case(line, Expected::Results(results))
     }
 
     // refuse ID # WHY
-    fn refuse(&mut self, line: &str, mut fields: Fields) -> Result<()> {
-        let id = fields.number();
-        fields.word();
-        self.case(line, id, &[], Expected::Refusal(Reason::said(fields)))
+    fn refuse(&mut self, line: Field) -> io::Result<()> {
+        let why = Reason::said(line.field(3));
+        self.case(line, Expected::Refusal(why))
     }
 
-    // A case that differs is printed: its line, which has what was expected, and below it what was answered.
-    fn case(&mut self, line: &str, id: u32, args: &[u8], expected: Expected) -> Result<()> {
-        let strip = self
-            .strips
-            .get(&id)
-            .context("no line before has the strip")?;
-        let outcome = Outcome::of(strip, args, &mut self.memory);
+    // As many of a strip's bytes as there is room for.
+    fn strip_of(&self, id: usize, room: &mut [u8]) -> usize
+        ensures { result ≤ length room.new }
+    {
+        match self.strips.get(id) {
+            Some(strip) => strip.bytes(room),
+            None => 0,
+        }
+    }
+
+    // Each has the strip's ID and its ARGS; `trap ID ARGS` has no more. A case that differs is printed: its line, which has what was expected, and
+    // below it what was answered.
+    fn case(&mut self, line: Field, expected: Expected) -> io::Result<()> {
+        let mut strip = [0; ROOM];
+        let strip_len = self.strip_of(line.field(1).number(), &mut strip);
+        let mut args = [0; ROOM];
+        let args_len = line.field(2).bytes(&mut args);
+        let lent = self.lent.min(MEMORY);
+        let outcome = Outcome::of(
+            &strip[..strip_len],
+            &args[..args_len],
+            &mut self.memory[..lent],
+        );
         let held = outcome.is(&expected);
         if !held {
-            print!(self.rt; "\n  {line}\n{outcome}")?;
+            print!(self.out; "\n  ")?;
+            self.out.write_all(line.line())?;
+            print!(self.out; "{outcome}")?;
         }
-        let file = self.file.unwrap_or_default();
-        self.file = Some(file + expected.counted(held));
+        self.file = self.file + expected.counted(held);
         Ok(())
     }
 }

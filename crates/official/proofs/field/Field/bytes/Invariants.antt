@@ -1,0 +1,5 @@
+use Rattle.std.proofs.Common.{length, ◌≤◌}
+use Rattle.official.proofs.field.Field.bytes.Given as goal
+
+abbrev pub invariant-loop-pair : goal.invariant-loop-pair
+invariant-loop-pair l = l.n ≤ length l.room
