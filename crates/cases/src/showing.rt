@@ -32,16 +32,14 @@ struct Changes<'a>(&'a [u8]);
 
 impl<'a> fmt::Display for Changes<'a> {
     fn fmt<W: fmt::Write>(&self, f: &mut fmt::Formatter<W>) -> fmt::Result {
-        let mut inside = false;
-        for (address, byte) in self.0.iter().enumerate() {
-            let changed = *byte != before(address);
-            if changed && !inside {
+        let mut next = None;
+        let bytes = self.0.iter().enumerate();
+        for (address, byte) in bytes.filter(|(address, byte)| **byte != before(*address)) {
+            if next != Some(address) {
                 write!(f, " {address}:")?;
             }
-            if changed {
-                write!(f, "{byte:02x}")?;
-            }
-            inside = changed;
+            write!(f, "{byte:02x}")?;
+            next = address.checked_add(1);
         }
         Ok(())
     }
