@@ -42,8 +42,12 @@ pub trait Lane: Copy {
     fn less_u(self, y: Self) -> bool
         ensures { result ≡ int_lt (value U width (bits self)) (value U width (bits y)) };
 
+    // A lane of one's own need not write it.
     fn at_most_s(self, y: Self) -> bool
-        ensures { result ≡ int_le (value S width (bits self)) (value S width (bits y)) };
+        ensures { result ≡ int_le (value S width (bits self)) (value S width (bits y)) }
+    {
+        !y.less_s(self)
+    }
 
     // All ones where it holds, else 0.
     fn mask(holds: bool) -> Self

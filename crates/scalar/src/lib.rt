@@ -9,6 +9,8 @@ pub mod lane32;
 pub mod lane64;
 pub mod lane8;
 pub mod shape;
+#[cfg(test)]
+mod tests;
 pub mod wide;
 
 pub use exact::{Exact, Saturated};
